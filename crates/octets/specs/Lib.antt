@@ -1,0 +1,9 @@
+pub mod Choice
+pub mod Every
+pub mod Sums
+pub mod Search
+pub mod Below
+pub mod Places
+pub mod Same
+pub mod Overlay
+pub mod BigEndian

@@ -1,0 +1,57 @@
+-- A message laid over the front of a lent buffer: the octets past it stay as lent.
+-- Assumes nothing.
+use Prim.Native.Nat.{ℕ, zero, suc, _+_, _<_, _≤_, min}
+use mathlib.Core.List.{List, [], _∷_, _++_}
+use mathlib.Core.Path.{_≡_, refl, ap}
+use native.Mathlib.Numerals.{add-one}
+use native.Mathlib.Omega.{arith}
+use lib.ListN.{length, take, drop, getD, set}
+use lib.Seq.{take-at}
+
+-- a buffer that is shorter takes what it can; none of ours is
+unfoldable pub overlay : List ℕ → List ℕ → List ℕ
+overlay [] d = d
+overlay (x ∷ m) [] = []
+overlay (x ∷ m) (y ∷ d) = x ∷ overlay m d
+
+pub overlay-fits : (m d : List ℕ) → length m ≤ length d → overlay m d ≡ m ++ drop (length m) d
+unfolding overlay
+overlay-fits [] d h = refl
+overlay-fits (x ∷ m) [] h = absurd (omega arith)
+overlay-fits (x ∷ m) (y ∷ d) h = ap (λ (l : List ℕ). x ∷ l) (overlay-fits m d (omega arith))
+
+pub length-overlay : (m d : List ℕ) → length (overlay m d) ≡ length d
+unfolding overlay
+length-overlay [] d = refl
+length-overlay (x ∷ m) [] = refl
+length-overlay (x ∷ m) (y ∷ d) = ap suc (length-overlay m d)
+
+-- reading it back: the message stands at the front
+pub overlay-front : (m d : List ℕ) → length m ≤ length d → take (length m) (overlay m d) ≡ m
+overlay-front m d h = rw (overlay-fits m d h) (take-at m (drop (length m) d) (length m) refl)
+
+-- ---- the copying loop that has come to place i
+pub overlay-none : (m d : List ℕ) → overlay (take 0 m) d ≡ d
+unfolding overlay
+overlay-none m d = refl
+
+laid : (m d : List ℕ) (i : ℕ) → i < length m → set (overlay (take i m) d) i (getD m i 0) ≡ overlay (take (suc i) m) d
+unfolding overlay
+laid [] d i h = absurd (omega arith)
+laid (x ∷ m) [] zero h = refl
+laid (x ∷ m) (y ∷ d) zero h = refl
+laid (x ∷ m) [] (suc i) h = refl
+laid (x ∷ m) (y ∷ d) (suc i) h = ap (λ (l : List ℕ). x ∷ l) (laid m d i (omega arith))
+
+pub overlay-step : (m d : List ℕ) (i : ℕ) → i < length m → set (overlay (take i m) d) i (getD m i 0) ≡ overlay (take (i + 1) m) d
+overlay-step m d i h = rw add-one (laid m d i h)
+
+-- done with the message, or with the buffer
+pub overlay-done : (m d : List ℕ) (i : ℕ) → min (length m) (length d) ≤ i → overlay (take i m) d ≡ overlay m d
+unfolding overlay
+overlay-done [] d zero h = refl
+overlay-done [] d (suc i) h = refl
+overlay-done (x ∷ m) [] zero h = refl
+overlay-done (x ∷ m) [] (suc i) h = refl
+overlay-done (x ∷ m) (y ∷ d) zero h = absurd (omega arith)
+overlay-done (x ∷ m) (y ∷ d) (suc i) h = ap (λ (l : List ℕ). x ∷ l) (overlay-done m d i (omega arith))

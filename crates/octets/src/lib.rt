@@ -1,0 +1,97 @@
+// What every layer stands on: big-endian numbers, the comparison of two runs of octets, and the one copy of a message into a
+// lent buffer. The laws on lists and numbers that every layer cites are in specs/.
+ghost use mathlib.Core.List.{[], _∷_};
+ghost use mathlib.Core.Path.{_≡_};
+ghost use Prim.Native.Nat.{min};
+ghost use Rattle.octets.specs.BigEndian.{numberOf, octetsOf};
+ghost use Rattle.octets.specs.Overlay.{overlay};
+ghost use Rattle.octets.specs.Same.{sameOctets};
+
+// An octet as a count or a place.
+pub fn wide(b: u8) -> usize
+    ensures { λ r. ⌜ r ≡ b ⌝ }
+{
+    b as usize
+}
+
+// The number that two, three and four octets write, the most significant first.
+pub fn be16(a: u8, b: u8) -> u16
+    ensures { λ r. ⌜ r ≡ numberOf (a ∷ b ∷ []) ⌝ }
+{
+    a as u16 * 256 + b as u16
+}
+
+pub fn be24(a: u8, b: u8, c: u8) -> u32
+    ensures { λ r. ⌜ r ≡ numberOf (a ∷ b ∷ c ∷ []) ⌝ }
+{
+    (a as u32 * 256 + b as u32) * 256 + c as u32
+}
+
+pub fn be32(a: u8, b: u8, c: u8, d: u8) -> u32
+    ensures { λ r. ⌜ r ≡ numberOf (a ∷ b ∷ c ∷ d ∷ []) ⌝ }
+{
+    ((a as u32 * 256 + b as u32) * 256 + c as u32) * 256 + d as u32
+}
+
+// The octets of a number; of a wider one its last two or three.
+pub fn octets16(n: u32) -> [u8; 2]
+    ensures { λ r. ⌜ r ≡ octetsOf 2 n ⌝ }
+{
+    [(n / 256 % 256) as u8, (n % 256) as u8]
+}
+
+pub fn octets24(n: u32) -> [u8; 3]
+    ensures { λ r. ⌜ r ≡ octetsOf 3 n ⌝ }
+{
+    [
+        (n / 256 / 256 % 256) as u8,
+        (n / 256 % 256) as u8,
+        (n % 256) as u8,
+    ]
+}
+
+pub fn octets32(n: u32) -> [u8; 4]
+    ensures { λ r. ⌜ r ≡ octetsOf 4 n ⌝ }
+{
+    [
+        (n / 256 / 256 / 256 % 256) as u8,
+        (n / 256 / 256 % 256) as u8,
+        (n / 256 % 256) as u8,
+        (n % 256) as u8,
+    ]
+}
+
+// Whether two runs of octets are the same.
+pub fn same(a: &[u8], b: &[u8]) -> bool
+    ensures { λ r. ⌜ r ≡ sameOctets (now (a .entry)) (now (b .entry)) ⌝ }
+{
+    if a.len() != b.len() {
+        return false;
+    }
+    let mut i: usize = 0;
+    while i < a.len() {
+        if a[i] != b[i] {
+            return false;
+        }
+        i += 1;
+    }
+    true
+}
+
+fn least(a: usize, b: usize) -> usize
+    ensures { λ r. ⌜ r ≡ min a b ⌝ }
+{
+    if a < b { a } else { b }
+}
+
+// The message laid over the front of the buffer; the octets past it stay.
+pub fn copy_front(message: &[u8], buffer: &mut [u8])
+    ensures { λ _. ⌜ now (buffer .exit) ≡ overlay (now (message .entry)) (now (buffer .entry)) ⌝ }
+{
+    let n = least(message.len(), buffer.len());
+    let mut i: usize = 0;
+    while i < n {
+        buffer[i] = message[i];
+        i += 1;
+    }
+}

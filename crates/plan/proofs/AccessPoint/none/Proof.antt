@@ -1,0 +1,11 @@
+use mathlib.Core.Path.{refl}
+use Rattle.plan.specs.Limits.{noPoint}
+use Rattle.plan.proofs.AccessPoint.none.Statement.{statement}
+use Rattle.plan.proofs.AccessPoint.none.Tie as tie
+
+returns : tie.Need-returns
+unfolding noPoint
+returns c = refl
+
+pub none-spec : {M : Type 1} → statement M
+none-spec = tie.close (tie.spec returns)

@@ -1,0 +1,61 @@
+-- An accepted plan (number 16 otherwise), and what being accepted tells.
+-- Assumes nothing.
+use Prim.Native.Nat.{ℕ, _≤_, _%_}
+use mathlib.Core.Bool.{Bool, true, false, _&&_}
+use mathlib.Core.Path.{_≡_, refl}
+use native.Mathlib.Omega.{arith}
+use lib.Dec.{eqb, leb}
+use Rattle.octets.specs.Choice.{and-left, and-right, tests}
+use Rattle.octets.specs.Every.{every}
+use Rattle.octets.specs.Sums.{sumOf}
+use Rattle.tunnel.specs.Numbering.{places}
+use Rattle.plan.specs.declared.AccessPoint.{AccessPoint}
+use Rattle.plan.specs.declared.Plan.{Plan}
+use Rattle.plan.specs.Limits.{used, noPlan, mostPoints, mostSends, poolStep, figuresOk, pointOk}
+use Rattle.plan.specs.Names.{namesDiffer}
+
+-- the guarantees, added
+unfoldable pub guaranteed : Plan → ℕ
+guaranteed p = sumOf (λ a. a .guarantee) (used p)
+
+unfoldable pub accepted : Plan → Bool
+accepted p = figuresOk p && every pointOk (used p) && leb (guaranteed p) places && namesDiffer (used p)
+
+-- ---- what an accepted plan's figures are
+pub record Figures (p : Plan) : Type 0 where
+  pub some : 1 ≤ p .count
+  pub most : p .count ≤ mostPoints
+  pub resends : 1 ≤ p .resend
+  pub first : 1 ≤ p .sends
+  pub last : p .sends ≤ mostSends
+  pub echoes : 1 ≤ p .interval
+  pub whole : p .pool % poolStep ≡ 0
+
+pub accepted-figures : (p : Plan) → accepted p ≡ true → Figures p
+unfolding accepted figuresOk
+accepted-figures p e =
+    let a : leb 1 (p .count) ≡ true = search (and-left, and-right) depth 9 in
+    let b : leb (p .count) mostPoints ≡ true = search (and-left, and-right) depth 9 in
+    let t : leb 1 (p .resend) ≡ true = search (and-left, and-right) depth 9 in
+    let n : leb 1 (p .sends) ≡ true = search (and-left, and-right) depth 9 in
+    let m : leb (p .sends) mostSends ≡ true = search (and-left, and-right) depth 9 in
+    let i : leb 1 (p .interval) ≡ true = search (and-left, and-right) depth 9 in
+    let w : eqb (p .pool % poolStep) 0 ≡ true = search (and-left, and-right) depth 9 in
+    record {
+      some = omega (arith, tests);
+      most = omega (arith, tests);
+      resends = omega (arith, tests);
+      first = omega (arith, tests);
+      last = omega (arith, tests);
+      echoes = omega (arith, tests);
+      whole = omega (arith, tests);
+    }
+
+pub accepted-names : (p : Plan) → accepted p ≡ true → namesDiffer (used p) ≡ true
+unfolding accepted
+accepted-names p e = search (and-left, and-right)
+
+-- a plan without access points is refused, so a unit that was given no plan answers 2
+pub no-plan-refused : accepted noPlan ≡ false
+unfolding accepted figuresOk noPlan
+no-plan-refused = refl
