@@ -78,6 +78,11 @@ module _ {A : Type 0} where
   every-map p f [] h e = e
   every-map p f (x ∷ l) h e = rw (h x (and-left (p x) (every p l) e)) (every-map p f l h (and-right (p x) (every p l) e))
 
+  pub every-agree : (p q : A → Bool) (l : List A) → ((s : A) → p s ≡ q s) → every p l ≡ every q l
+  unfolding every
+  every-agree p q [] h = refl
+  every-agree p q (x ∷ l) h = rw (h x, every-agree p q l h)
+
   pub every-same : (p : A → Bool) (n : ℕ) (s : A) → p s ≡ true → every p (replicate n s) ≡ true
   unfolding every
   every-same p zero s e = refl

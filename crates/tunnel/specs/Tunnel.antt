@@ -14,7 +14,7 @@ use Rattle.tunnel.specs.declared.Holder.the-variants.{At, Nobody}
 
 -- the number of a place in its use-th use
 unfoldable pub numberAt : ℕ → ℕ → ℕ → ℕ
-numberAt offset usage place = (usage * base + offset + place) % teids
+numberAt offset usage place = usage * base + (offset + place)
 
 abbrev pub controlNumber : ℕ → ℕ → ℕ
 controlNumber usage place = numberAt controlOffset usage place
@@ -34,33 +34,31 @@ unfoldable pub nextUse : ℕ → ℕ
 nextUse usage = pick {A = ℕ} (ltb usage lastUse) (usage + 1) 1
 
 -- ---- laws of the number
-module _ (offset usage place : ℕ) (fits : offset + places ≤ base) (u : usage ≤ lastUse) (p : place < places) where
-  pub number-is : numberAt offset usage place ≡ usage * base + (offset + place)
+module _ (offset usage place : ℕ) (fits : offset + places ≤ base) (p : place < places) where
+  -- for every use that a place can have it fits its 32 bits
+  pub number-fits : usage ≤ lastUse → numberAt offset usage place < teids
   unfolding numberAt
-  number-is =
+  number-fits u =
       let a = mul-le-mul-right base u in
       let t = teids-hold in
-      let s : usage * base + offset + place ≡ usage * base + (offset + place) = omega arith in
-      rw s (mod-eq-of-lt (omega arith))
-
-  pub number-below : numberAt offset usage place < teids
-  number-below =
-      let a = mul-le-mul-right base u in
-      let t = teids-hold in
-      let n = number-is in
       omega arith
 
+  pub number-is : usage ≤ lastUse → numberAt offset usage place % teids ≡ numberAt offset usage place
+  number-is u = mod-eq-of-lt (number-fits u)
+
   pub number-place : numberAt offset usage place % base ≡ offset + place
-  number-place = rw number-is (mul-add-mod-self-right usage base (offset + place) ∙ mod-eq-of-lt (omega arith))
+  unfolding numberAt
+  number-place = mul-add-mod-self-right usage base (offset + place) ∙ mod-eq-of-lt (omega arith)
 
   pub number-use : numberAt offset usage place / base ≡ usage
-  number-use = rw number-is (mul-add-div-right base-some usage (offset + place) ∙ rw (div-eq-of-lt {n = offset + place} {m = base} (omega arith)) (omega arith))
+  unfolding numberAt
+  number-use = mul-add-div-right base-some usage (offset + place) ∙ rw (div-eq-of-lt {n = offset + place} {m = base} (omega arith)) (omega arith)
 
   -- of a live session it is never 0
   pub number-live : 1 ≤ usage → 0 < numberAt offset usage place
+  unfolding numberAt
   number-live l =
       let a = mul-le-mul-right base l in
-      let n = number-is in
       let b = base-some in
       omega arith
 
@@ -75,18 +73,17 @@ module _ (offset usage place : ℕ) (fits : offset + places ≤ base) (u : usage
       rw (number-place, number-use, a, b, d, e)
 
 -- two numbers of one kind are equal only for equal place and use
-pub number-same : (offset u p v q : ℕ) → offset + places ≤ base → u ≤ lastUse → p < places → v ≤ lastUse → q < places
-    → numberAt offset u p ≡ numberAt offset v q → (u ≡ v) × (p ≡ q)
-number-same offset u p v q fits hu hp hv hq e =
-    let a : offset + p ≡ offset + q = sym (number-place offset u p fits hu hp) ∙ rw e (number-place offset v q fits hv hq) in
-    (sym (number-use offset u p fits hu hp) ∙ rw e (number-use offset v q fits hv hq), omega arith)
+pub number-same : (offset u p v q : ℕ) → offset + places ≤ base → p < places → q < places → numberAt offset u p ≡ numberAt offset v q → (u ≡ v) × (p ≡ q)
+number-same offset u p v q fits hp hq e =
+    let a : offset + p ≡ offset + q = sym (number-place offset u p fits hp) ∙ rw e (number-place offset v q fits hq) in
+    (sym (number-use offset u p fits hp) ∙ rw e (number-use offset v q fits hq), omega arith)
 
 -- a control number is never a user number
-pub kinds-apart : (u p v q : ℕ) → u ≤ lastUse → p < places → v ≤ lastUse → q < places → controlNumber u p ≡ userNumber v q → ⊥
-kinds-apart u p v q hu hp hv hq e =
+pub kinds-apart : (u p v q : ℕ) → p < places → q < places → controlNumber u p ≡ userNumber v q → ⊥
+kinds-apart u p v q hp hq e =
     let o = offsets-apart in
     let a : controlOffset + p ≡ userOffset + q
-    = sym (number-place controlOffset u p control-fits hu hp) ∙ rw e (number-place userOffset v q user-fits hv hq) in
+    = sym (number-place controlOffset u p control-fits hp) ∙ rw e (number-place userOffset v q user-fits hq) in
     omega arith
 
 -- ---- laws of the holder
@@ -94,10 +91,10 @@ kinds-apart u p v q hu hp hv hq e =
 pub record Held (offset n place usage : ℕ) : Type 0 where
   pub place-in : place < places
   pub used : 1 ≤ usage
-  pub number : usage * base + (offset + place) ≡ n
+  pub number : numberAt offset usage place ≡ n
 
 pub holder-held : (offset n place usage : ℕ) → holderOf offset n ≡ At place usage → Held offset n place usage
-unfolding holderOf numbers
+unfolding holderOf numbers numberAt
 holder-held offset n place usage e = split (numbers offset n) held none
   where
     held : numbers offset n ≡ true → Held offset n place usage

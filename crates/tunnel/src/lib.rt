@@ -1,6 +1,7 @@
 // Tunnel numbers: two kinds that are never used for each other, each found from a place and its use, and each giving them back.
+ghost use Prim.Native.Nat.{_%_};
 ghost use mathlib.Core.Path.{_≡_};
-ghost use Rattle.tunnel.specs.Numbering.{controlOffset, userOffset};
+ghost use Rattle.tunnel.specs.Numbering.{controlOffset, userOffset, teids};
 ghost use Rattle.tunnel.specs.Tunnel.{numberAt, controlNumber, userNumber, holderOf, nextUse};
 
 // Who holds a number: a place in one of its uses, or nobody ever.
@@ -27,7 +28,7 @@ pub struct ControlTeid(pub u32);
 pub struct UserTeid(pub u32);
 
 fn number_at(offset: u32, usage: u32, place: usize) -> u32
-    ensures { λ r. ⌜ r ≡ numberAt offset usage place ⌝ }
+    ensures { λ r. ⌜ r ≡ numberAt offset usage place % teids ⌝ }
 {
     let low = place as u64 % Holder::TEIDS;
     ((usage as u64 * Holder::BASE as u64 + offset as u64 + low) % Holder::TEIDS) as u32
@@ -54,7 +55,7 @@ impl ControlTeid {
     pub const OFFSET: u32 = 0;
 
     pub fn of(usage: u32, place: usize) -> Self
-        ensures { λ r. ⌜ r .0 ≡ controlNumber usage place ⌝ }
+        ensures { λ r. ⌜ r .0 ≡ controlNumber usage place % teids ⌝ }
     {
         ControlTeid(number_at(Self::OFFSET, usage, place))
     }
@@ -70,7 +71,7 @@ impl UserTeid {
     pub const OFFSET: u32 = 128;
 
     pub fn of(usage: u32, place: usize) -> Self
-        ensures { λ r. ⌜ r .0 ≡ userNumber usage place ⌝ }
+        ensures { λ r. ⌜ r .0 ≡ userNumber usage place % teids ⌝ }
     {
         UserTeid(number_at(Self::OFFSET, usage, place))
     }

@@ -1,0 +1,305 @@
+// A session record: its rules, and every way in which one is made or changed. Later fields are added here.
+ghost use mathlib.Core.Path.{_≡_};
+ghost use Rattle.session.specs.Request.{idle, requestOk, sentOnce, countedDown, spent};
+ghost use Rattle.session.specs.Session.{isFree, blank, heldOk, phaseOk, recordOk, blankAt, freed, opened, moved, closed, sent, ticked, isDue};
+
+// A request of the unit's own: a closing place's Delete Bearer, or the echo.
+pub struct Request {
+    // ticks until it is due; 0: due, or nothing under way
+    pub timer: u8,
+    // how often it was sent; over 0 its number is awaited
+    pub sends: u8,
+    pub number: u32,
+}
+
+// What a record is held to of its plan: the number of access points, T and N.
+pub struct Bounds {
+    pub parties: usize,
+    pub resend: u8,
+    pub sends: u8,
+}
+
+// What a Create brings that a session keeps.
+pub struct Opening {
+    pub imsi: u64,
+    pub control: u32,
+    pub controladdr: u32,
+    pub user: u32,
+    pub useraddr: u32,
+    pub created: u32,
+    pub point: u8,
+    pub ebi: u8,
+}
+
+// The peer's TEIDs and addresses.
+pub struct Peers {
+    pub control: u32,
+    pub controladdr: u32,
+    pub user: u32,
+    pub useraddr: u32,
+}
+
+// The record of one place.
+pub struct Session {
+    pub imsi: u64,
+    // the use number: how often the place was taken
+    pub usage: u32,
+    pub control: u32,
+    pub controladdr: u32,
+    pub user: u32,
+    pub useraddr: u32,
+    // the sequence number of the Create
+    pub created: u32,
+    pub own: Request,
+    // FREE, LIVE or CLOSING
+    pub state: u8,
+    // the access point, by its number in the plan
+    pub point: u8,
+    pub ebi: u8,
+}
+
+impl Request {
+    pub const LAST_NUMBER: u32 = 8388607;
+
+    pub fn idle() -> Self
+        ensures { λ r. ⌜ r ≡ idle ⌝ }
+    {
+        Request {
+            timer: 0,
+            sends: 0,
+            number: 0,
+        }
+    }
+
+    // Whether it is in range: `first` bounds the timer before the first send, T after it; N bounds the sends.
+    pub fn fits(self, first: u8, resend: u8, most: u8) -> bool
+        ensures { λ r. ⌜ r ≡ requestOk first resend most self ⌝ }
+    {
+        let known = self.number <= Self::LAST_NUMBER;
+        if self.sends == 0 {
+            return known & (self.timer <= first);
+        }
+        known
+            & ((self.timer <= resend)
+                & (self.sends <= most)
+                & !((self.sends == most) & (self.timer == 0)))
+    }
+
+    // Sent: T ticks to wait; the first send takes the number, a resend keeps its own.
+    pub fn sent_once(self, resend: u8, number: u32) -> Self
+        ensures { λ r. ⌜ r ≡ sentOnce resend number self ⌝ }
+    {
+        let sends = std::num::wrapping_add_u8(self.sends, 1);
+        if self.sends == 0 {
+            return Request {
+                timer: resend,
+                sends,
+                number,
+            };
+        }
+        Request {
+            timer: resend,
+            sends,
+            number: self.number,
+        }
+    }
+
+    pub fn counted_down(self) -> Self
+        ensures { λ r. ⌜ r ≡ countedDown self ⌝ }
+    {
+        if self.timer == 0 {
+            return self;
+        }
+        Request {
+            timer: self.timer - 1,
+            sends: self.sends,
+            number: self.number,
+        }
+    }
+
+    // Whether this tick gives it up.
+    pub fn spent(self, most: u8) -> bool
+        ensures { λ r. ⌜ r ≡ spent most self ⌝ }
+    {
+        (self.timer == 1) & (most <= self.sends)
+    }
+}
+
+impl Session {
+    pub const FREE: u8 = 0;
+
+    pub const LIVE: u8 = 1;
+
+    pub const CLOSING: u8 = 2;
+
+    // 15 digits write a number below it.
+    pub const IMSIS: u64 = 1000000000000000;
+
+    pub const LEAST_EBI: u8 = 5;
+
+    pub const MOST_EBI: u8 = 15;
+
+    pub const LAST_CREATED: u32 = 16777215;
+
+    // A free place in its use.
+    pub fn blank_at(usage: u32) -> Self
+        ensures { λ r. ⌜ r ≡ blankAt usage ⌝ }
+    {
+        let own = Request::idle();
+        Session {
+            imsi: 0,
+            usage,
+            control: 0,
+            controladdr: 0,
+            user: 0,
+            useraddr: 0,
+            created: 0,
+            own,
+            state: Self::FREE,
+            point: 0,
+            ebi: 0,
+        }
+    }
+
+    pub fn is_free(self) -> bool
+        ensures { λ r. ⌜ r ≡ isFree self ⌝ }
+    {
+        self.state == Self::FREE
+    }
+
+    // Zero but for its use and its state.
+    fn blank(self) -> bool
+        ensures { λ r. ⌜ r ≡ blank self ⌝ }
+    {
+        let own = self.own;
+        (self.point == 0)
+            & (self.imsi == 0)
+            & (self.ebi == 0)
+            & (self.control == 0)
+            & (self.controladdr == 0)
+            & (self.user == 0)
+            & (self.useraddr == 0)
+            & (self.created == 0)
+            & (own.timer == 0)
+            & (own.sends == 0)
+            & (own.number == 0)
+    }
+
+    // What a live place holds, as it was read.
+    fn held(self, b: Bounds) -> bool
+        ensures { λ r. ⌜ r ≡ heldOk b self ⌝ }
+    {
+        (1 <= self.usage)
+            & (((self.point as usize) < b.parties)
+                & (self.imsi < Self::IMSIS)
+                & (Self::LEAST_EBI <= self.ebi)
+                & (self.ebi <= Self::MOST_EBI)
+                & (self.control != 0)
+                & (self.user != 0)
+                & (self.created <= Self::LAST_CREATED))
+    }
+
+    // Where a live place stands with its own request.
+    fn phase(self, b: Bounds) -> bool
+        ensures { λ r. ⌜ r ≡ phaseOk b self ⌝ }
+    {
+        let own = self.own;
+        let fits = own.fits(0, b.resend, b.sends);
+        fits & ((self.state == Self::CLOSING) | (self.state == Self::LIVE) & (own.sends == 0))
+    }
+
+    // The rules of one record.
+    pub fn fits(self, b: Bounds) -> bool
+        ensures { λ r. ⌜ r ≡ recordOk b self ⌝ }
+    {
+        let counted = self.usage <= tunnel::Holder::LAST_USE;
+        if self.state == Self::FREE {
+            return counted & self.blank();
+        }
+        let held = self.held(b);
+        let phase = self.phase(b);
+        counted & (held & phase)
+    }
+
+    // Zero but for its use.
+    pub fn freed(self) -> Self
+        ensures { λ r. ⌜ r ≡ freed self ⌝ }
+    {
+        Self::blank_at(self.usage)
+    }
+
+    // The place taken: its use stepped, a session opened.
+    pub fn opened(self, o: Opening) -> Self
+        ensures { λ r. ⌜ r ≡ opened o self ⌝ }
+    {
+        let own = Request::idle();
+        let usage = tunnel::next_use(self.usage);
+        Session {
+            imsi: o.imsi,
+            usage,
+            control: o.control,
+            controladdr: o.controladdr,
+            user: o.user,
+            useraddr: o.useraddr,
+            created: o.created,
+            own,
+            state: Self::LIVE,
+            point: o.point,
+            ebi: o.ebi,
+        }
+    }
+
+    // Other peers, by a Modify.
+    pub fn moved(mut self, p: Peers) -> Self
+        ensures { λ r. ⌜ r ≡ moved p self ⌝ }
+    {
+        self.control = p.control;
+        self.controladdr = p.controladdr;
+        self.user = p.user;
+        self.useraddr = p.useraddr;
+        self
+    }
+
+    // Marked closing; closing or free it stays as it is.
+    pub fn closed(mut self) -> Self
+        ensures { λ r. ⌜ r ≡ closed self ⌝ }
+    {
+        if self.state == Self::LIVE {
+            self.state = Self::CLOSING;
+            return self;
+        }
+        self
+    }
+
+    // Its request sent, with T and the number for a first send.
+    pub fn sent(mut self, resend: u8, number: u32) -> Self
+        ensures { λ r. ⌜ r ≡ sent resend number self ⌝ }
+    {
+        let own = self.own;
+        let next = own.sent_once(resend, number);
+        self.own = next;
+        self
+    }
+
+    // A tick: given up after N sends and freed, else counted down.
+    pub fn ticked(mut self, most: u8) -> Self
+        ensures { λ r. ⌜ r ≡ ticked most self ⌝ }
+    {
+        let own = self.own;
+        let over = own.spent(most);
+        if over {
+            return self.freed();
+        }
+        let next = own.counted_down();
+        self.own = next;
+        self
+    }
+
+    // A closing place whose request is to be sent now.
+    pub fn is_due(self) -> bool
+        ensures { λ r. ⌜ r ≡ isDue self ⌝ }
+    {
+        let own = self.own;
+        (self.state == Self::CLOSING) & (own.timer == 0)
+    }
+}
