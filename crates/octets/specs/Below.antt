@@ -4,14 +4,14 @@
 use Prim.Native.Nat.{ℕ, zero, suc, _+_, _<_, _≤_}
 use mathlib.Core.Bool.{Bool, true, false, _&&_}
 use mathlib.Core.List.{List, [], _∷_, map}
-use mathlib.Core.Path.{_≡_, refl, _∙_}
+use mathlib.Core.Path.{_≡_, refl, sym, _∙_}
 use native.Mathlib.Numerals.{add-one}
 use native.Mathlib.Omega.{arith}
 use lib.ListN.{length, getD}
 use lib.Dec.{eqb, ltb}
 use borrow.Author.Tests.{eqb-true, eqb-false, ne-eqb, ltb-true, ltb-false}
 use mir.Val.{boolByte}
-use Rattle.octets.specs.Choice.{split, and-left, and-right}
+use Rattle.octets.specs.Choice.{split, impossible, and-left, and-right}
 use Rattle.octets.specs.Sums.{sumOf}
 
 -- f 0 + .. + f (n - 1)
@@ -124,6 +124,14 @@ all-in p (suc n) k e h =
     split (eqb n k)
     (λ q. rw (← eqb-true n k q) (and-left (p n) (allTo p n) e))
     (λ q. let z = eqb-false n k q in all-in p n k (and-right (p n) (allTo p n) e) (omega arith))
+
+pub all-stop : (p : ℕ → Bool) (n k : ℕ) → k < n → p k ≡ false → allTo p n ≡ false
+all-stop p n k h e = split (allTo p n) (λ t. impossible (sym e ∙ all-in p n k t h)) (λ t. t)
+
+pub all-agree : (p q : ℕ → Bool) (n : ℕ) → ((k : ℕ) → k < n → p k ≡ q k) → allTo p n ≡ allTo q n
+unfolding allTo
+all-agree p q zero h = refl
+all-agree p q (suc n) h = rw (h n (omega arith), all-agree p q n (λ k r. h k (omega arith)))
 
 pub all-of : (p : ℕ → Bool) (n : ℕ) → ((k : ℕ) → k < n → p k ≡ true) → allTo p n ≡ true
 unfolding allTo

@@ -9,7 +9,8 @@ use native.Mathlib.Numerals.{add-one}
 use native.Mathlib.Omega.{arith}
 use lib.ListN.{length, drop, getD, set, replicate, drop-of-length-le}
 use lib.Seq.{drop-cons}
-use Rattle.octets.specs.Choice.{bit-most}
+use Rattle.octets.specs.Choice.{bit-most, and-left, and-right}
+use Rattle.octets.specs.Every.{every}
 use mir.Val.{boolByte}
 
 unfoldable pub sumOf : {A : Type 0} → (A → ℕ) → List A → ℕ
@@ -69,6 +70,18 @@ module _ {A : Type 0} where
   unfolding sumOf
   sum-least f g [] h = omega arith
   sum-least f g (x ∷ l) h = let a = h x in let r = sum-least f g l h in omega arith
+
+  -- two weights that agree on what passes a test
+  pub sum-agree : (ok : A → Bool) (f g : A → ℕ) (l : List A) → every ok l ≡ true → ((s : A) → ok s ≡ true → f s ≡ g s) → sumOf f l ≡ sumOf g l
+  unfolding sumOf every
+  sum-agree ok f g [] e h = refl
+  sum-agree ok f g (x ∷ l) e h =
+      rw (h x (and-left (ok x) (every ok l) e), sum-agree ok f g l (and-right (ok x) (every ok l) e) h)
+
+  pub sum-of-map : {B : Type 0} (f : A → ℕ) (g : B → A) (l : List B) → sumOf f (map g l) ≡ sumOf (λ x. f (g x)) l
+  unfolding sumOf
+  sum-of-map f g [] = refl
+  sum-of-map f g (x ∷ l) = rw (sum-of-map f g l)
 
   pub sum-same : (f : A → ℕ) (n : ℕ) (s : A) → sumOf f (replicate n s) ≡ n * f s
   unfolding sumOf

@@ -9,12 +9,12 @@ use mathlib.Core.Path.{_≡_, refl, sym, _∙_}
 use native.Mathlib.Omega.{arith}
 use lib.ListN.{length, getD, length-map, List·getD-eq-default}
 use lib.Dec.{eqb, leb, ltb}
-use borrow.Author.Tests.{lt-ltb, le-ltb, ltb-true, ltb-false, leb-true, eqb-true}
+use borrow.Author.Tests.{lt-ltb, le-ltb, le-leb, lt-leb, ltb-true, ltb-false, leb-true, eqb-true}
 use mir.Val.{boolByte}
 use Rattle.octets.specs.Choice.{split, or-split, or-true, and-left, and-right, impossible, tests}
 use Rattle.octets.specs.Every.{every, every-in}
 use Rattle.octets.specs.Sums.{sumOf}
-use Rattle.octets.specs.Below.{sumTo, to-next, to-least, to-equal, to-more, to-fewer, to-list}
+use Rattle.octets.specs.Below.{sumTo, allTo, all-next, all-in, all-of, all-stop, all-agree, to-next, to-least, to-equal, to-more, to-fewer, to-list}
 use Rattle.octets.specs.Places.{map-at}
 use Rattle.tunnel.specs.Numbering.{places}
 use Rattle.plan.specs.declared.AccessPoint.{AccessPoint}
@@ -46,6 +46,10 @@ shareOf p u = share (parties p) (guaranteeAt p) u
 
 abbrev pub admits : Plan → (ℕ → ℕ) → ℕ → Bool
 admits p u a = admitted (parties p) (guaranteeAt p) (ceilingAt p) u a
+
+-- the counts of a table are within its plan: u ≤ c for each access point, and S ≤ 64
+unfoldable pub withinOk : Plan → (ℕ → ℕ) → Bool
+withinOk p u = allTo (λ a. leb (u a) (ceilingAt p a)) (parties p) && leb (shareOf p u) places
 
 -- ---- laws
 module _ (n : ℕ) (g u : ℕ → ℕ) where
@@ -183,6 +187,44 @@ unfolding admitted ceilingAt
 admits-out p u a h =
     let e : getD (map (λ x. x .ceiling) (used p)) a 0 ≡ 0 = List·getD-eq-default (map (λ x. x .ceiling) (used p)) 0 (simp length-map h) in
     rw (e, le-ltb (u a) 0 (omega arith))
+
+-- ---- the test of counts, its facts, and the loop that makes it
+module _ (p : Plan) (u : ℕ → ℕ) where
+  pub within-of : withinOk p u ≡ true → Within (parties p) (guaranteeAt p) (ceilingAt p) u
+  unfolding withinOk
+  within-of e =
+      let a : allTo (λ a. leb (u a) (ceilingAt p a)) (parties p) ≡ true = search (and-left, and-right) in
+      let r : leb (shareOf p u) places ≡ true = search (and-left, and-right) in
+      record { under = λ b h. leb-true (u b) (ceilingAt p b) (all-in (λ a. leb (u a) (ceilingAt p a)) (parties p) b a h); room = omega (arith, tests) }
+
+  pub within-to : Within (parties p) (guaranteeAt p) (ceilingAt p) u → withinOk p u ≡ true
+  unfolding withinOk
+  within-to w =
+      rw (all-of (λ a. leb (u a) (ceilingAt p a)) (parties p) (λ a h. le-leb (u a) (ceilingAt p a) (w .under a h)))
+      (le-leb (shareOf p u) places (w .room))
+
+  pub within-agree : (v : ℕ → ℕ) → ((a : ℕ) → a < parties p → u a ≡ v a) → withinOk p u ≡ withinOk p v
+  unfolding withinOk share
+  within-agree v h =
+      rw (
+        all-agree (λ a. leb (u a) (ceilingAt p a)) (λ a. leb (v a) (ceilingAt p a)) (parties p) (λ a k. rw (h a k)),
+        to-equal (λ a. max (u a) (guaranteeAt p a)) (λ a. max (v a) (guaranteeAt p a)) (parties p) (λ a k. rw (h a k)),
+      )
+
+  pub within-over : (i : ℕ) (d : AccessPoint) → i < parties p → getD (p .points) i d .ceiling < u i → withinOk p u ≡ false
+  unfolding withinOk ceilingAt
+  within-over i d h o =
+      rw (all-stop (λ a. leb (u a) (ceilingAt p a)) (parties p) i h (rw (used-figure p i d h (λ x. x .ceiling)) (lt-leb (u i) (getD (p .points) i d .ceiling) o)))
+
+  pub under-next : (i : ℕ) (d : AccessPoint) → i < parties p → u i ≤ getD (p .points) i d .ceiling
+      → allTo (λ a. leb (u a) (ceilingAt p a)) i ≡ true → allTo (λ a. leb (u a) (ceilingAt p a)) (i + 1) ≡ true
+  unfolding ceilingAt
+  under-next i d h o e =
+      all-next (λ a. leb (u a) (ceilingAt p a)) i (rw (used-figure p i d h (λ x. x .ceiling)) (le-leb (u i) (getD (p .points) i d .ceiling) o)) e
+
+  pub within-end : allTo (λ a. leb (u a) (ceilingAt p a)) (parties p) ≡ true → withinOk p u ≡ leb (shareOf p u) places
+  unfolding withinOk
+  within-end e = rw e
 
 -- ---- an accepted plan is fair: no guarantee over its ceiling, no ceiling over the places, no more promised than there is
 pub record Fair (p : Plan) : Type 0 where

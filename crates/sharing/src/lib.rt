@@ -3,7 +3,7 @@ use plan::Plan;
 ghost use Prim.Native.Nat.{max};
 ghost use mathlib.Core.Path.{_≡_};
 ghost use lib.ListN.{getD};
-ghost use Rattle.sharing.specs.Sharing.{shareOf, admits};
+ghost use Rattle.sharing.specs.Sharing.{shareOf, admits, withinOk};
 
 fn larger(a: u16, b: u16) -> u16
     ensures { λ r. ⌜ r ≡ max a b ⌝ }
@@ -39,4 +39,21 @@ pub fn admits(plan: Plan, live: [u16; 4], point: usize) -> bool
     let u = live[point];
     let s = share_of(plan, live);
     (u < p.ceiling) & ((u < p.guarantee) | ((s as usize) < tunnel::Holder::PLACES))
+}
+
+// Whether each access point is within its ceiling, and S within the places.
+pub fn within(plan: Plan, live: [u16; 4]) -> bool
+    ensures { λ r. ⌜ r ≡ withinOk plan (λ a. getD live a 0) ⌝ }
+{
+    let n = plan.parties();
+    let mut i: usize = 0;
+    while i < n {
+        let p = plan.points[i];
+        if p.ceiling < live[i] {
+            return false;
+        }
+        i += 1;
+    }
+    let s = share_of(plan, live);
+    s as usize <= tunnel::Holder::PLACES
 }

@@ -1,0 +1,6 @@
+pub mod Rules
+pub mod Change
+pub mod Room
+pub mod Open
+pub mod Number
+pub mod Own
