@@ -4,3 +4,5 @@ pub mod Room
 pub mod Open
 pub mod Number
 pub mod Own
+pub mod Find
+pub mod Become

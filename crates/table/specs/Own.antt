@@ -6,25 +6,26 @@ use mathlib.Core.Bool.{Bool, true, false, not, _&&_}
 use mathlib.Core.List.{List, [], _∷_, map}
 use mathlib.Core.Path.{_≡_, refl, sym, _∙_}
 use native.Mathlib.Omega.{arith}
-use lib.ListN.{length, getD, set, length-set, List·getD-eq-default}
+use lib.ListN.{length, getD, set, replicate, length-set, length-replicate, List·getD-eq-default}
 use lib.Dec.{eqb, leb, ltb}
 use borrow.Author.Tests.{eqb-true, eqb-false, eq-eqb, ne-eqb, ltb-true, ltb-false}
 use mir.Val.{boolByte}
 use Rattle.octets.specs.Choice.{pick, split, impossible, and-left, and-right, bit-most, tests}
-use Rattle.octets.specs.Every.{every, every-set}
-use Rattle.octets.specs.Sums.{sumOf, countOf, sum-set}
+use Rattle.octets.specs.Every.{every, every-set, every-same}
+use Rattle.octets.specs.Sums.{sumOf, countOf, sum-set, sum-same}
 use Rattle.octets.specs.Search.{firstOf}
+use Rattle.tunnel.specs.Numbering.{places}
 use Rattle.plan.specs.declared.Plan.{Plan}
 use Rattle.plan.specs.Limits.{mostSends}
 use Rattle.plan.specs.Plan.{accepted, Figures, accepted-figures}
-use Rattle.sharing.specs.Sharing.{within-less, guaranteeAt, ceilingAt}
+use Rattle.sharing.specs.Sharing.{within-less, accepted-fair, fresh-within, guaranteeAt, ceilingAt}
 use Rattle.plan.specs.Limits.{parties}
 use Rattle.session.specs.declared.Request.{Request}
 use Rattle.session.specs.declared.Session.{Session}
 use Rattle.session.specs.declared.Bounds.{Bounds}
 use Rattle.session.specs.Request.{lastNumber, idle, requestOk, awaits, sentOnce, countedDown, spent, InRange, range-of, range-to, request-sent, request-down, awaits-down, awaits-first, awaits-again}
 use Rattle.session.specs.Session.{isFree, isClosing, isOn, hasId, waitsFor, recordOk, blankAt, phaseOk, freed, ticked, sent, isDue}
-use Rattle.session.specs.Keep.{Lighter, own-ok, ok-sent, sent-on, sent-id, sent-waits}
+use Rattle.session.specs.Keep.{ok-blank, own-ok, ok-sent, sent-on, sent-id, sent-waits}
 use Rattle.table.specs.declared.Node.{Node}
 use Rattle.table.specs.Rules.{liveOn, live, boundsOf, Rules}
 use Rattle.table.specs.Change.{nobody, changedAt, Less, rules-less, rules-set, record-ok, rules-all-freed, rules-ticked}
@@ -200,3 +201,27 @@ rules-heard node value l r =
     split (restarted node value)
     (λ s. rw s (rules-all-freed (node .plan) (node .echo) (node .next) l r))
     (λ s. rw s r)
+
+-- ---- the start
+-- nothing heard, nothing sent, the first echo due after E ticks
+unfoldable pub freshNode : Plan → Node
+freshNode p = record { plan = p; echo = rested (p .interval) idle; next = 0; heard = 0; recovery = 0 }
+
+-- a record that nobody took weighs nothing, however often
+none-weigh : (p : Session → Bool) → p nobody ≡ false → (n : ℕ) → countOf p (replicate n nobody) ≡ 0
+none-weigh p e n = let s = rw e at (sum-same (λ x. boolByte (p x)) n nobody) in omega arith
+
+pub rules-fresh : (p : Plan) → accepted p ≡ true → Rules p (rested (p .interval) idle) 0 (replicate places nobody)
+unfolding rested idle awaits isFree isOn hasId waitsFor blankAt liveOn
+rules-fresh p e = record {
+  planned = e;
+  size = length-replicate places nobody;
+  each = every-same (recordOk (boundsOf p)) places nobody (ok-blank (boundsOf p) 0 (omega arith));
+  once = λ i b. let z = none-weigh (hasId i b) refl places in omega arith;
+  within = within-less (parties p) (guaranteeAt p) (ceilingAt p) (λ a. 0) (live (replicate places nobody))
+      (λ a h. let z = none-weigh (isOn a) refl places in omega arith) (fresh-within p (accepted-fair p e));
+  echoes = range-to (p .interval) (p .resend) (p .sends) (rested (p .interval) idle)
+      (record { known = omega arith; before = λ h. omega arith; timed = λ h. absurd (omega arith); most = λ h. absurd (omega arith); full = λ h. absurd (omega arith) });
+  counted = omega arith;
+  waits = λ k. let z = none-weigh (waitsFor k) refl places in omega arith;
+}

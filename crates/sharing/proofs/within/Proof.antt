@@ -11,10 +11,6 @@ use Rattle.plan.specs.Limits.{parties, parties-most}
 use Rattle.sharing.specs.Sharing.{ceilingAt, within-over, under-next, within-end}
 use Rattle.sharing.proofs.within.Statement.{statement}
 use Rattle.sharing.proofs.within.Tie as tie
-use Rattle.sharing.proofs.within.Reads as reads
-use Rattle.sharing.proofs.within.Lts as lts
-use Rattle.plan.proofs.Plan.parties.Reads as parties-reads
-use Rattle.sharing.proofs.share_of.Reads as share-of-reads
 
 abbrev Inv-loop : tie.InvT-loop
 Inv-loop plan live n i₀ i = (n ≡ parties plan) × ((n ≤ 4) × ((i ≤ n) × (allTo (λ a. leb (getD live a 0) (ceilingAt plan a)) i ≡ true)))
@@ -22,11 +18,9 @@ Inv-loop plan live n i₀ i = (n ≡ parties plan) × ((n ≤ 4) × ((i ≤ n) �
 abbrev μ-loop : tie.MeasureT-loop
 μ-loop plan live n i₀ i = n - i
 
--- src/lib.rt:48:9
 parties-requires : tie.Need-parties-requires Inv-loop μ-loop
 parties-requires c κs = search needs
 
--- src/lib.rt:50:5
 loop-holds : tie.Need-loop-holds Inv-loop μ-loop
 loop-holds c = let p = c .before .args .t1 in
     let l : length (p .points) ≡ 4 = simp length-map at (c .before .good .0 .1 .1 .1 .1 .1 .1 .1 .1 .1 .1 .0 .1 .0 .1) in
@@ -34,49 +28,38 @@ loop-holds c = let p = c .before .args .t1 in
     let m = parties-most p l in
     (e, (omega arith, (omega arith, all-start _)))
 
--- src/lib.rt:51:17
 mul-p : tie.Need-mul-p Inv-loop μ-loop
 mul-p c = search needs
 
--- src/lib.rt:51:17
 element-copy-out-p : tie.Need-element-copy-out-p Inv-loop μ-loop
 element-copy-out-p c = search needs
 
--- src/lib.rt:52:24
 mul-if1 : tie.Need-mul-if1 Inv-loop μ-loop
 mul-if1 c = search needs
 
--- src/lib.rt:52:24
 array-read-if1 : tie.Need-array-read-if1 Inv-loop μ-loop
 array-read-if1 c = search needs
 
--- src/lib.rt:53:13
 returns : tie.Need-returns Inv-loop μ-loop
 returns c = let a = c .before .before .before .before .before .before .args in let k = c .before .before .before .before .loop in
     sym (within-over (a .t1) (λ b. getD (a .t2) b 0) (k .i) _ (omega arith) (c .if1 .taken))
 
--- src/lib.rt:55:9
 add-i : tie.Need-add-i Inv-loop μ-loop
 add-i c = search needs
 
--- src/lib.rt:50:5
 loop-less : tie.Need-loop-less Inv-loop μ-loop
 loop-less c = search needs
 
--- src/lib.rt:50:5
 loop-again : tie.Need-loop-again Inv-loop μ-loop
 loop-again c = let a = c .before .before .before .before .before .before .args in let k = c .before .before .before .before .loop in
     (k .inv .0, (k .inv .1 .0, (omega arith, under-next (a .t1) (λ b. getD (a .t2) b 0) (k .i) _ (omega arith) (c .if1 .left) (k .inv .1 .1 .1))))
 
--- src/lib.rt:57:9
 share-of-requires : tie.Need-share-of-requires Inv-loop μ-loop
 share-of-requires c κs = search needs
 
--- src/lib.rt:58:5
 cast-result : tie.Need-cast-result Inv-loop μ-loop
 cast-result c = search needs
 
--- src/lib.rt:45:1
 returns-2 : tie.Need-returns-2 Inv-loop μ-loop
 unfolding places
 returns-2 c = let a = c .before .before .before .before .args in let k = c .before .before .loop in

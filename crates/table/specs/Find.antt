@@ -1,0 +1,206 @@
+-- Finding: the place of the session that has something, or none. By tunnel number a session is found by the number of its place in
+-- its present use; that this is arithmetic on the number is a law, not the definition.
+-- Assumes nothing.
+use Prim.Native.Nat.{ℕ, zero, suc, _+_, _<_, _≤_}
+use mathlib.Core.Bool.{Bool, true, false, not, _&&_}
+use mathlib.Core.List.{List, [], _∷_}
+use mathlib.Core.Path.{_≡_, refl, sym, _∙_, ap}
+use native.Mathlib.Omega.{arith}
+use lib.ListN.{length, drop, getD}
+use lib.Dec.{eqb, leb, ltb}
+use mir.Val.{boolByte}
+use borrow.Author.Tests.{eqb-true, eqb-false, eq-eqb, ne-eqb, leb-true, le-leb, lt-ltb, le-ltb, ltb-true, ltb-false}
+use Rattle.octets.specs.Choice.{pick, split, impossible, and-left, and-right, tests}
+use Rattle.octets.specs.Places.{any-default}
+use Rattle.octets.specs.Search.{firstOf, first-passes, first-most}
+use Rattle.octets.specs.Sums.{sumOf, countOf, sum-holds-two}
+use Rattle.tunnel.specs.Numbering.{places, base}
+use Rattle.tunnel.specs.declared.Holder.{Holder}
+use Rattle.tunnel.specs.declared.Holder.the-variants as H
+use Rattle.tunnel.specs.Tunnel.{numberAt, numbers, holderOf, number-same, number-holder, holder-held, Held}
+use Rattle.session.specs.declared.Session.{Session}
+use Rattle.session.specs.Session.{isFree, hasId, waitsFor, isDue}
+use Rattle.table.specs.declared.Found.{Found}
+use Rattle.table.specs.declared.Found.the-variants.{At, Nothing}
+use Rattle.table.specs.declared.Query.{Query}
+use Rattle.table.specs.declared.Query.the-variants as Q
+use Rattle.table.specs.Change.{nobody}
+
+-- ---- by what a record says
+unfoldable pub meets : Query → Session → Bool
+meets Q.Free s = isFree s
+meets Q.Due s = isDue s
+meets (Q.Id imsi ebi) s = hasId imsi ebi s
+meets (Q.Waits number) s = waitsFor number s
+
+-- the lowest place that passes
+unfoldable pub foundIn : (Session → Bool) → List Session → Found
+foundIn p l = pick (ltb (firstOf p l) (length l)) (At (firstOf p l)) Nothing
+
+-- ---- by tunnel number: the session at place i, live or closing, is in that very use; a use of 0 has no numbers
+unfoldable pub bears : ℕ → ℕ → ℕ → Session → Bool
+bears offset n i s = not (isFree s) && leb 1 (s .usage) && eqb (numberAt offset (s .usage) i) n
+
+unfoldable pub ownerFrom : ℕ → ℕ → ℕ → List Session → Found
+ownerFrom offset n i [] = Nothing
+ownerFrom offset n i (s ∷ l) = pick (bears offset n i s) (At i) (ownerFrom offset n (suc i) l)
+
+unfoldable pub ownerOf : ℕ → ℕ → List Session → Found
+ownerOf offset n l = ownerFrom offset n 0 l
+
+-- whoever holds the number by its arithmetic, if the place is there, is taken, and is in that use
+unfoldable pub heldIn : Holder → List Session → Found
+heldIn H.Nobody l = Nothing
+heldIn (H.At place usage) l =
+    pick (ltb place (length l) && not (isFree (getD l place nobody)) && eqb (getD l place nobody .usage) usage) (At place) Nothing
+
+-- ---- laws of the search
+module _ (p : Session → Bool) (l : List Session) where
+  module _ (i : ℕ) (came : firstOf p l ≡ i + firstOf p (drop i l)) where
+    pub found-here : i < length l → firstOf p (drop i l) ≡ 0 → foundIn p l ≡ At i
+    unfolding foundIn
+    found-here h e = let k : firstOf p l ≡ i = omega arith in rw (k, lt-ltb i (length l) h)
+
+    pub found-none : length l ≤ i → foundIn p l ≡ Nothing
+    unfolding foundIn
+    found-none h = rw (le-ltb (firstOf p l) (length l) (omega arith))
+
+  -- what is found is there and passes
+  pub found-is : (i : ℕ) → foundIn p l ≡ At i → (i < length l) × ((i ≡ firstOf p l) × (p (getD l i nobody) ≡ true))
+  unfolding foundIn
+  found-is i e = split (ltb (firstOf p l) (length l)) there none
+    where
+      there : ltb (firstOf p l) (length l) ≡ true → (i < length l) × ((i ≡ firstOf p l) × (p (getD l i nobody) ≡ true))
+      there t =
+          let h = ltb-true (firstOf p l) (length l) t in
+          let f : At (firstOf p l) ≡ At i = rw t at e in
+          let k : firstOf p l ≡ i = cc in
+          (rw (← k) h, (sym k, rw (← k) (first-passes p l nobody h)))
+
+      none : ltb (firstOf p l) (length l) ≡ false → (i < length l) × ((i ≡ firstOf p l) × (p (getD l i nobody) ≡ true))
+      none t = let f : Nothing ≡ At i = rw t at e in let z : _≡_ {A = ℕ} 0 1 = cc in absurd (omega arith)
+
+-- where one passes at most, what passes is what is found
+pub found-only : (p : Session → Bool) (l : List Session) (i j : ℕ) → countOf p l ≤ 1 → i < length l → j < length l
+    → p (getD l i nobody) ≡ true → p (getD l j nobody) ≡ true → i ≡ j
+found-only p l i j c h k e f =
+    split (ltb i j)
+    (λ t. let z = rw (e, f) at (sum-holds-two (λ x. boolByte (p x)) l i j nobody (ltb-true i j t) k) in absurd (omega arith))
+    (λ t. split (ltb j i)
+    (λ u. let z = rw (e, f) at (sum-holds-two (λ x. boolByte (p x)) l j i nobody (ltb-true j i u) h) in absurd (omega arith))
+    (λ u. omega (arith, tests)))
+
+-- ---- laws of the look-up by number
+owner-none : (offset n i : ℕ) (l : List Session) → ((j : ℕ) → j < length l → bears offset n (i + j) (getD l j nobody) ≡ false) → ownerFrom offset n i l ≡ Nothing
+unfolding ownerFrom
+owner-none offset n i [] h = refl
+owner-none offset n i (s ∷ l) h =
+    let z : i + 0 ≡ i = omega arith in
+    let e : bears offset n i s ≡ false = rw z at (h 0 (omega arith)) in
+    rw e (owner-none offset n (suc i) l (λ j q. let y : suc i + j ≡ i + suc j = omega arith in rw y (h (suc j) (omega arith))))
+
+owner-hit : (offset n i k : ℕ) (l : List Session) → k < length l → bears offset n (i + k) (getD l k nobody) ≡ true
+    → ((j : ℕ) → j < k → bears offset n (i + j) (getD l j nobody) ≡ false) → ownerFrom offset n i l ≡ At (i + k)
+unfolding ownerFrom
+owner-hit offset n i k [] h e f = absurd (omega arith)
+owner-hit offset n i zero (s ∷ l) h e f =
+    let z : i + 0 ≡ i = omega arith in
+    let b : bears offset n i s ≡ true = rw z at e in
+    rw (b, z)
+owner-hit offset n i (suc k) (s ∷ l) h e f =
+    let z : i + 0 ≡ i = omega arith in
+    let b : bears offset n i s ≡ false = rw z at (f 0 (omega arith)) in
+    let y : i + suc k ≡ suc i + k = omega arith in
+    rw (b, y) (owner-hit offset n (suc i) k l (omega arith) (rw y at e) (λ j q. let x : suc i + j ≡ i + suc j = omega arith in rw x (f (suc j) (omega arith))))
+
+-- the look-up by arithmetic, in the words of the code
+module _ (place usage : ℕ) (l : List Session) where
+  pub held-out : length l ≤ place → heldIn (H.At place usage) l ≡ Nothing
+  unfolding heldIn
+  held-out h = rw (le-ltb place (length l) h)
+
+  pub held-yes : (d : Session) → place < length l → (not (isFree (getD l place d)) && eqb (getD l place d .usage) usage) ≡ true → heldIn (H.At place usage) l ≡ At place
+  unfolding heldIn
+  held-yes d h e = rw (lt-ltb place (length l) h, any-default l place nobody d h, e)
+
+  pub held-no : (d : Session) → place < length l → (not (isFree (getD l place d)) && eqb (getD l place d .usage) usage) ≡ false → heldIn (H.At place usage) l ≡ Nothing
+  unfolding heldIn
+  held-no d h e = rw (lt-ltb place (length l) h, any-default l place nobody d h, e)
+
+-- who bears a number holds it
+bears-held : (offset n j : ℕ) (s : Session) → offset + places ≤ base → j < places → bears offset n j s ≡ true
+    → (holderOf offset n ≡ H.At j (s .usage)) × (not (isFree s) ≡ true)
+unfolding bears
+bears-held offset n j s fits h e =
+    let a : not (isFree s) ≡ true = search (and-left, and-right) in
+    let u : leb 1 (s .usage) ≡ true = search (and-left, and-right) in
+    let q : eqb (numberAt offset (s .usage) j) n ≡ true = search (and-left, and-right) in
+    (rw (← eqb-true (numberAt offset (s .usage) j) n q) (number-holder offset (s .usage) j fits h (leb-true 1 (s .usage) u)), a)
+
+-- nobody bears a number that nobody holds; only its holder bears one that is held
+module _ (offset n : ℕ) (l : List Session) (fits : offset + places ≤ base) (size : length l ≤ places) where
+  unheld : holderOf offset n ≡ H.Nobody → (j : ℕ) → j < length l → bears offset n j (getD l j nobody) ≡ false
+  unheld e j h =
+      split (bears offset n j (getD l j nobody))
+      (λ t. let f = bears-held offset n j (getD l j nobody) fits (omega arith) t .0 in
+      let g : H.Nobody ≡ H.At j (getD l j nobody .usage) = sym e ∙ f in
+      let z : _≡_ {A = ℕ} 0 1 = cc in
+      absurd (omega arith))
+      (λ t. t)
+
+  module _ (place usage : ℕ) (e : holderOf offset n ≡ H.At place usage) where
+    sole : (j : ℕ) → j < length l → bears offset n j (getD l j nobody) ≡ true → (j ≡ place) × ((getD l j nobody .usage ≡ usage) × (not (isFree (getD l j nobody)) ≡ true))
+    sole j h t =
+        let f = bears-held offset n j (getD l j nobody) fits (omega arith) t in
+        let g : H.At place usage ≡ H.At j (getD l j nobody .usage) = sym e ∙ f .0 in
+        let a : j ≡ place = cc in
+        let b : getD l j nobody .usage ≡ usage = cc in
+        (a, (b, f .1))
+
+    theirs : place < length l → not (isFree (getD l place nobody)) ≡ true → getD l place nobody .usage ≡ usage → bears offset n place (getD l place nobody) ≡ true
+    unfolding bears
+    theirs h a b =
+        let g = holder-held offset n place usage e in
+        rw (a, b, le-leb 1 usage (g .used), eq-eqb (numberAt offset usage place) n (g .number))
+
+    held-owner : ownerFrom offset n 0 l ≡ heldIn (H.At place usage) l
+    unfolding heldIn
+    held-owner = split (ltb place (length l) && not (isFree (getD l place nobody)) && eqb (getD l place nobody .usage) usage) there none
+      where
+        there : (ltb place (length l) && not (isFree (getD l place nobody)) && eqb (getD l place nobody .usage) usage) ≡ true
+            → ownerFrom offset n 0 l ≡ pick (ltb place (length l) && not (isFree (getD l place nobody)) && eqb (getD l place nobody .usage) usage) (At place) Nothing
+        there t =
+            let i : ltb place (length l) ≡ true = search (and-left, and-right) in
+            let a : not (isFree (getD l place nobody)) ≡ true = search (and-left, and-right) in
+            let b : eqb (getD l place nobody .usage) usage ≡ true = search (and-left, and-right) in
+            let h = ltb-true place (length l) i in
+            let z : 0 + place ≡ place = omega arith in
+            let hit : bears offset n (0 + place) (getD l place nobody) ≡ true = rw z (theirs h a (eqb-true (getD l place nobody .usage) usage b)) in
+            rw t (owner-hit offset n 0 place l h hit
+            (λ j q. let x : 0 + j ≡ j = omega arith in
+            rw x (split (bears offset n j (getD l j nobody)) (λ y. let w = sole j (omega arith) y .0 in absurd (omega arith)) (λ y. y)))
+            ∙ rw z)
+
+        none : (ltb place (length l) && not (isFree (getD l place nobody)) && eqb (getD l place nobody .usage) usage) ≡ false
+            → ownerFrom offset n 0 l ≡ pick (ltb place (length l) && not (isFree (getD l place nobody)) && eqb (getD l place nobody .usage) usage) (At place) Nothing
+        none t =
+            rw t (owner-none offset n 0 l
+            (λ j q. let x : 0 + j ≡ j = omega arith in
+            rw x (split (bears offset n j (getD l j nobody)) (λ y. absurd (clash j q y)) (λ y. y))))
+          where
+            clash : (j : ℕ) → j < length l → bears offset n j (getD l j nobody) ≡ true → ⊥
+            clash j q y =
+                let w = sole j q y in
+                let x : j ≡ place = w .0 in
+                let a : not (isFree (getD l place nobody)) ≡ true = rw (← x) (w .1 .1) in
+                let b : getD l place nobody .usage ≡ usage = rw (← x) (w .1 .0) in
+                let z : false ≡ true = sym t ∙ rw (lt-ltb place (length l) (omega arith), a, b, eq-eqb usage usage refl) in
+                impossible z
+
+pub owner-is : (offset n : ℕ) (l : List Session) → offset + places ≤ base → length l ≤ places → ownerOf offset n l ≡ heldIn (holderOf offset n) l
+unfolding ownerOf heldIn
+owner-is offset n l fits size = look (holderOf offset n) refl
+  where
+    look : (h : Holder) → holderOf offset n ≡ h → ownerFrom offset n 0 l ≡ heldIn h l
+    look H.Nobody e = owner-none offset n 0 l (λ j q. let x : 0 + j ≡ j = omega arith in rw x (unheld offset n l fits size e j q))
+    look (H.At place usage) e = held-owner offset n l fits size place usage e
