@@ -27,6 +27,9 @@ module _ {A : Type 0} (f : A → ℕ) (l : List A) (i : ℕ) where
   unfolding sumOf
   sum-step d h = rw (add-one, drop-cons l i d)
 
+  pub sum-add : (d : A) (sum whole : ℕ) → i < length l → sum + sumOf f (drop i l) ≡ whole → sum + f (getD l i d) + sumOf f (drop (i + 1) l) ≡ whole
+  sum-add d sum whole h e = let s = sum-step d h in omega arith
+
   pub sum-end : length l ≤ i → sumOf f (drop i l) ≡ 0
   unfolding sumOf
   sum-end h = rw (drop-of-length-le l)

@@ -27,7 +27,7 @@ fn key(s: Session) -> u64
     s.imsi % 36028797018963968 * 256 + s.ebi as u64
 }
 
-fn wait(r: Request) -> u64
+pub fn wait(r: Request) -> u64
     ensures { λ q. ⌜ q ≡ waitOf r ⌝ }
 {
     if r.sends == 0 {
@@ -54,7 +54,7 @@ fn unit(point: u8) -> u64
     0
 }
 
-fn weight(s: Session) -> u64
+pub fn weight(s: Session) -> u64
     ensures { λ r. ⌜ r ≡ weightOf s ⌝ }
 {
     if s.state == Session::FREE {
@@ -105,7 +105,7 @@ pub fn look(b: Bounds, t: Table) -> Survey
 }
 
 // The four counts out of the packed one.
-fn unpacked(counts: u64) -> [u16; 4]
+pub fn unpacked(counts: u64) -> [u16; 4]
     ensures { λ r. ⌜ r ≡ unpackedOf counts ⌝ }
 {
     [

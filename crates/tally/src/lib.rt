@@ -1,0 +1,105 @@
+// What is read off the records as a whole: the counts of the sharing rule, how many sessions there are, and the number that the next
+// first send takes.
+use session::Request;
+use session::Session;
+use table::Node;
+use table::Table;
+ghost use Prim.Native.Nat.{_+_};
+ghost use mathlib.Core.Path.{_≡_};
+ghost use Rattle.tunnel.specs.Numbering.{places};
+ghost use Rattle.table.specs.Room.{sessions};
+ghost use Rattle.table.specs.Number.{after, takenNumber};
+ghost use Rattle.tally.specs.Tally.{oneOf, countsOf, waitsOf, unclaimed, freeAmong};
+
+// u of each access point, counted from the records.
+pub fn counts(t: Table) -> [u16; 4]
+    ensures { λ r. ⌜ r ≡ countsOf (t .recs) ⌝ }
+{
+    let mut packed: u64 = 0;
+    let mut i: usize = 0;
+    while i < Table::PLACES {
+        let s = t.recs[i];
+        let w = rules::weight(s);
+        packed += w;
+        i += 1;
+    }
+    rules::unpacked(packed)
+}
+
+fn one(s: Session) -> usize
+    ensures { λ r. ⌜ r ≡ oneOf s ⌝ }
+{
+    let free = s.is_free();
+    if free { 0 } else { 1 }
+}
+
+// How many sessions there are, live or closing.
+pub fn sessions(t: Table) -> usize
+    ensures { λ r. ⌜ r ≡ sessions (t .recs) ⌝ }
+{
+    let mut n: usize = 0;
+    let mut i: usize = 0;
+    while i < Table::PLACES {
+        let s = t.recs[i];
+        let k = one(s);
+        n += k;
+        i += 1;
+    }
+    n
+}
+
+// The awaited numbers by place, as keys.
+fn waits(t: Table) -> [u64; 64]
+    ensures { λ r. ⌜ r ≡ waitsOf (t .recs) ⌝ }
+{
+    let mut keys = [0u64; 64];
+    let mut i: usize = 0;
+    while i < Table::PLACES {
+        let s = t.recs[i];
+        let w = rules::wait(s.own);
+        keys[i] = w;
+        i += 1;
+    }
+    keys
+}
+
+// The sequence number after another.
+pub fn after(k: u32) -> u32
+    ensures { λ r. ⌜ r ≡ after k ⌝ }
+{
+    ((k as u64 + 1) % (Request::LAST_NUMBER as u64 + 1)) as u32
+}
+
+// Whether nobody awaits a number: neither the echo nor a place.
+fn unclaimed(k: u32, echo: u64, keys: &[u64]) -> bool
+    ensures { λ r. ⌜ r ≡ unclaimed k echo (now (keys .entry)) ⌝ }
+{
+    let key = k as u64 + 1;
+    let apart = distinct::absent(keys, key);
+    !((key != 0) & (key == echo)) & apart
+}
+
+fn free_among(next: u32, echo: u64, keys: &[u64]) -> u32
+    ensures { λ r. ⌜ r ≡ freeAmong (places + 2) next echo (now (keys .entry)) ⌝ }
+{
+    let mut k = next;
+    let mut tries: usize = Table::PLACES + 2;
+    while 0 < tries {
+        let ok = unclaimed(k, echo, keys);
+        if ok {
+            return k;
+        }
+        k = after(k);
+        tries -= 1;
+    }
+    k
+}
+
+// The number that a first send takes: the next one that nobody awaits.
+pub fn taken_number(node: Node, t: Table) -> u32
+    ensures { λ r. ⌜ r ≡ takenNumber (node .next) (node .echo) (t .recs) ⌝ }
+{
+    let keys = waits(t);
+    let echo = rules::wait(node.echo);
+    free_among(node.next, echo, &keys)
+}
