@@ -1,0 +1,4 @@
+pub mod Header
+pub mod Extensions
+pub mod User
+pub mod Part
