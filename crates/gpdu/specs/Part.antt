@@ -1,10 +1,10 @@
 -- A part of a lent slice that is handed back: where it lies, and what it holds.
 -- Assumes nothing.
-use Prim.Native.Nat.{ℕ, _+_}
+use Prim.Native.Nat.{ℕ, _+_, _-_}
 use mathlib.Core.List.{List}
 use mathlib.Core.Path.{_≡_, refl, sym, _∙_, ap}
 use native.Mathlib.Omega.{arith}
-use lib.ListN.{length, drop}
+use lib.ListN.{length, drop, length-drop}
 use lib.Seq.{drop-drop}
 use denote.Ref.{RefT}
 use Rattle.gpdu.specs.Extensions.{extensionsOf}
@@ -37,3 +37,6 @@ pub rest-walked : (got : ℕ) (r m d : RefT (List ℕ)) (n type : ℕ) → IsRes
     → Reads got r m (extensionsOf (m .now) type .number) (extensionsOf (m .now) type .size)
     → Reads got r d (extensionsOf (drop n (d .now)) type .number) (n + extensionsOf (drop n (d .now)) type .size)
 rest-walked got r m d n type a e = rw (← (a .octets)) (e .0, rest-further r m d n (extensionsOf (m .now) type .size) a (e .1))
+
+pub rest-length : (r d : RefT (List ℕ)) (n : ℕ) → IsRest r d n → length (r .now) ≡ length (d .now) - n
+rest-length r d n a = ap length (a .octets) ∙ length-drop n (d .now)
