@@ -71,7 +71,7 @@ fit l n e =
     split (eqb n 0) (λ a. impossible (sym (rw a at e)))
     (λ a. let b : ltb (length l) n ≡ false = rw a at e in (omega (arith, tests), ltb-false (length l) n b))
 
-fit-extent : (l : List ℕ) → unfit l ≡ false → (0 < extent l) × (extent l ≤ length l)
+pub fit-extent : (l : List ℕ) → unfit l ≡ false → (0 < extent l) × (extent l ≤ length l)
 unfolding unfit
 fit-extent l e = fit l (extent l) e
 

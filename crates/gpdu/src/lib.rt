@@ -4,6 +4,7 @@ ghost use Prim.Native.Nat.{_*_};
 ghost use lib.ListN.{length};
 ghost use Rattle.gpdu.specs.Header.{ours, extended, sequenced, sizeOf, typeTaken, refusalOf, headerOf};
 ghost use Rattle.gpdu.specs.Extensions.{extent, extensionsOf};
+ghost use Rattle.gpdu.specs.Stretch.{stretch, stretchOf};
 ghost use Rattle.gpdu.specs.User.{userOf};
 ghost use Rattle.gpdu.specs.Part.{Reads};
 use tunnel::UserTeid;
@@ -30,6 +31,9 @@ impl Header {
     pub const UNIT: usize = 4;
 
     pub const FIRST_MUST: u8 = 128;
+
+    // How deep the calls of a walk go, less one: it is the unit's stack that this bounds, and not the number of headers.
+    pub const STRETCH: usize = 15;
 
     // The refusals' numbers.
     pub const SHORT: u8 = 3;
@@ -143,24 +147,47 @@ fn refuse<'a>(d: &'a [u8], why: u8, number: &mut u8) -> &'a [u8]
     &d[d.len()..]
 }
 
-// What is left past the extension headers, of which the first has the type next.
-fn past_extensions<'a>(rest: &'a [u8], next: u8, number: &mut u8) -> &'a [u8]
-    ensures { λ r. ⌜ Reads (now (number .exit)) r (rest .entry) (extensionsOf (now (rest .entry)) next .number)
-        (extensionsOf (now (rest .entry)) next .size) ⌝ }
+// A stretch of the walk over the extension headers in rest: past the one in front, of the type next, and at most so many more.
+// It answers how many octets are left; next becomes the type in front of which it pauses, 0 where the walk has ended.
+fn walk(rest: &[u8], more: usize, next: &mut u8, number: &mut u8) -> usize
+    ensures { λ r. ⌜ stretch (now (number .exit)) (now (next .exit)) r ≡ stretchOf more (now (rest .entry)) (now (next .entry)) ⌝ }
 {
-    if next == 0 {
+    let kind = *next;
+    if kind == 0 {
         *number = 0;
-        return rest;
+        return rest.len();
     }
-    if Header::FIRST_MUST <= next {
-        return refuse(rest, Header::MUST, number);
+    if Header::FIRST_MUST <= kind {
+        *next = 0;
+        *number = Header::MUST;
+        return 0;
     }
     let n = extent(rest);
     if (n == 0) | (rest.len() < n) {
-        return refuse(rest, Header::CUT, number);
+        *next = 0;
+        *number = Header::CUT;
+        return 0;
     }
-    let following = rest[n - 1];
-    past_extensions(&rest[n..], following, number)
+    *next = rest[n - 1];
+    if more == 0 {
+        *number = 0;
+        return rest.len() - n;
+    }
+    walk(&rest[n..], more - 1, next, number)
+}
+
+// What is left past the extension headers in d, of which the first has the type first.
+fn past_extensions<'a>(d: &'a [u8], first: u8, number: &mut u8) -> &'a [u8]
+    ensures { λ r. ⌜ Reads (now (number .exit)) r (d .entry) (extensionsOf (now (d .entry)) first .number)
+        (extensionsOf (now (d .entry)) first .size) ⌝ }
+{
+    let mut next = first;
+    let mut left = d.len();
+    *number = 0;
+    while next != 0 {
+        left = walk(&d[d.len() - left..], Header::STRETCH, &mut next, number);
+    }
+    &d[d.len() - left..]
 }
 
 // The payload, as the part of the datagram that it is, and the number of the whole reading.

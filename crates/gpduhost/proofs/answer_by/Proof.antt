@@ -2,32 +2,24 @@ use Rattle.gpduhost.specs.Answer.{answerBy}
 use borrow.Author.Needs.{needs}
 use Rattle.gpduhost.proofs.answer_by.Statement.{statement}
 use Rattle.gpduhost.proofs.answer_by.Tie as tie
-use Rattle.gpduhost.proofs.answer_by.Reads as reads
-use Rattle.gpduhost.proofs.answer_by.Lts as lts
 
--- src/lib.rt:21:24
 enum-known-header : tie.Need-enum-known-header
 enum-known-header c = search needs
 
--- src/lib.rt:29:26
 enum-known-header-2 : tie.Need-enum-known-header-2
 enum-known-header-2 c = search needs
 
--- src/lib.rt:37:25
 enum-known-header-3 : tie.Need-enum-known-header-3
 enum-known-header-3 c = search needs
 
--- src/lib.rt:17:1
 returns : tie.Need-returns
 unfolding answerBy
 returns c = rw (c .before .header .given .1)
 
--- src/lib.rt:17:1
 returns-2 : tie.Need-returns-2
 unfolding answerBy
 returns-2 c = rw (c .before .header2 .given .1)
 
--- src/lib.rt:17:1
 returns-3 : tie.Need-returns-3
 unfolding answerBy
 returns-3 c = rw (c .before .header3 .given .1)
