@@ -170,7 +170,7 @@ fn answer(line: &[u8]) {
 }
 
 fn main() {
-    let mut buffer = io::large_buffer();
+    let mut buffer = io::buffer();
     let n = io::read_full(STDIN_FILENO, &mut buffer);
     let text = &buffer[..n];
     let mut from: usize = 0;
