@@ -10,7 +10,7 @@ use lib.ListN.{length, getD}
 use lib.Dec.{eqb, ltb}
 use borrow.Author.Tests.{eq-eqb, ne-eqb, eqb-true, ltb-false}
 use Rattle.octets.specs.BigEndian.{numberOf}
-use Rattle.octets.specs.Choice.{pick, split, or-true}
+use Rattle.octets.specs.Choice.{pick, split, or-true, impossible}
 use Rattle.gpdu.specs.declared.Header.{Header}
 use Rattle.gpdu.specs.declared.Header.the-variants.{Echo, Packet, Refused}
 
@@ -42,8 +42,11 @@ abbrev pub numbered : ℕ → Bool
 numbered first = eqb (first % 2) 1
 
 -- any of E, S, PN: the 4 optional octets are there
+unfoldable pub optional : ℕ → Bool
+optional first = extended first || sequenced first || numbered first
+
 unfoldable pub sizeOf : ℕ → ℕ
-sizeOf first = pick (extended first || sequenced first || numbered first) wholeSize fixedSize
+sizeOf first = pick (optional first) wholeSize fixedSize
 
 unfoldable pub typeTaken : ℕ → Bool
 typeTaken type = eqb type echoType || eqb type packetType
@@ -69,7 +72,7 @@ refusalOf d =
     (pick (not (ours (octet d 0))) 12
     (pick (not (eqb (lengthOf d) (length d - fixedSize))) 6
     (pick (not (typeTaken (octet d 1))) 7
-    (pick (ltb (length d) (sizeOf (octet d 0))) 13 0))))
+    (pick (optional (octet d 0) && ltb (length d) wholeSize) 13 0))))
 
 -- what the datagram is, as far as its first 12 octets say
 unfoldable pub headerOf : List ℕ → Header
@@ -86,13 +89,25 @@ headerNumber (Refused number) = number
 
 -- ---- laws
 -- with E or S set the optional part is there
-pub size-extended : (first : ℕ) → extended first ≡ true → sizeOf first ≡ wholeSize
-unfolding sizeOf
-size-extended first e = rw e
+pub optional-extended : (first : ℕ) → extended first ≡ true → optional first ≡ true
+unfolding optional
+optional-extended first e = rw e
 
-pub size-sequenced : (first : ℕ) → sequenced first ≡ true → sizeOf first ≡ wholeSize
+pub optional-sequenced : (first : ℕ) → sequenced first ≡ true → optional first ≡ true
+unfolding optional
+optional-sequenced first e = rw (e, or-true)
+
+pub optional-plain : (first : ℕ) → optional first ≡ false → extended first ≡ false
+unfolding optional
+optional-plain first e = split (extended first) (λ a. impossible (sym (rw a at e))) (λ a. a)
+
+pub size-optional : (first : ℕ) → optional first ≡ true → sizeOf first ≡ wholeSize
 unfolding sizeOf
-size-sequenced first e = rw (e, or-true)
+size-optional first e = rw e
+
+pub size-plain : (first : ℕ) → optional first ≡ false → sizeOf first ≡ fixedSize
+unfolding sizeOf
+size-plain first e = rw e
 
 -- what a header that is not refused has
 pub record Passed (d : List ℕ) : Type 0 where
@@ -101,6 +116,12 @@ pub record Passed (d : List ℕ) : Type 0 where
   pub is-taken : typeTaken (octet d 1) ≡ true
   pub fixed : fixedSize ≤ length d
   pub whole : sizeOf (octet d 0) ≤ length d
+
+whole-size : (first n : ℕ) → fixedSize ≤ n → (optional first && ltb n wholeSize) ≡ false → sizeOf first ≤ n
+whole-size first n f e =
+    split (optional first)
+    (λ a. let b : ltb n wholeSize ≡ false = rw a at e in rw (size-optional first a) (ltb-false n wholeSize b))
+    (λ a. rw (size-plain first a) f)
 
 pub header-passed : (d : List ℕ) → refusalOf d ≡ 0 → Passed d
 unfolding refusalOf
@@ -113,8 +134,9 @@ header-passed d e =
     (λ f. let e₃ = rw f at e₂ in
     split (typeTaken (octet d 1))
     (λ g. let e₄ = rw g at e₃ in
-    split (ltb (length d) (sizeOf (octet d 0))) (λ h. let z = rw h at e₄ in absurd (omega arith))
-    (λ h. record { is-ours = b; exact = eqb-true _ _ f; is-taken = g; fixed = ltb-false _ _ a; whole = ltb-false _ _ h }))
+    split (optional (octet d 0) && ltb (length d) wholeSize) (λ h. let z = rw h at e₄ in absurd (omega arith))
+    (λ h. let k = ltb-false (length d) fixedSize a in
+    record { is-ours = b; exact = eqb-true _ _ f; is-taken = g; fixed = k; whole = whole-size (octet d 0) (length d) k h }))
     (λ g. let z = rw g at e₃ in absurd (omega arith)))
     (λ f. let z = rw f at e₂ in absurd (omega arith)))
     (λ b. let z = rw b at e₁ in absurd (omega arith)))

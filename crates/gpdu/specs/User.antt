@@ -46,9 +46,10 @@ module _ (d : List ℕ) where
   unfolding userOf walkPast
   user-refused h = rw (ne-eqb (refusalOf d) 0 h) (refl, refl)
 
-  pub user-plain : refusalOf d ≡ 0 → extended (octet d 0) ≡ false → (userOf d .number ≡ 0) × (userOf d .size ≡ sizeOf (octet d 0))
+  pub user-plain : (n : ℕ) → n ≡ sizeOf (octet d 0) → refusalOf d ≡ 0 → extended (octet d 0) ≡ false
+      → (userOf d .number ≡ 0) × (userOf d .size ≡ n)
   unfolding userOf walkPast firstType
-  user-plain h e = rw (eq-eqb (refusalOf d) 0 h, e, ext-end (drop (sizeOf (octet d 0)) d) 0 refl, add-zero) (refl, refl)
+  user-plain n s h e = rw (eq-eqb (refusalOf d) 0 h, e, ext-end (drop (sizeOf (octet d 0)) d) 0 refl, add-zero, s) (refl, refl)
 
   pub user-extended : (n : ℕ) → n ≡ sizeOf (octet d 0) → refusalOf d ≡ 0 → extended (octet d 0) ≡ true
       → (userOf d .number ≡ extensionsOf (drop n d) (octet d 11) .number) × (userOf d .size ≡ n + extensionsOf (drop n d) (octet d 11) .size)

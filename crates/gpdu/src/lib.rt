@@ -2,7 +2,7 @@
 ghost use mathlib.Core.Path.{_≡_};
 ghost use Prim.Native.Nat.{_*_};
 ghost use lib.ListN.{length};
-ghost use Rattle.gpdu.specs.Header.{ours, extended, sequenced, sizeOf, typeTaken, refusalOf, headerOf};
+ghost use Rattle.gpdu.specs.Header.{ours, extended, sequenced, optional, typeTaken, refusalOf, headerOf};
 ghost use Rattle.gpdu.specs.Extensions.{extent, extensionsOf};
 ghost use Rattle.gpdu.specs.Stretch.{stretch, stretchOf};
 ghost use Rattle.gpdu.specs.User.{userOf};
@@ -70,7 +70,7 @@ impl Header {
     }
 }
 
-// The first octet: version 1 and PT 1; the flags E and S; how many octets E, S and PN make of the header.
+// The first octet: version 1 and PT 1; the flags E and S; whether any of E, S and PN is set.
 fn ours(first: u8) -> bool
     ensures { λ r. ⌜ r ≡ ours first ⌝ }
 {
@@ -89,14 +89,10 @@ fn sequenced(first: u8) -> bool
     first / 2 % 2 == 1
 }
 
-fn size_of(first: u8) -> usize
-    ensures { λ r. ⌜ r ≡ sizeOf first ⌝ }
+fn optional(first: u8) -> bool
+    ensures { λ r. ⌜ r ≡ optional first ⌝ }
 {
-    if (first / 4 % 2 == 1) | (first / 2 % 2 == 1) | (first % 2 == 1) {
-        Header::WHOLE
-    } else {
-        Header::FIXED
-    }
+    (first / 4 % 2 == 1) | (first / 2 % 2 == 1) | (first % 2 == 1)
 }
 
 fn type_taken(kind: u8) -> bool
@@ -123,7 +119,10 @@ fn refusal(d: &[u8]) -> u8
     if !type_taken(d[1]) {
         return Header::NOT_TAKEN;
     }
-    if d.len() < size_of(first) {
+    if !optional(first) {
+        return 0;
+    }
+    if d.len() < Header::WHOLE {
         return Header::CUT;
     }
     0
@@ -199,11 +198,14 @@ pub fn payload<'a>(d: &'a [u8], number: &mut u8) -> &'a [u8]
         return refuse(d, why, number);
     }
     let first = d[0];
-    let size = size_of(first);
+    if !optional(first) {
+        *number = 0;
+        return &d[Header::FIXED..];
+    }
     if !extended(first) {
         *number = 0;
-        return &d[size..];
+        return &d[Header::WHOLE..];
     }
     let next = d[11];
-    past_extensions(&d[size..], next, number)
+    past_extensions(&d[Header::WHOLE..], next, number)
 }

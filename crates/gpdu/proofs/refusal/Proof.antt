@@ -1,5 +1,5 @@
 use mathlib.Core.Path.{sym}
-use borrow.Author.Tests.{lt-ltb, le-ltb, eq-eqb, ne-eqb}
+use borrow.Author.Tests.{lt-ltb, le-ltb, eq-eqb, ne-eqb, not-true, not-false}
 use Rattle.gpdu.specs.Header.{refusalOf}
 use borrow.Author.Needs.{needs}
 use Rattle.gpdu.proofs.refusal.Statement.{statement}
@@ -48,16 +48,20 @@ returns-4 : tie.Need-returns-4
 unfolding refusalOf
 returns-4 c = simp (le-ltb _ _ (c .before .before .before .before .before .before .before .before .before .before .if1 .left), sym (c .before .before .before .before .before .before .before .before .ours .ensures), c .before .before .before .before .before .before .before .if2 .left, sym (c .before .before .before .before .be16 .ensures), eq-eqb _ _ (c .before .before .before .if3 .left), sym (c .before .type-taken .ensures), c .if4 .taken)
 
-size-of-requires : tie.Need-size-of-requires
-size-of-requires c κs = search needs
+optional-requires : tie.Need-optional-requires
+optional-requires c κs = search needs
 
 returns-5 : tie.Need-returns-5
 unfolding refusalOf
-returns-5 c = simp (le-ltb _ _ (c .before .before .before .before .before .before .before .before .before .before .before .before .if1 .left), sym (c .before .before .before .before .before .before .before .before .before .before .ours .ensures), c .before .before .before .before .before .before .before .before .before .if2 .left, sym (c .before .before .before .before .before .before .be16 .ensures), eq-eqb _ _ (c .before .before .before .before .before .if3 .left), sym (c .before .before .before .type-taken .ensures), c .before .before .if4 .left, sym (c .before .size-of .ensures), lt-ltb _ _ (c .if5 .taken))
+returns-5 c = simp (le-ltb _ _ (c .before .before .before .before .before .before .before .before .before .before .before .before .if1 .left), sym (c .before .before .before .before .before .before .before .before .before .before .ours .ensures), c .before .before .before .before .before .before .before .before .before .if2 .left, sym (c .before .before .before .before .before .before .be16 .ensures), eq-eqb _ _ (c .before .before .before .before .before .if3 .left), sym (c .before .before .before .type-taken .ensures), c .before .before .if4 .left, sym (c .before .optional .ensures), not-true (c .before .optional .result) (c .if5 .taken))
 
 returns-6 : tie.Need-returns-6
 unfolding refusalOf
-returns-6 c = simp (le-ltb _ _ (c .before .before .before .before .before .before .before .before .before .before .before .before .if1 .left), sym (c .before .before .before .before .before .before .before .before .before .before .ours .ensures), c .before .before .before .before .before .before .before .before .before .if2 .left, sym (c .before .before .before .before .before .before .be16 .ensures), eq-eqb _ _ (c .before .before .before .before .before .if3 .left), sym (c .before .before .before .type-taken .ensures), c .before .before .if4 .left, sym (c .before .size-of .ensures), le-ltb _ _ (c .if5 .left))
+returns-6 c = simp (le-ltb _ _ (c .before .before .before .before .before .before .before .before .before .before .before .before .before .if1 .left), sym (c .before .before .before .before .before .before .before .before .before .before .before .ours .ensures), c .before .before .before .before .before .before .before .before .before .before .if2 .left, sym (c .before .before .before .before .before .before .before .be16 .ensures), eq-eqb _ _ (c .before .before .before .before .before .before .if3 .left), sym (c .before .before .before .before .type-taken .ensures), c .before .before .before .if4 .left, sym (c .before .before .optional .ensures), not-false (c .before .before .optional .result) (c .before .if5 .left), lt-ltb _ _ (c .if6 .taken))
+
+returns-7 : tie.Need-returns-7
+unfolding refusalOf
+returns-7 c = simp (le-ltb _ _ (c .before .before .before .before .before .before .before .before .before .before .before .before .before .if1 .left), sym (c .before .before .before .before .before .before .before .before .before .before .before .ours .ensures), c .before .before .before .before .before .before .before .before .before .before .if2 .left, sym (c .before .before .before .before .before .before .before .be16 .ensures), eq-eqb _ _ (c .before .before .before .before .before .before .if3 .left), sym (c .before .before .before .before .type-taken .ensures), c .before .before .before .if4 .left, sym (c .before .before .optional .ensures), not-false (c .before .before .optional .result) (c .before .if5 .left), le-ltb _ _ (c .if6 .left))
 
 pub refusal-spec : {M : Type 1} → statement M
 refusal-spec =
@@ -76,6 +80,7 @@ refusal-spec =
     shared-slice-read-type-taken
     type-taken-requires
     returns-4
-    size-of-requires
+    optional-requires
     returns-5
-    returns-6)
+    returns-6
+    returns-7)

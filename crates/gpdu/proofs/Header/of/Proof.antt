@@ -3,7 +3,7 @@ use mathlib.Core.Path.{_≡_, refl, sym, _∙_, ap}
 use native.Mathlib.Omega.{arith}
 use lib.ListN.{length}
 use denote.Ref.{now}
-use Rattle.gpdu.specs.Header.{wholeSize, octet, refusalOf, headerOf, sequenceOf, Passed, header-passed, header-refused, header-packet, header-echo, size-sequenced}
+use Rattle.gpdu.specs.Header.{wholeSize, octet, refusalOf, headerOf, sequenceOf, Passed, header-passed, header-refused, header-packet, header-echo, size-optional, optional-sequenced}
 use borrow.Author.Needs.{needs}
 use Rattle.gpdu.proofs.Header.of.Statement.{statement}
 use Rattle.gpdu.proofs.Header.of.Tie as tie
@@ -21,7 +21,7 @@ passed c = header-passed (now (c .before .before .before .args .d)) (none c)
 whole : (c : tie.Then3) → wholeSize ≤ length (now (c .before .before .before .before .before .before .before .before .args .d))
 whole c =
     let d = now (c .before .before .before .before .before .before .before .before .args .d) in
-    let e = size-sequenced (octet d 0) (sym (c .before .sequenced .ensures) ∙ c .if3 .taken) in
+    let e = size-optional (octet d 0) (optional-sequenced (octet d 0) (sym (c .before .sequenced .ensures) ∙ c .if3 .taken)) in
     let p = passed (c .before .before .before .before .before) in
     omega (arith, p .whole)
 
