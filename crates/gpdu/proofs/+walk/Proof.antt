@@ -45,7 +45,7 @@ walk-returns-2 : (t : ℕ) → walk-lts.Need-returns-2 (
 ) (walk-at t) walk.Post
 walk-returns-2 t c =
     let a = c .before .before .before .before .args in
-    sym (stretch-must (now (a .rest)) (now (a .next)) (c .before .if1 .left) (a .more) (c .if2 .taken))
+    sym (stretch-must (now (a .rest)) (now (a .next)) (c .before .if1 .left) (a .more) (omega arith))
 
 -- src/lib.rt:165:9
 walk-extent-requires : (t : ℕ) → walk-lts.Need-extent-requires (
@@ -66,7 +66,7 @@ walk-returns-3 : (t : ℕ) → walk-lts.Need-returns-3 (
 walk-returns-3 t c =
     let a = c .before .before .before .before .before .before .args in
     let x = c .before .extent in
-    sym (stretch-unfit (now (a .rest)) (now (a .next)) (c .before .before .before .if1 .left) (x .result) (c .before .before .if2 .left) (x .ensures) (a .more) (c .if3 .taken))
+    sym (stretch-unfit (now (a .rest)) (now (a .next)) (c .before .before .before .if1 .left) (x .result) (omega arith) (x .ensures) (a .more) (c .if3 .taken))
 
 -- src/lib.rt:171:18
 walk-sub-next : (t : ℕ) → walk-lts.Need-sub-next (
@@ -111,7 +111,7 @@ walk-returns-4 : (t : ℕ) → walk-lts.Need-returns-4 (
 walk-returns-4 t c =
     let a = c .before .before .before .before .before .before .before .before .args in
     let x = c .before .before .before .extent in
-    sym (stretch-pause (now (a .rest)) (now (a .next)) (c .before .before .before .before .before .if1 .left) (x .result) (c .before .before .before .before .if2 .left) (x .ensures) (a .more) (c .if4 .taken) (c .before .before .if3 .left))
+    sym (stretch-pause (now (a .rest)) (now (a .next)) (c .before .before .before .before .before .if1 .left) (x .result) (omega arith) (x .ensures) (a .more) (c .if4 .taken) (c .before .before .if3 .left))
 
 -- src/lib.rt:176:10
 walk-sub-walk : (t : ℕ) → walk-lts.Need-sub-walk (
@@ -175,7 +175,7 @@ walk-returns-5 t c =
     let a = c .before .before .before .before .before .before .before .before .before .before .before .before .args in
     let x = c .before .before .before .before .before .before .before .extent in
     let e = simp tail-part at (c .walk .ensures) in
-    e ∙ sym (stretch-on (now (a .rest)) (now (a .next)) (c .before .before .before .before .before .before .before .before .before .if1 .left) (x .result) (c .before .before .before .before .before .before .before .before .if2 .left) (x .ensures) (a .more) (c .before .before .before .before .if4 .left) (c .before .before .before .before .before .before .if3 .left))
+    e ∙ sym (stretch-on (now (a .rest)) (now (a .next)) (c .before .before .before .before .before .before .before .before .before .if1 .left) (x .result) (omega arith) (x .ensures) (a .more) (c .before .before .before .before .if4 .left) (c .before .before .before .before .before .before .if3 .left))
 
 pub +walk-spec : {M : Type 1} → statement M
 +walk-spec = close μ-walk λ t. walk-lts.spec (
