@@ -2,17 +2,12 @@
 typedef unsigned char octet;
 typedef __SIZE_TYPE__ count;
 
-struct reading {
-    octet number;            /* document 01's number */
-    octet type;              /* the message type, where the number is 0, else 0 */
-    unsigned short sequence; /* of an echo */
-    unsigned int teid;       /* of a packet */
-    count start;             /* where the payload begins; the size of the datagram where it is refused */
-    count size;              /* of the payload */
-};
+/* Each reader answers the size of the payload, which ends where the datagram ends (0 where it is refused), and writes document 01's
+   number; of a header that is sound, whatever follows it, also the message type, the tunnel number of a packet and the sequence
+   number of an echo; else 0. */
 
-/* The proved reader (crate gpduhost): pointer, then length. */
-struct reading gpdu_read(const octet *d, count n);
+/* The proved reader (crate gpduhost): a slice is its pointer, then its length. */
+count gpdu_read(const octet *d, count n, octet *number, octet *type, unsigned int *teid, unsigned short *sequence);
 
 /* The host's own reading. */
-struct reading paper_read(const octet *d, count n);
+count paper_read(const octet *d, count n, octet *number, octet *type, unsigned int *teid, unsigned short *sequence);

@@ -87,7 +87,32 @@ headerNumber (Echo sequence) = 0
 headerNumber (Packet teid) = 0
 headerNumber (Refused number) = number
 
+-- and the values: the message type, the tunnel number and the sequence number, 0 where the case has none
+unfoldable pub headerType : Header → ℕ
+headerType (Echo sequence) = echoType
+headerType (Packet teid) = packetType
+headerType (Refused number) = 0
+
+unfoldable pub headerTeid : Header → ℕ
+headerTeid (Echo sequence) = 0
+headerTeid (Packet teid) = teid .0
+headerTeid (Refused number) = 0
+
+unfoldable pub headerSequence : Header → ℕ
+headerSequence (Echo sequence) = sequence
+headerSequence (Packet teid) = 0
+headerSequence (Refused number) = 0
+
+pub record Says (type teid sequence : ℕ) (header : Header) : Type 0 where
+  pub type-is : type ≡ headerType header
+  pub teid-is : teid ≡ headerTeid header
+  pub sequence-is : sequence ≡ headerSequence header
+
 -- ---- laws
+pub says-refused : (d : List ℕ) → (refusalOf d ≡ 0 → ⊥) → Says 0 0 0 (headerOf d)
+unfolding headerOf headerType headerTeid headerSequence
+says-refused d h = rw (ne-eqb (refusalOf d) 0 h) (record { type-is = refl; teid-is = refl; sequence-is = refl })
+
 -- with E or S set the optional part is there
 pub optional-extended : (first : ℕ) → extended first ≡ true → optional first ≡ true
 unfolding optional

@@ -2,7 +2,7 @@
 ghost use mathlib.Core.Path.{_≡_};
 ghost use Prim.Native.Nat.{_*_};
 ghost use lib.ListN.{length};
-ghost use Rattle.gpdu.specs.Header.{ours, extended, sequenced, optional, typeTaken, refusalOf, headerOf};
+ghost use Rattle.gpdu.specs.Header.{ours, extended, sequenced, optional, typeTaken, refusalOf, headerOf, headerType, headerTeid, headerSequence, Says};
 ghost use Rattle.gpdu.specs.Extensions.{extent, extensionsOf};
 ghost use Rattle.gpdu.specs.Stretch.{stretch, stretchOf};
 ghost use Rattle.gpdu.specs.User.{userOf};
@@ -55,17 +55,37 @@ impl Header {
         if why != 0 {
             return Header::Refused(why);
         }
-        if d[1] != Self::ECHO {
-            return Header::Packet {
-                teid: UserTeid(octets::be32(d[4], d[5], d[6], d[7])),
-            };
+        known(d)
+    }
+
+    // The message type, the tunnel number and the sequence number: 0 where the case has none.
+    pub fn type_number(self) -> u8
+        ensures { λ r. ⌜ r ≡ headerType self ⌝ }
+    {
+        match self {
+            Header::Echo { sequence: _ } => Self::ECHO,
+            Header::Packet { teid: _ } => Self::PACKET,
+            Header::Refused(_) => 0,
         }
-        if sequenced(d[0]) {
-            Header::Echo {
-                sequence: octets::be16(d[8], d[9]),
-            }
-        } else {
-            Header::Echo { sequence: 0 }
+    }
+
+    pub fn teid_number(self) -> u32
+        ensures { λ r. ⌜ r ≡ headerTeid self ⌝ }
+    {
+        match self {
+            Header::Echo { sequence: _ } => 0,
+            Header::Packet { teid } => teid.0,
+            Header::Refused(_) => 0,
+        }
+    }
+
+    pub fn sequence_number(self) -> u16
+        ensures { λ r. ⌜ r ≡ headerSequence self ⌝ }
+    {
+        match self {
+            Header::Echo { sequence } => sequence,
+            Header::Packet { teid: _ } => 0,
+            Header::Refused(_) => 0,
         }
     }
 }
@@ -126,6 +146,25 @@ fn refusal(d: &[u8]) -> u8
         return Header::CUT;
     }
     0
+}
+
+// What a datagram is whose header meets no refusal.
+fn known(d: &[u8]) -> Header
+    requires { ⌜ refusalOf (now d) ≡ 0 ⌝ }
+    ensures { λ r. ⌜ r ≡ headerOf (now (d .entry)) ⌝ }
+{
+    if d[1] != Header::ECHO {
+        return Header::Packet {
+            teid: UserTeid(octets::be32(d[4], d[5], d[6], d[7])),
+        };
+    }
+    if sequenced(d[0]) {
+        Header::Echo {
+            sequence: octets::be16(d[8], d[9]),
+        }
+    } else {
+        Header::Echo { sequence: 0 }
+    }
 }
 
 // How many octets the extension header in front says it has; 0 where there is none.
@@ -189,14 +228,11 @@ fn past_extensions<'a>(d: &'a [u8], first: u8, number: &mut u8) -> &'a [u8]
     &d[d.len() - left..]
 }
 
-// The payload, as the part of the datagram that it is, and the number of the whole reading.
-pub fn payload<'a>(d: &'a [u8], number: &mut u8) -> &'a [u8]
+// What lies past a header that meets no refusal, and past its extension headers.
+fn past_header<'a>(d: &'a [u8], number: &mut u8) -> &'a [u8]
+    requires { ⌜ refusalOf (now d) ≡ 0 ⌝ }
     ensures { λ r. ⌜ Reads (now (number .exit)) r (d .entry) (userOf (now (d .entry)) .number) (userOf (now (d .entry)) .size) ⌝ }
 {
-    let why = refusal(d);
-    if why != 0 {
-        return refuse(d, why, number);
-    }
     let first = d[0];
     if !optional(first) {
         *number = 0;
@@ -208,4 +244,40 @@ pub fn payload<'a>(d: &'a [u8], number: &mut u8) -> &'a [u8]
     }
     let next = d[11];
     past_extensions(&d[Header::WHOLE..], next, number)
+}
+
+// The payload, as the part of the datagram that it is, and document 01's number.
+pub fn payload<'a>(d: &'a [u8], number: &mut u8) -> &'a [u8]
+    ensures { λ r. ⌜ Reads (now (number .exit)) r (d .entry) (userOf (now (d .entry)) .number) (userOf (now (d .entry)) .size) ⌝ }
+{
+    let why = refusal(d);
+    if why != 0 {
+        return refuse(d, why, number);
+    }
+    past_header(d, number)
+}
+
+// The payload and the number, and with them what the header says: its type, tunnel number and sequence number.
+pub fn read_user<'a>(
+    d: &'a [u8],
+    number: &mut u8,
+    kind: &mut u8,
+    teid: &mut u32,
+    sequence: &mut u16,
+) -> &'a [u8]
+    ensures { λ r. ⌜ Reads (now (number .exit)) r (d .entry) (userOf (now (d .entry)) .number) (userOf (now (d .entry)) .size)
+        × Says (now (kind .exit)) (now (teid .exit)) (now (sequence .exit)) (headerOf (now (d .entry))) ⌝ }
+{
+    let why = refusal(d);
+    if why != 0 {
+        *kind = 0;
+        *teid = 0;
+        *sequence = 0;
+        return refuse(d, why, number);
+    }
+    let header = known(d);
+    *kind = header.type_number();
+    *teid = header.teid_number();
+    *sequence = header.sequence_number();
+    past_header(d, number)
 }

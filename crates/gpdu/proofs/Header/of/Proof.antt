@@ -1,9 +1,6 @@
-use Prim.Native.Nat.{_≤_}
-use mathlib.Core.Path.{_≡_, refl, sym, _∙_, ap}
-use native.Mathlib.Omega.{arith}
-use lib.ListN.{length}
+use mathlib.Core.Path.{sym, _∙_}
 use denote.Ref.{now}
-use Rattle.gpdu.specs.Header.{wholeSize, octet, refusalOf, headerOf, sequenceOf, Passed, header-passed, header-refused, header-packet, header-echo, size-optional, optional-sequenced}
+use Rattle.gpdu.specs.Header.{header-refused}
 use borrow.Author.Needs.{needs}
 use Rattle.gpdu.proofs.Header.of.Statement.{statement}
 use Rattle.gpdu.proofs.Header.of.Tie as tie
@@ -11,93 +8,17 @@ use Rattle.gpdu.proofs.Header.of.Tie as tie
 refusal-requires : tie.Need-refusal-requires
 refusal-requires c κs = search needs
 
-none : (c : tie.Else1) → refusalOf (now (c .before .before .before .args .d)) ≡ 0
-none c = sym (c .before .refusal .ensures) ∙ c .if1 .left
-
-passed : (c : tie.Else1) → Passed (now (c .before .before .before .args .d))
-passed c = header-passed (now (c .before .before .before .args .d)) (none c)
-
--- with S set all 12 octets are there
-whole : (c : tie.Then3) → wholeSize ≤ length (now (c .before .before .before .before .before .before .before .before .args .d))
-whole c =
-    let d = now (c .before .before .before .before .before .before .before .before .args .d) in
-    let e = size-optional (octet d 0) (optional-sequenced (octet d 0) (sym (c .before .sequenced .ensures) ∙ c .if3 .taken)) in
-    let p = passed (c .before .before .before .before .before) in
-    omega (arith, p .whole)
-
 returns : tie.Need-returns
 returns c =
     let d = now (c .before .before .before .args .d) in
     let e = c .before .refusal .ensures in
     rw e (sym (header-refused d (λ z. c .if1 .taken (e ∙ z))))
 
-shared-slice-read-if2 : tie.Need-shared-slice-read-if2
-shared-slice-read-if2 c = let p = passed (c .before) in omega (arith, p .fixed)
-
-shared-slice-read-be32 : tie.Need-shared-slice-read-be32
-shared-slice-read-be32 c = let p = passed (c .before .before .before) in omega (arith, p .fixed)
-
-shared-slice-read-be32-2 : tie.Need-shared-slice-read-be32-2
-shared-slice-read-be32-2 c = let p = passed (c .before .before .before .before) in omega (arith, p .fixed)
-
-shared-slice-read-be32-3 : tie.Need-shared-slice-read-be32-3
-shared-slice-read-be32-3 c = let p = passed (c .before .before .before .before .before) in omega (arith, p .fixed)
-
-shared-slice-read-be32-4 : tie.Need-shared-slice-read-be32-4
-shared-slice-read-be32-4 c = let p = passed (c .before .before .before .before .before .before) in omega (arith, p .fixed)
-
-be32-requires : tie.Need-be32-requires
-be32-requires c κs = search needs
+known-requires : tie.Need-known-requires
+known-requires c κs = search needs
 
 returns-2 : tie.Need-returns-2
-returns-2 c =
-    let d = now (c .before .before .before .before .before .before .before .before .before .before .args .d) in
-    rw (header-packet d (none (c .before .before .before .before .before .before .before)) (c .before .before .before .before .before .if2 .taken), ← (c .be32 .ensures))
-
-shared-slice-read-sequenced : tie.Need-shared-slice-read-sequenced
-shared-slice-read-sequenced c = let p = passed (c .before .before .before) in omega (arith, p .fixed)
-
-sequenced-requires : tie.Need-sequenced-requires
-sequenced-requires c κs = search needs
-
-shared-slice-read-be16 : tie.Need-shared-slice-read-be16
-shared-slice-read-be16 c = let p = whole (c .before) in omega arith
-
-shared-slice-read-be16-2 : tie.Need-shared-slice-read-be16-2
-shared-slice-read-be16-2 c = let p = whole (c .before .before) in omega arith
-
-be16-requires : tie.Need-be16-requires
-be16-requires c κs = search needs
-
-returns-3 : tie.Need-returns-3
-unfolding sequenceOf
-returns-3 c =
-    let d = now (c .before .before .before .before .before .before .before .before .before .before .before .args .d) in
-    rw (header-echo d (none (c .before .before .before .before .before .before .before .before)) (c .before .before .before .before .before .before .if2 .left), ← (c .before .before .before .before .sequenced .ensures), c .before .before .before .if3 .taken, ← (c .be16 .ensures))
-
-returns-4 : tie.Need-returns-4
-unfolding sequenceOf
-returns-4 c =
-    let d = now (c .before .before .before .before .before .before .before .before .args .d) in
-    rw (header-echo d (none (c .before .before .before .before .before)) (c .before .before .before .if2 .left), ← (c .before .sequenced .ensures), c .if3 .left)
+returns-2 c = search needs
 
 pub of-spec : {M : Type 1} → statement M
-of-spec =
-    tie.close
-    (tie.spec
-    refusal-requires
-    returns
-    shared-slice-read-if2
-    shared-slice-read-be32
-    shared-slice-read-be32-2
-    shared-slice-read-be32-3
-    shared-slice-read-be32-4
-    be32-requires
-    returns-2
-    shared-slice-read-sequenced
-    sequenced-requires
-    shared-slice-read-be16
-    shared-slice-read-be16-2
-    be16-requires
-    returns-3
-    returns-4)
+of-spec = tie.close (tie.spec refusal-requires returns known-requires returns-2)
