@@ -11,8 +11,8 @@ Inv-loop n text from₀ from = from ≤ length text + 1
 abbrev μ-loop : tie.MeasureT-loop
 μ-loop n text from₀ from = length text + 1 - from
 
-large-buffer-requires : tie.Need-large-buffer-requires Inv-loop μ-loop
-large-buffer-requires c κs = search needs
+buffer-requires : tie.Need-buffer-requires Inv-loop μ-loop
+buffer-requires c κs = search needs
 
 slice-aggregate-read-full : tie.Need-slice-aggregate-read-full Inv-loop μ-loop
 slice-aggregate-read-full c = search needs
@@ -62,7 +62,7 @@ main-spec =
     (tie.spec
     Inv-loop
     μ-loop
-    large-buffer-requires
+    buffer-requires
     slice-aggregate-read-full
     read-full-requires
     array-share-prefix-buffer
