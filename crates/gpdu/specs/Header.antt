@@ -1,7 +1,7 @@
 -- The header of a user datagram (document 01, "User header"): its first octet, its 8 octets and the optional 4, what the
 -- datagram is, and the refusals 3, 12, 6, 7 and 13 in document 01's order.
 -- Assumes nothing.
-use Prim.Native.Nat.{ℕ, _+_, _-_, _/_, _%_, _<_, _≤_}
+use Prim.Native.Nat.{ℕ, _-_, _/_, _%_, _≤_}
 use mathlib.Core.Bool.{Bool, true, false, not, _&&_, _||_}
 use mathlib.Core.List.{List, [], _∷_}
 use mathlib.Core.Path.{_≡_, refl, sym}

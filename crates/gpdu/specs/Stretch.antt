@@ -1,8 +1,8 @@
 -- The walk over the extension headers in stretches of a few headers each, so that how deep the calls go is not the sender's choice.
 -- Assumes nothing.
-use Prim.Native.Nat.{ℕ, zero, suc, _+_, _-_, _*_, _<_, _≤_}
-use mathlib.Core.Bool.{Bool, true, false, _||_}
-use mathlib.Core.List.{List, [], _∷_}
+use Prim.Native.Nat.{ℕ, zero, suc, _+_, _-_, _<_, _≤_}
+use mathlib.Core.Bool.{true, false, _||_}
+use mathlib.Core.List.{List}
 use mathlib.Core.Path.{_≡_, refl, sym, _∙_, ap}
 use native.Mathlib.Nat.{zero-add, sub-zero}
 use native.Mathlib.Omega.{arith}
@@ -10,8 +10,8 @@ use lib.ListN.{length, drop, getD, length-drop}
 use lib.Seq.{drop-drop}
 use lib.Dec.{eqb, leb, ltb}
 use borrow.Author.Tests.{eq-eqb, ne-eqb, le-leb, lt-leb, eqb-true, eqb-false, leb-true, leb-false}
-use Rattle.octets.specs.Choice.{pick, split, tests}
-use Rattle.gpdu.specs.Extensions.{Walk, refused, beyond, firstMust, extent, unfit, nextType, extensionsOf, ext-end, ext-must, ext-unfit, ext-next, fit, fit-extent}
+use Rattle.octets.specs.Choice.{pick, split}
+use Rattle.gpdu.specs.Extensions.{Walk, beyond, firstMust, extent, unfit, nextType, extensionsOf, ext-end, ext-must, ext-unfit, ext-next, fit-extent}
 
 -- where a stretch stops: the number, the type in front of which it pauses (0 where the walk has ended), the octets left
 pub record Stretch : Type 0 where

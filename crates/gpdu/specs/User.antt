@@ -1,17 +1,17 @@
 -- What a user datagram says, without the table: what it is, document 01's number, and where its payload begins.
 -- Assumes nothing.
-use Prim.Native.Nat.{ℕ, _+_, _-_, _<_, _≤_}
-use mathlib.Core.Bool.{Bool, true, false}
-use mathlib.Core.List.{List, [], _∷_, _++_}
-use mathlib.Core.Path.{_≡_, refl, sym, _∙_, ap}
+use Prim.Native.Nat.{ℕ, _+_, _-_, _≤_}
+use mathlib.Core.Bool.{true, false}
+use mathlib.Core.List.{List, _++_}
+use mathlib.Core.Path.{_≡_, refl}
 use native.Mathlib.Nat.{add-zero}
 use native.Mathlib.Omega.{arith}
-use lib.ListN.{length, drop, take, getD, length-drop, take-append-drop}
+use lib.ListN.{length, drop, take, length-take, length-drop, take-append-drop}
 use lib.Dec.{eqb}
-use borrow.Author.Tests.{eq-eqb, ne-eqb, eqb-true, eqb-false}
-use Rattle.octets.specs.Choice.{pick, split, tests}
+use borrow.Author.Tests.{eq-eqb, ne-eqb, eqb-true}
+use Rattle.octets.specs.Choice.{pick, split}
 use Rattle.gpdu.specs.declared.Header.{Header}
-use Rattle.gpdu.specs.Header.{refusalOf, headerOf, sizeOf, extended, octet, Passed, header-passed}
+use Rattle.gpdu.specs.Header.{refusalOf, headerOf, sizeOf, extended, octet, header-passed}
 use Rattle.gpdu.specs.Extensions.{Walk, refused, beyond, extensionsOf, ext-end, ext-within}
 
 -- what it is by its header, document 01's number, and the size of the header with its extension headers: the payload lies past
@@ -73,6 +73,7 @@ user-within d =
     rw a (omega (arith, p .whole)))
     (λ a. rw a (omega arith))
 
--- header and payload are the whole datagram
-pub user-whole : (d : List ℕ) → take (userOf d .size) d ++ drop (userOf d .size) d ≡ d
-user-whole d = take-append-drop (userOf d .size) d
+-- the header has just the octets that its size says, and header and payload are the whole datagram
+pub user-whole : (d : List ℕ)
+    → (length (take (userOf d .size) d) ≡ userOf d .size) × (take (userOf d .size) d ++ drop (userOf d .size) d ≡ d)
+user-whole d = let w = user-within d in (simp length-take (omega arith), take-append-drop (userOf d .size) d)

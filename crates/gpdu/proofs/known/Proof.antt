@@ -1,9 +1,9 @@
 use Prim.Native.Nat.{_≤_}
-use mathlib.Core.Path.{_≡_, refl, sym, _∙_}
+use mathlib.Core.Path.{sym, _∙_}
 use native.Mathlib.Omega.{arith}
 use lib.ListN.{length}
 use denote.Ref.{now}
-use Rattle.gpdu.specs.Header.{wholeSize, octet, headerOf, sequenceOf, Passed, header-passed, header-packet, header-echo, size-optional, optional-sequenced}
+use Rattle.gpdu.specs.Header.{wholeSize, octet, sequenceOf, Passed, header-passed, header-packet, header-echo, size-optional, optional-sequenced}
 use borrow.Author.Needs.{needs}
 use Rattle.gpdu.proofs.known.Statement.{statement}
 use Rattle.gpdu.proofs.known.Tie as tie

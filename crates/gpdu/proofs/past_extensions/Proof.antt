@@ -7,7 +7,6 @@ use borrow.Author.Needs.{needs}
 use Rattle.octets.specs.Places.{tail-part}
 use Rattle.gpdu.specs.Extensions.{extensionsOf}
 use Rattle.gpdu.specs.Stretch.{stretch, resumed, owed, resumed-start, run-done, run-less, run-within, run-on}
-use Rattle.gpdu.specs.Part.{IsRest}
 use Rattle.gpdu.proofs.past_extensions.Statement.{statement}
 use Rattle.gpdu.proofs.past_extensions.Tie as tie
 

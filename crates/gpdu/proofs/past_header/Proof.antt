@@ -7,7 +7,7 @@ use borrow.Author.Tests.{not-true, not-false}
 use Rattle.octets.specs.Places.{tail-part}
 use Rattle.gpdu.specs.Header.{fixedSize, wholeSize, octet, sizeOf, Passed, header-passed, optional-plain, size-optional, size-plain}
 use Rattle.gpdu.specs.User.{user-plain, user-extended}
-use Rattle.gpdu.specs.Part.{IsRest, rest-walked}
+use Rattle.gpdu.specs.Part.{rest-walked}
 use borrow.Author.Needs.{needs}
 use Rattle.gpdu.proofs.past_header.Statement.{statement}
 use Rattle.gpdu.proofs.past_header.Tie as tie

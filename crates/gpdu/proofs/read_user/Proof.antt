@@ -1,6 +1,6 @@
-use mathlib.Core.Path.{_≡_, _∙_, ap}
+use mathlib.Core.Path.{_∙_, ap}
 use denote.Ref.{now}
-use Rattle.gpdu.specs.Header.{headerType, headerTeid, headerSequence, Says, says-refused}
+use Rattle.gpdu.specs.Header.{headerType, headerTeid, headerSequence, says-refused}
 use Rattle.gpdu.specs.User.{user-refused}
 use borrow.Author.Needs.{needs}
 use Rattle.gpdu.proofs.read_user.Statement.{statement}

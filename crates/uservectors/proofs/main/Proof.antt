@@ -1,6 +1,5 @@
 use borrow.Author.Needs.{needs}
 use Prim.Native.Nat.{_+_, _-_, _≤_}
-use mathlib.Core.Path.{_≡_}
 use lib.ListN.{length}
 use Rattle.uservectors.proofs.main.Statement.{statement}
 use Rattle.uservectors.proofs.main.Tie as tie
