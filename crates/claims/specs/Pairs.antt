@@ -5,13 +5,18 @@ use Prim.Native.Nat.{ℕ}
 use mathlib.Core.Bool.{Bool, true, false, not, _&&_}
 use mathlib.Core.List.{List, [], _∷_}
 use mathlib.Core.Path.{_≡_, refl}
-use lib.ListN.{length, getD}
+use lib.ListN.{length, drop, getD}
 use lib.Dec.{eqb}
 use Rattle.octets.specs.Choice.{pick}
 use Rattle.octets.specs.Every.{every}
 use Rattle.octets.specs.Below.{sumTo}
+use Rattle.octets.specs.BigEndian.{numberFrom, numberOf}
+use Rattle.octets.specs.Same.{sameOctets}
 use Rattle.tunnel.specs.Numbering.{places, base, controlOffset, userOffset, lastUse, teids}
 use Rattle.tunnel.specs.Tunnel.{numberAt, controlNumber, userNumber, nextUse}
+use Rattle.gpdu.specs.Header.{ours, optional, sizeOf, typeTaken, refusalOf, headerOf, headerTeid, sequenceOf}
+use Rattle.gpdu.specs.Extensions.{unfit, walkOf, extensionsOf}
+use Rattle.gpdu.specs.User.{firstType, walkPast, userOf}
 use Rattle.sharing.specs.Sharing.{share, sharable, admitted}
 
 pub data Pair : Type 0 where
@@ -21,6 +26,8 @@ pub data Pair : Type 0 where
   follows : ℕ → ℕ → Pair
   -- guarantees, ceilings and live sessions by access point; who asks; whether a new session is admitted
   asks : List ℕ → List ℕ → List ℕ → ℕ → Bool → Pair
+  -- a user datagram before the table is asked: its number, its tunnel number, where its payload begins, and the payload
+  reads : List ℕ → ℕ → ℕ → ℕ → List ℕ → Pair
 
 same : Bool → Bool → Bool
 same true b = b
@@ -30,6 +37,9 @@ pub holds : Pair → Bool
 holds (numbers place usage control user) = eqb (controlNumber usage place) control && eqb (userNumber usage place) user
 holds (follows usage next) = eqb (nextUse usage) next
 holds (asks g c u a admits) = same (admitted (length g) (λ b. getD g b 0) (λ b. getD c b 0) (λ b. getD u b 0) a) admits
+holds (reads d number teid start payload) =
+    eqb (userOf d .number) number && eqb (headerTeid (userOf d .header)) teid && eqb (userOf d .size) start
+    && sameOctets (drop (userOf d .size) d) payload
 
 pub pairs : List Pair
 pairs =
@@ -39,11 +49,16 @@ pairs =
     ∷ asks (10 ∷ 20 ∷ []) (64 ∷ 64 ∷ []) (44 ∷ 0 ∷ []) 0 false
     ∷ asks (10 ∷ 20 ∷ []) (64 ∷ 64 ∷ []) (44 ∷ 0 ∷ []) 1 true
     ∷ asks (10 ∷ 20 ∷ []) (64 ∷ 64 ∷ []) (43 ∷ 0 ∷ []) 0 true
+    ∷ reads (0x30 ∷ 0xFF ∷ 0 ∷ 0x04 ∷ 0 ∷ 0 ∷ 1 ∷ 0x80 ∷ 0x45 ∷ 0 ∷ 0 ∷ 0 ∷ []) 0 384 8 (0x45 ∷ 0 ∷ 0 ∷ 0 ∷ [])
+    ∷ reads (0x30 ∷ 0xFF ∷ 0 ∷ 0x05 ∷ 0 ∷ 0 ∷ 1 ∷ 0x80 ∷ 0x45 ∷ 0 ∷ 0 ∷ 0 ∷ []) 6 0 12 []
+    ∷ reads (0x34 ∷ 0xFF ∷ 0 ∷ 0x0C ∷ 0 ∷ 0 ∷ 1 ∷ 0x80 ∷ 0 ∷ 0 ∷ 0 ∷ 0x40 ∷ 1 ∷ 0x12 ∷ 0x34 ∷ 0 ∷ 0x45 ∷ 0 ∷ 0 ∷ 0 ∷ []) 0 384 16 (0x45 ∷ 0 ∷ 0 ∷ 0 ∷ [])
+    ∷ reads (0x34 ∷ 0xFF ∷ 0 ∷ 0x0C ∷ 0 ∷ 0 ∷ 1 ∷ 0x80 ∷ 0 ∷ 0 ∷ 0 ∷ 0xC0 ∷ 1 ∷ 0x12 ∷ 0x34 ∷ 0 ∷ 0x45 ∷ 0 ∷ 0 ∷ 0 ∷ []) 14 384 20 []
+    ∷ reads (0x34 ∷ 0xFF ∷ 0 ∷ 0x0C ∷ 0 ∷ 0 ∷ 1 ∷ 0x80 ∷ 0 ∷ 0 ∷ 0 ∷ 0x40 ∷ 0 ∷ 0x12 ∷ 0x34 ∷ 0 ∷ 0x45 ∷ 0 ∷ 0 ∷ 0 ∷ []) 13 384 20 []
     ∷ []
 
 pub PairsHold : Type 0
 PairsHold = every holds pairs ≡ true
 
 pub pairs-hold : PairsHold
-unfolding PairsHold pairs holds same every numberAt nextUse share sharable admitted sumTo places base controlOffset userOffset lastUse teids
+unfolding PairsHold pairs holds same every numberAt nextUse share sharable admitted sumTo places base controlOffset userOffset lastUse teids numberFrom numberOf sameOctets ours optional sizeOf typeTaken refusalOf headerOf headerTeid sequenceOf unfit walkOf extensionsOf firstType walkPast userOf
 pairs-hold = refl

@@ -1,0 +1,188 @@
+-- The header of a user datagram (document 01, "User header"): its first octet, its 8 octets and the optional 4, what the
+-- datagram is, and the refusals 3, 12, 6, 7 and 13 in document 01's order.
+-- Assumes nothing.
+use Prim.Native.Nat.{ℕ, _-_, _/_, _%_, _≤_}
+use mathlib.Core.Bool.{Bool, true, false, not, _&&_, _||_}
+use mathlib.Core.List.{List, [], _∷_}
+use mathlib.Core.Path.{_≡_, refl, sym}
+use native.Mathlib.Omega.{arith}
+use lib.ListN.{length, getD}
+use lib.Dec.{eqb, ltb}
+use borrow.Author.Tests.{eq-eqb, ne-eqb, eqb-true, ltb-false}
+use Rattle.octets.specs.BigEndian.{numberOf}
+use Rattle.octets.specs.Choice.{pick, split, or-true, impossible}
+use Rattle.gpdu.specs.declared.Header.{Header}
+use Rattle.gpdu.specs.declared.Header.the-variants.{Echo, Packet, Refused}
+
+-- the octets of every header, and of one with the optional part
+abbrev pub fixedSize : ℕ
+fixedSize = 8
+
+abbrev pub wholeSize : ℕ
+wholeSize = 12
+
+-- the message types taken
+abbrev pub echoType : ℕ
+echoType = 1
+
+abbrev pub packetType : ℕ
+packetType = 255
+
+-- ---- the first octet: version (3 bits), PT, an ignored bit, E, S, PN
+unfoldable pub ours : ℕ → Bool
+ours first = eqb (first / 32) 1 && eqb (first / 16 % 2) 1
+
+abbrev pub extended : ℕ → Bool
+extended first = eqb (first / 4 % 2) 1
+
+abbrev pub sequenced : ℕ → Bool
+sequenced first = eqb (first / 2 % 2) 1
+
+abbrev pub numbered : ℕ → Bool
+numbered first = eqb (first % 2) 1
+
+-- any of E, S, PN: the 4 optional octets are there
+unfoldable pub optional : ℕ → Bool
+optional first = extended first || sequenced first || numbered first
+
+unfoldable pub sizeOf : ℕ → ℕ
+sizeOf first = pick (optional first) wholeSize fixedSize
+
+unfoldable pub typeTaken : ℕ → Bool
+typeTaken type = eqb type echoType || eqb type packetType
+
+-- ---- the octets in their places
+abbrev pub octet : List ℕ → ℕ → ℕ
+octet d i = getD d i 0
+
+abbrev pub lengthOf : List ℕ → ℕ
+lengthOf d = numberOf (octet d 2 ∷ octet d 3 ∷ [])
+
+abbrev pub teidOf : List ℕ → ℕ
+teidOf d = numberOf (octet d 4 ∷ octet d 5 ∷ octet d 6 ∷ octet d 7 ∷ [])
+
+-- 0 if S is unset
+unfoldable pub sequenceOf : List ℕ → ℕ
+sequenceOf d = pick {A = ℕ} (sequenced (octet d 0)) (numberOf (octet d 8 ∷ octet d 9 ∷ [])) 0
+
+-- the number of the first refusal that the header meets, or 0
+unfoldable pub refusalOf : List ℕ → ℕ
+refusalOf d =
+    pick {A = ℕ} (ltb (length d) fixedSize) 3
+    (pick (not (ours (octet d 0))) 12
+    (pick (not (eqb (lengthOf d) (length d - fixedSize))) 6
+    (pick (not (typeTaken (octet d 1))) 7
+    (pick (optional (octet d 0) && ltb (length d) wholeSize) 13 0))))
+
+-- what the datagram is, as far as its first 12 octets say
+unfoldable pub headerOf : List ℕ → Header
+headerOf d =
+    pick (eqb (refusalOf d) 0)
+    (pick (eqb (octet d 1) echoType) (Echo (sequenceOf d)) (Packet (record { 0 = teidOf d })))
+    (Refused (refusalOf d))
+
+-- document 01's number for each case of the answer
+unfoldable pub headerNumber : Header → ℕ
+headerNumber (Echo sequence) = 0
+headerNumber (Packet teid) = 0
+headerNumber (Refused number) = number
+
+-- and the values: the message type, the tunnel number and the sequence number, 0 where the case has none
+unfoldable pub headerType : Header → ℕ
+headerType (Echo sequence) = echoType
+headerType (Packet teid) = packetType
+headerType (Refused number) = 0
+
+unfoldable pub headerTeid : Header → ℕ
+headerTeid (Echo sequence) = 0
+headerTeid (Packet teid) = teid .0
+headerTeid (Refused number) = 0
+
+unfoldable pub headerSequence : Header → ℕ
+headerSequence (Echo sequence) = sequence
+headerSequence (Packet teid) = 0
+headerSequence (Refused number) = 0
+
+pub record Says (type teid sequence : ℕ) (header : Header) : Type 0 where
+  pub type-is : type ≡ headerType header
+  pub teid-is : teid ≡ headerTeid header
+  pub sequence-is : sequence ≡ headerSequence header
+
+-- ---- laws
+pub says-refused : (d : List ℕ) → (refusalOf d ≡ 0 → ⊥) → Says 0 0 0 (headerOf d)
+unfolding headerOf headerType headerTeid headerSequence
+says-refused d h = rw (ne-eqb (refusalOf d) 0 h) (record { type-is = refl; teid-is = refl; sequence-is = refl })
+
+-- with E or S set the optional part is there
+pub optional-extended : (first : ℕ) → extended first ≡ true → optional first ≡ true
+unfolding optional
+optional-extended first e = rw e
+
+pub optional-sequenced : (first : ℕ) → sequenced first ≡ true → optional first ≡ true
+unfolding optional
+optional-sequenced first e = rw (e, or-true)
+
+pub optional-plain : (first : ℕ) → optional first ≡ false → extended first ≡ false
+unfolding optional
+optional-plain first e = split (extended first) (λ a. impossible (sym (rw a at e))) (λ a. a)
+
+pub size-optional : (first : ℕ) → optional first ≡ true → sizeOf first ≡ wholeSize
+unfolding sizeOf
+size-optional first e = rw e
+
+pub size-plain : (first : ℕ) → optional first ≡ false → sizeOf first ≡ fixedSize
+unfolding sizeOf
+size-plain first e = rw e
+
+-- what a header that is not refused has
+pub record Passed (d : List ℕ) : Type 0 where
+  pub is-ours : ours (octet d 0) ≡ true
+  pub exact : lengthOf d ≡ length d - fixedSize
+  pub is-taken : typeTaken (octet d 1) ≡ true
+  pub fixed : fixedSize ≤ length d
+  pub whole : sizeOf (octet d 0) ≤ length d
+
+whole-size : (first n : ℕ) → fixedSize ≤ n → (optional first && ltb n wholeSize) ≡ false → sizeOf first ≤ n
+whole-size first n f e =
+    split (optional first)
+    (λ a. let b : ltb n wholeSize ≡ false = rw a at e in rw (size-optional first a) (ltb-false n wholeSize b))
+    (λ a. rw (size-plain first a) f)
+
+pub header-passed : (d : List ℕ) → refusalOf d ≡ 0 → Passed d
+unfolding refusalOf
+header-passed d e =
+    split (ltb (length d) fixedSize) (λ a. let z = rw a at e in absurd (omega arith))
+    (λ a. let e₁ = rw a at e in
+    split (ours (octet d 0))
+    (λ b. let e₂ = rw b at e₁ in
+    split (eqb (lengthOf d) (length d - fixedSize))
+    (λ f. let e₃ = rw f at e₂ in
+    split (typeTaken (octet d 1))
+    (λ g. let e₄ = rw g at e₃ in
+    split (optional (octet d 0) && ltb (length d) wholeSize) (λ h. let z = rw h at e₄ in absurd (omega arith))
+    (λ h. let k = ltb-false (length d) fixedSize a in
+    record { is-ours = b; exact = eqb-true _ _ f; is-taken = g; fixed = k; whole = whole-size (octet d 0) (length d) k h }))
+    (λ g. let z = rw g at e₃ in absurd (omega arith)))
+    (λ f. let z = rw f at e₂ in absurd (omega arith)))
+    (λ b. let z = rw b at e₁ in absurd (omega arith)))
+
+-- the cases of the answer
+pub header-refused : (d : List ℕ) → (refusalOf d ≡ 0 → ⊥) → headerOf d ≡ Refused (refusalOf d)
+unfolding headerOf
+header-refused d h = rw (ne-eqb _ _ h)
+
+module _ (d : List ℕ) (passed : refusalOf d ≡ 0) where
+  pub header-packet : (octet d 1 ≡ echoType → ⊥) → headerOf d ≡ Packet (record { 0 = teidOf d })
+  unfolding headerOf
+  header-packet h = rw (eq-eqb _ _ passed, ne-eqb _ _ h)
+
+  pub header-echo : octet d 1 ≡ echoType → headerOf d ≡ Echo (sequenceOf d)
+  unfolding headerOf
+  header-echo h = rw (eq-eqb _ _ passed, eq-eqb _ _ h)
+
+pub header-number : (d : List ℕ) → headerNumber (headerOf d) ≡ refusalOf d
+unfolding headerOf headerNumber
+header-number d =
+    split (eqb (refusalOf d) 0)
+    (λ a. split (eqb (octet d 1) echoType) (λ b. rw (a, b) (sym (eqb-true _ _ a))) (λ b. rw (a, b) (sym (eqb-true _ _ a))))
+    (λ a. rw a)

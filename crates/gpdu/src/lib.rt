@@ -1,0 +1,283 @@
+// Reading user datagrams (GTPv1-U), without the table: what a datagram is by its header, and its payload as a part of it.
+ghost use mathlib.Core.Path.{_≡_};
+ghost use Prim.Native.Nat.{_*_};
+ghost use lib.ListN.{length};
+ghost use Rattle.gpdu.specs.Header.{ours, extended, sequenced, optional, typeTaken, refusalOf, headerOf, headerType, headerTeid, headerSequence, Says};
+ghost use Rattle.gpdu.specs.Extensions.{extent, extensionsOf};
+ghost use Rattle.gpdu.specs.Stretch.{stretch, stretchOf};
+ghost use Rattle.gpdu.specs.User.{userOf};
+ghost use Rattle.gpdu.specs.Part.{Reads};
+use tunnel::UserTeid;
+
+// What a user datagram is, as far as its first 12 octets say.
+pub enum Header {
+    Echo { sequence: u16 },
+    Packet { teid: UserTeid },
+    Refused(u8),
+}
+
+impl Header {
+    // The octets of every header, and of one with the optional part.
+    pub const FIXED: usize = 8;
+
+    pub const WHOLE: usize = 12;
+
+    // The message types taken.
+    pub const ECHO: u8 = 1;
+
+    pub const PACKET: u8 = 255;
+
+    // An extension's length counts units of 4 octets; from the type 128 on it must be understood.
+    pub const UNIT: usize = 4;
+
+    pub const FIRST_MUST: u8 = 128;
+
+    // How deep the calls of a walk go, less one: it is the unit's stack that this bounds, and not the number of headers.
+    pub const STRETCH: usize = 15;
+
+    // The refusals' numbers.
+    pub const SHORT: u8 = 3;
+
+    pub const UNEQUAL: u8 = 6;
+
+    pub const NOT_TAKEN: u8 = 7;
+
+    pub const NOT_OURS: u8 = 12;
+
+    pub const CUT: u8 = 13;
+
+    pub const MUST: u8 = 14;
+
+    pub fn of(d: &[u8]) -> Self
+        ensures { λ r. ⌜ r ≡ headerOf (now (d .entry)) ⌝ }
+    {
+        let why = refusal(d);
+        if why != 0 {
+            return Header::Refused(why);
+        }
+        known(d)
+    }
+
+    // The message type, the tunnel number and the sequence number: 0 where the case has none.
+    pub fn type_number(self) -> u8
+        ensures { λ r. ⌜ r ≡ headerType self ⌝ }
+    {
+        match self {
+            Header::Echo { sequence: _ } => Self::ECHO,
+            Header::Packet { teid: _ } => Self::PACKET,
+            Header::Refused(_) => 0,
+        }
+    }
+
+    pub fn teid_number(self) -> u32
+        ensures { λ r. ⌜ r ≡ headerTeid self ⌝ }
+    {
+        match self {
+            Header::Echo { sequence: _ } => 0,
+            Header::Packet { teid } => teid.0,
+            Header::Refused(_) => 0,
+        }
+    }
+
+    pub fn sequence_number(self) -> u16
+        ensures { λ r. ⌜ r ≡ headerSequence self ⌝ }
+    {
+        match self {
+            Header::Echo { sequence } => sequence,
+            Header::Packet { teid: _ } => 0,
+            Header::Refused(_) => 0,
+        }
+    }
+}
+
+// The first octet: version 1 and PT 1; the flags E and S; whether any of E, S and PN is set.
+fn ours(first: u8) -> bool
+    ensures { λ r. ⌜ r ≡ ours first ⌝ }
+{
+    (first / 32 == 1) & (first / 16 % 2 == 1)
+}
+
+fn extended(first: u8) -> bool
+    ensures { λ r. ⌜ r ≡ extended first ⌝ }
+{
+    first / 4 % 2 == 1
+}
+
+fn sequenced(first: u8) -> bool
+    ensures { λ r. ⌜ r ≡ sequenced first ⌝ }
+{
+    first / 2 % 2 == 1
+}
+
+fn optional(first: u8) -> bool
+    ensures { λ r. ⌜ r ≡ optional first ⌝ }
+{
+    (first / 4 % 2 == 1) | (first / 2 % 2 == 1) | (first % 2 == 1)
+}
+
+fn type_taken(kind: u8) -> bool
+    ensures { λ r. ⌜ r ≡ typeTaken kind ⌝ }
+{
+    (kind == Header::ECHO) | (kind == Header::PACKET)
+}
+
+// The number of the first refusal that the header meets, or 0.
+fn refusal(d: &[u8]) -> u8
+    ensures { λ r. ⌜ r ≡ refusalOf (now (d .entry)) ⌝ }
+{
+    if d.len() < Header::FIXED {
+        return Header::SHORT;
+    }
+    let first = d[0];
+    if !ours(first) {
+        return Header::NOT_OURS;
+    }
+    let length = octets::be16(d[2], d[3]);
+    if length as usize != d.len() - Header::FIXED {
+        return Header::UNEQUAL;
+    }
+    if !type_taken(d[1]) {
+        return Header::NOT_TAKEN;
+    }
+    if !optional(first) {
+        return 0;
+    }
+    if d.len() < Header::WHOLE {
+        return Header::CUT;
+    }
+    0
+}
+
+// What a datagram is whose header meets no refusal.
+fn known(d: &[u8]) -> Header
+    requires { ⌜ refusalOf (now d) ≡ 0 ⌝ }
+    ensures { λ r. ⌜ r ≡ headerOf (now (d .entry)) ⌝ }
+{
+    if d[1] != Header::ECHO {
+        return Header::Packet {
+            teid: UserTeid(octets::be32(d[4], d[5], d[6], d[7])),
+        };
+    }
+    if sequenced(d[0]) {
+        Header::Echo {
+            sequence: octets::be16(d[8], d[9]),
+        }
+    } else {
+        Header::Echo { sequence: 0 }
+    }
+}
+
+// How many octets the extension header in front says it has; 0 where there is none.
+fn extent(rest: &[u8]) -> usize
+    ensures { λ r. ⌜ r ≡ extent (now (rest .entry)) ⌝ }
+{
+    if rest.len() == 0 {
+        return 0;
+    }
+    octets::wide(rest[0]) * Header::UNIT
+}
+
+// Nothing is left: the empty end of d, and the number why.
+fn refuse<'a>(d: &'a [u8], why: u8, number: &mut u8) -> &'a [u8]
+    ensures { λ r. ⌜ Reads (now (number .exit)) r (d .entry) why (length (now (d .entry))) ⌝ }
+{
+    *number = why;
+    &d[d.len()..]
+}
+
+// A stretch of the walk over the extension headers in rest: past the one in front, of the type next, and at most so many more.
+// It answers how many octets are left; next becomes the type in front of which it pauses, 0 where the walk has ended.
+fn walk(rest: &[u8], more: usize, next: &mut u8, number: &mut u8) -> usize
+    ensures { λ r. ⌜ stretch (now (number .exit)) (now (next .exit)) r ≡ stretchOf more (now (rest .entry)) (now (next .entry)) ⌝ }
+{
+    let kind = *next;
+    if kind == 0 {
+        *number = 0;
+        return rest.len();
+    }
+    if Header::FIRST_MUST <= kind {
+        *next = 0;
+        *number = Header::MUST;
+        return 0;
+    }
+    let n = extent(rest);
+    if (n == 0) | (rest.len() < n) {
+        *next = 0;
+        *number = Header::CUT;
+        return 0;
+    }
+    *next = rest[n - 1];
+    if more == 0 {
+        *number = 0;
+        return rest.len() - n;
+    }
+    walk(&rest[n..], more - 1, next, number)
+}
+
+// What is left past the extension headers in d, of which the first has the type first.
+fn past_extensions<'a>(d: &'a [u8], first: u8, number: &mut u8) -> &'a [u8]
+    ensures { λ r. ⌜ Reads (now (number .exit)) r (d .entry) (extensionsOf (now (d .entry)) first .number)
+        (extensionsOf (now (d .entry)) first .size) ⌝ }
+{
+    let mut next = first;
+    let mut left = d.len();
+    *number = 0;
+    while next != 0 {
+        left = walk(&d[d.len() - left..], Header::STRETCH, &mut next, number);
+    }
+    &d[d.len() - left..]
+}
+
+// What lies past a header that meets no refusal, and past its extension headers.
+fn past_header<'a>(d: &'a [u8], number: &mut u8) -> &'a [u8]
+    requires { ⌜ refusalOf (now d) ≡ 0 ⌝ }
+    ensures { λ r. ⌜ Reads (now (number .exit)) r (d .entry) (userOf (now (d .entry)) .number) (userOf (now (d .entry)) .size) ⌝ }
+{
+    let first = d[0];
+    if !optional(first) {
+        *number = 0;
+        return &d[Header::FIXED..];
+    }
+    if !extended(first) {
+        *number = 0;
+        return &d[Header::WHOLE..];
+    }
+    let next = d[11];
+    past_extensions(&d[Header::WHOLE..], next, number)
+}
+
+// The payload, as the part of the datagram that it is, and document 01's number.
+pub fn payload<'a>(d: &'a [u8], number: &mut u8) -> &'a [u8]
+    ensures { λ r. ⌜ Reads (now (number .exit)) r (d .entry) (userOf (now (d .entry)) .number) (userOf (now (d .entry)) .size) ⌝ }
+{
+    let why = refusal(d);
+    if why != 0 {
+        return refuse(d, why, number);
+    }
+    past_header(d, number)
+}
+
+// The payload and the number, and with them what the header says: its type, tunnel number and sequence number.
+pub fn read_user<'a>(
+    d: &'a [u8],
+    number: &mut u8,
+    kind: &mut u8,
+    teid: &mut u32,
+    sequence: &mut u16,
+) -> &'a [u8]
+    ensures { λ r. ⌜ Reads (now (number .exit)) r (d .entry) (userOf (now (d .entry)) .number) (userOf (now (d .entry)) .size)
+        × Says (now (kind .exit)) (now (teid .exit)) (now (sequence .exit)) (headerOf (now (d .entry))) ⌝ }
+{
+    let why = refusal(d);
+    if why != 0 {
+        *kind = 0;
+        *teid = 0;
+        *sequence = 0;
+        return refuse(d, why, number);
+    }
+    let header = known(d);
+    *kind = header.type_number();
+    *teid = header.teid_number();
+    *sequence = header.sequence_number();
+    past_header(d, number)
+}
