@@ -1,0 +1,88 @@
+-- Each of these calls keeps the table rules: a table that kept them before keeps them after.
+-- Assumes nothing.
+use Prim.Native.Nat.{ℕ, _<_, _≤_}
+use mathlib.Core.Bool.{Bool, true, false, not, _&&_}
+use mathlib.Core.List.{List, map}
+use mathlib.Core.Path.{_≡_, refl, sym, _∙_}
+use native.Mathlib.Omega.{arith}
+use lib.ListN.{length, getD, replicate}
+use lib.Dec.{eqb, ltb}
+use borrow.Author.Tests.{eqb-true, ltb-true}
+use Rattle.octets.specs.Choice.{pick, split}
+use Rattle.octets.specs.Search.{firstOf, first-passes}
+use Rattle.tunnel.specs.Numbering.{places}
+use Rattle.plan.specs.declared.Plan.{Plan}
+use Rattle.plan.specs.Plan.{accepted}
+use Rattle.session.specs.declared.Request.{Request}
+use Rattle.session.specs.Request.{lastNumber, idle, sentOnce}
+use Rattle.session.specs.Session.{isDue, closed, sent}
+use Rattle.table.specs.declared.Node.{Node}
+use Rattle.table.specs.declared.Table.{Table}
+use Rattle.table.specs.Rules.{keepsRules, Rules, rules-of, rules-to}
+use Rattle.table.specs.Change.{nobody, changedAt, rules-closed}
+use Rattle.table.specs.Number.{after, after-range, awaited, takenNumber, taken-free, taken-range}
+use Rattle.table.specs.Own.{rested, freshNode, duePlace, echoTicked, allTicked, rules-fresh, rules-tick, rules-next, rules-echo-sent, rules-sent}
+use Rattle.timing.specs.Timing.{leastReply, timed, held, refused, freshOf, tickOf, closable, closeOf, stepped, echoSent, placeSent, dueSent, sendOf}
+
+-- from an accepted plan a table starts that keeps its rules
+pub fresh-keeps : (p : Plan) → accepted p ≡ true → keepsRules (freshOf p .node) (freshOf p .table .recs) ≡ true
+unfolding freshOf held freshNode places
+fresh-keeps p e = rw e (rules-to (freshNode p) (replicate places nobody) (rules-fresh p e))
+
+module _ (node : Node) (t : Table) (e : keepsRules node (t .recs) ≡ true) where
+  rules : Rules (node .plan) (node .echo) (node .next) (t .recs)
+  rules = rules-of node (t .recs) e
+
+  pub tick-keeps : keepsRules (tickOf node t .node) (tickOf node t .table .recs) ≡ true
+  unfolding tickOf timed held
+  tick-keeps =
+      rw e (rules-to (timed (echoTicked (node .plan) (node .echo)) (node .next) node) (allTicked (node .plan) (node .echo) (t .recs))
+      (rules-tick (node .plan) (node .echo) (node .next) (t .recs) rules))
+
+  pub close-keeps : (i : ℕ) → keepsRules (closeOf node t i .node) (closeOf node t i .table .recs) ≡ true
+  unfolding closeOf held refused
+  close-keeps i =
+      split (closable i (t .recs))
+      (λ q. rw (e, q) (rules-to node (changedAt closed i (t .recs)) (rules-closed (node .plan) (node .echo) (node .next) (t .recs) rules i)))
+      (λ q. rw (e, q) e)
+
+  -- the number that a send takes is awaited by nobody
+  abbrev number : ℕ
+  number = takenNumber (node .next) (node .echo) (t .recs)
+
+  step-range : (sends k : ℕ) → stepped sends k (node .next) ≤ lastNumber
+  unfolding stepped
+  step-range sends k = split (eqb sends 0) (λ q. rw q (after-range k)) (λ q. rw q (rules .counted))
+
+  pub send-keeps : (reply : List ℕ) → keepsRules (sendOf node t reply .answer .node) (sendOf node t reply .answer .table .recs) ≡ true
+  unfolding sendOf dueSent echoSent placeSent refused timed held duePlace
+  send-keeps reply =
+      split (ltb (length reply) leastReply) (λ q. rw q e)
+      (λ q. split (eqb (node .echo .timer) 0)
+      (λ z. rw (q, e, z) (echo (eqb-true (node .echo .timer) 0 z)))
+      (λ z. split (ltb (firstOf isDue (t .recs)) (length (t .recs)))
+      (λ d. rw (q, e, z, d) (place (ltb-true (firstOf isDue (t .recs)) (length (t .recs)) d)))
+      (λ d. rw (q, e, z, d) e)))
+    where
+      free : awaited number (node .echo) (t .recs) ≡ 0
+      free = taken-free (node .next) (node .echo) (t .recs) (rules .size) (rules .counted)
+
+      range : number ≤ lastNumber
+      range = taken-range (node .next) (node .echo) (t .recs) (rules .counted)
+
+      echo : node .echo .timer ≡ 0 → keepsRules (timed (sentOnce (node .plan .resend) number (node .echo)) (stepped (node .echo .sends) number (node .next)) node) (t .recs) ≡ true
+      echo due =
+          rules-to (timed (sentOnce (node .plan .resend) number (node .echo)) (stepped (node .echo .sends) number (node .next)) node) (t .recs)
+          (rules-next (node .plan) (sentOnce (node .plan .resend) number (node .echo)) (node .next) (t .recs)
+          (rules-echo-sent (node .plan) (node .echo) (node .next) (t .recs) rules number range free due)
+          (stepped (node .echo .sends) number (node .next)) (step-range (node .echo .sends) number))
+
+      place : firstOf isDue (t .recs) < length (t .recs)
+          → keepsRules (timed (node .echo) (stepped (getD (t .recs) (firstOf isDue (t .recs)) nobody .own .sends) number (node .next)) node)
+          (changedAt (sent (node .plan .resend) number) (firstOf isDue (t .recs)) (t .recs)) ≡ true
+      place h =
+          rules-to (timed (node .echo) (stepped (getD (t .recs) (firstOf isDue (t .recs)) nobody .own .sends) number (node .next)) node)
+          (changedAt (sent (node .plan .resend) number) (firstOf isDue (t .recs)) (t .recs))
+          (rules-next (node .plan) (node .echo) (node .next) (changedAt (sent (node .plan .resend) number) (firstOf isDue (t .recs)) (t .recs))
+          (rules-sent (node .plan) (node .echo) (node .next) (t .recs) rules number (firstOf isDue (t .recs)) range free (first-passes isDue (t .recs) nobody h))
+          (stepped (getD (t .recs) (firstOf isDue (t .recs)) nobody .own .sends) number (node .next)) (step-range (getD (t .recs) (firstOf isDue (t .recs)) nobody .own .sends) number))
