@@ -8,10 +8,6 @@ use mathlib.Core.Path.{_≡_, refl, sym, _∙_}
 use Prim.Native.Nat.{ℕ, _≤_, _<_, _+_, _-_}
 use Rattle.fields.proofs.find.Statement.{statement}
 use Rattle.fields.proofs.find.Tie as tie
-use Rattle.fields.proofs.find.Reads as reads
-use Rattle.fields.proofs.find.Lts as lts
-use Rattle.fields.proofs.named.Reads as named-reads
-use Rattle.fields.proofs.size_of.Reads as size-of-reads
 
 abbrev Inv-loop : tie.InvT-loop
 Inv-loop s kind instance p₀ p = find s kind instance ≡ firstIn (fieldsAt s p) kind instance
@@ -19,93 +15,73 @@ Inv-loop s kind instance p₀ p = find s kind instance ≡ firstIn (fieldsAt s p
 abbrev μ-loop : tie.MeasureT-loop
 μ-loop s kind instance p₀ p = length s - p
 
--- src/lib.rt:69:5
 loop-holds : tie.Need-loop-holds Inv-loop μ-loop
 loop-holds c = find-start _ _ _
 
--- src/lib.rt:70:12
 sub-if1 : tie.Need-sub-if1 Inv-loop μ-loop
 sub-if1 c = search needs
 
--- src/lib.rt:71:13
 returns : tie.Need-returns Inv-loop μ-loop
 returns c = let s = now (c .before .before .before .before .args .s) in let k = c .before .before .loop in
     sym (k .inv ∙ first-none s (k .p) _ _ (fields-cut s (k .p) (omega arith)))
 
--- src/lib.rt:73:30
 add-size-of : tie.Need-add-size-of Inv-loop μ-loop
 add-size-of c = search needs
 
--- src/lib.rt:73:28
 shared-slice-read-size-of : tie.Need-shared-slice-read-size-of Inv-loop μ-loop
 shared-slice-read-size-of c = search needs
 
--- src/lib.rt:73:40
 add-size-of-2 : tie.Need-add-size-of-2 Inv-loop μ-loop
 add-size-of-2 c = search needs
 
--- src/lib.rt:73:38
 shared-slice-read-size-of-2 : tie.Need-shared-slice-read-size-of-2 Inv-loop μ-loop
 shared-slice-read-size-of-2 c = search needs
 
--- src/lib.rt:73:13
 size-of-requires : tie.Need-size-of-requires Inv-loop μ-loop
 size-of-requires c κs = search needs
 
--- src/lib.rt:74:21
 add-start : tie.Need-add-start Inv-loop μ-loop
 add-start c = search needs
 
--- src/lib.rt:75:12
 sub-if2 : tie.Need-sub-if2 Inv-loop μ-loop
 sub-if2 c = search needs
 
--- src/lib.rt:76:13
 returns-2 : tie.Need-returns-2 Inv-loop μ-loop
 unfolding sizeAt
 returns-2 c = let s = now (c .before .before .before .before .before .before .before .before .args .s) in let k = c .before .before .before .before .before .before .loop in
     let e : c .before .size-of .result ≡ sizeAt s (k .p) = c .before .size-of .ensures in
     sym (k .inv ∙ first-none s (k .p) _ _ (fields-past s (k .p) (omega arith) (omega arith)))
 
--- src/lib.rt:78:18
 shared-slice-read-named : tie.Need-shared-slice-read-named Inv-loop μ-loop
 shared-slice-read-named c = search needs
 
--- src/lib.rt:78:26
 add-named : tie.Need-add-named Inv-loop μ-loop
 add-named c = search needs
 
--- src/lib.rt:78:24
 shared-slice-read-named-2 : tie.Need-shared-slice-read-named-2 Inv-loop μ-loop
 shared-slice-read-named-2 c = search needs
 
--- src/lib.rt:78:12
 named-requires : tie.Need-named-requires Inv-loop μ-loop
 named-requires c κs = search needs
 
--- src/lib.rt:79:13
 returns-3 : tie.Need-returns-3 Inv-loop μ-loop
 unfolding sizeAt
 returns-3 c = let s = now (c .before .before .before .before .before .before .before .before .before .before .before .before .args .s) in let k = c .before .before .before .before .before .before .before .before .before .before .loop in
     let e : c .before .before .before .before .before .size-of .result ≡ sizeAt s (k .p) = c .before .before .before .before .before .size-of .ensures in
     sym (k .inv ∙ first-here s (k .p) _ _ (omega arith) (omega arith) (sym (c .before .named .ensures) ∙ c .if3 .taken) ∙ rw e)
 
--- src/lib.rt:81:13
 add-p : tie.Need-add-p Inv-loop μ-loop
 add-p c = search needs
 
--- src/lib.rt:69:5
 loop-less : tie.Need-loop-less Inv-loop μ-loop
 loop-less c = search needs
 
--- src/lib.rt:69:5
 loop-again : tie.Need-loop-again Inv-loop μ-loop
 unfolding sizeAt
 loop-again c = let s = now (c .before .before .before .before .before .before .before .before .before .before .before .before .args .s) in let k = c .before .before .before .before .before .before .before .before .before .before .loop in
     let e : c .before .before .before .before .before .size-of .result ≡ sizeAt s (k .p) = c .before .before .before .before .before .size-of .ensures in
     k .inv ∙ first-later s (k .p) _ _ (omega arith) (omega arith) (sym (c .before .named .ensures) ∙ c .if3 .left) ∙ rw e
 
--- src/lib.rt:65:1
 returns-4 : tie.Need-returns-4 Inv-loop μ-loop
 returns-4 c = let s = now (c .before .before .before .args .s) in let k = c .before .loop in
     sym (k .inv ∙ first-none s (k .p) _ _ (fields-cut s (k .p) (omega arith)))

@@ -2,10 +2,7 @@ use Rattle.fields.specs.Search.{named}
 use mathlib.Core.Path.{_≡_, refl}
 use Rattle.fields.proofs.named.Statement.{statement}
 use Rattle.fields.proofs.named.Tie as tie
-use Rattle.fields.proofs.named.Reads as reads
-use Rattle.fields.proofs.named.Lts as lts
 
--- src/lib.rt:58:1
 returns : tie.Need-returns
 unfolding named
 returns c = refl

@@ -4,18 +4,13 @@ use mathlib.Core.Path.{sym}
 use borrow.Author.Needs.{needs}
 use Rattle.fields.proofs.octet_at.Statement.{statement}
 use Rattle.fields.proofs.octet_at.Tie as tie
-use Rattle.fields.proofs.octet_at.Reads as reads
-use Rattle.fields.proofs.octet_at.Lts as lts
 
--- src/lib.rt:29:23
 shared-slice-read-result : tie.Need-shared-slice-read-result
 shared-slice-read-result c = search needs
 
--- src/lib.rt:26:1
 returns : tie.Need-returns
 returns c = search needs
 
--- src/lib.rt:26:1
 returns-2 : tie.Need-returns-2
 returns-2 c = sym (List·getD-eq-default (now (c .before .args .s)) 0 (c .if1 .left))
 

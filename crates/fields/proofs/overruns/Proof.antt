@@ -7,9 +7,6 @@ use mathlib.Core.Path.{_≡_, refl, sym, _∙_}
 use Prim.Native.Nat.{ℕ, _≤_, _<_, _+_, _-_}
 use Rattle.fields.proofs.overruns.Statement.{statement}
 use Rattle.fields.proofs.overruns.Tie as tie
-use Rattle.fields.proofs.overruns.Reads as reads
-use Rattle.fields.proofs.overruns.Lts as lts
-use Rattle.fields.proofs.size_of.Reads as size-of-reads
 
 abbrev Inv-loop : tie.InvT-loop
 Inv-loop s p₀ p = overruns s ≡ overAt s p
@@ -17,70 +14,55 @@ Inv-loop s p₀ p = overruns s ≡ overAt s p
 abbrev μ-loop : tie.MeasureT-loop
 μ-loop s p₀ p = length s - p
 
--- src/lib.rt:43:5
 loop-holds : tie.Need-loop-holds Inv-loop μ-loop
 loop-holds c = over-start _
 
--- src/lib.rt:44:12
 sub-if1 : tie.Need-sub-if1 Inv-loop μ-loop
 sub-if1 c = search needs
 
--- src/lib.rt:45:13
 returns : tie.Need-returns Inv-loop μ-loop
 returns c = let s = now (c .before .before .before .before .args .s) in let k = c .before .before .loop in
     sym (k .inv ∙ over-cut s (k .p) (omega arith) (omega arith))
 
--- src/lib.rt:47:30
 add-size-of : tie.Need-add-size-of Inv-loop μ-loop
 add-size-of c = search needs
 
--- src/lib.rt:47:28
 shared-slice-read-size-of : tie.Need-shared-slice-read-size-of Inv-loop μ-loop
 shared-slice-read-size-of c = search needs
 
--- src/lib.rt:47:40
 add-size-of-2 : tie.Need-add-size-of-2 Inv-loop μ-loop
 add-size-of-2 c = search needs
 
--- src/lib.rt:47:38
 shared-slice-read-size-of-2 : tie.Need-shared-slice-read-size-of-2 Inv-loop μ-loop
 shared-slice-read-size-of-2 c = search needs
 
--- src/lib.rt:47:13
 size-of-requires : tie.Need-size-of-requires Inv-loop μ-loop
 size-of-requires c κs = search needs
 
--- src/lib.rt:48:21
 add-start : tie.Need-add-start Inv-loop μ-loop
 add-start c = search needs
 
--- src/lib.rt:49:12
 sub-if2 : tie.Need-sub-if2 Inv-loop μ-loop
 sub-if2 c = search needs
 
--- src/lib.rt:50:13
 returns-2 : tie.Need-returns-2 Inv-loop μ-loop
 unfolding sizeAt
 returns-2 c = let s = now (c .before .before .before .before .before .before .before .before .args .s) in let k = c .before .before .before .before .before .before .loop in
     let e : c .before .size-of .result ≡ sizeAt s (k .p) = c .before .size-of .ensures in
     sym (k .inv ∙ over-past s (k .p) (omega arith) (omega arith))
 
--- src/lib.rt:52:13
 add-p : tie.Need-add-p Inv-loop μ-loop
 add-p c = search needs
 
--- src/lib.rt:43:5
 loop-less : tie.Need-loop-less Inv-loop μ-loop
 loop-less c = search needs
 
--- src/lib.rt:43:5
 loop-again : tie.Need-loop-again Inv-loop μ-loop
 unfolding sizeAt
 loop-again c = let s = now (c .before .before .before .before .before .before .before .before .args .s) in let k = c .before .before .before .before .before .before .loop in
     let e : c .before .size-of .result ≡ sizeAt s (k .p) = c .before .size-of .ensures in
     k .inv ∙ over-next s (k .p) (omega arith) (omega arith) ∙ rw e
 
--- src/lib.rt:39:1
 returns-3 : tie.Need-returns-3 Inv-loop μ-loop
 returns-3 c = sym (c .before .loop .inv ∙ over-end _ _ (c .loop-test .left))
 

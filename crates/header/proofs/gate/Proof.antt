@@ -1,83 +1,82 @@
+use Rattle.header.specs.Gate.{gateOf, controlVersion, createType}
+use Rattle.header.specs.Header.{versionOf, flagP, flagT, kindOf, lengthOf, teidOf, headerSize, headerOf}
+use Rattle.header.specs.Types.{flagOf, notTaken}
+use lib.ListN.{length}
+use denote.Ref.{now}
+use borrow.Author.Tests.{lt-ltb, le-ltb, eq-eqb, ne-eqb}
+use mathlib.Core.Path.{_≡_, refl, sym, _∙_}
+use Prim.Native.Nat.{_<_, _≤_}
 use borrow.Author.Needs.{needs}
 use Rattle.header.proofs.gate.Statement.{statement}
 use Rattle.header.proofs.gate.Tie as tie
-use Rattle.header.proofs.gate.Reads as reads
-use Rattle.header.proofs.gate.Lts as lts
-use Rattle.header.proofs.HeaderCursor.of.Reads as of-reads
-use Rattle.header.proofs.flag_of.Reads as flag-of-reads
-use Rattle.octets.proofs.be16.Reads as be16-reads
 
--- src/lib.rt:108:9
 returns : tie.Need-returns
-returns c = ?
+unfolding gateOf
+returns c = simp (lt-ltb _ _ (c .if1 .taken))
 
--- src/lib.rt:110:17
 shared-slice-read-first : tie.Need-shared-slice-read-first
 shared-slice-read-first c = search needs
 
--- src/lib.rt:112:9
 returns-2 : tie.Need-returns-2
-returns-2 c = ?
+unfolding gateOf versionOf controlVersion
+returns-2 c = simp (le-ltb _ _ (c .before .before .if1 .left), ne-eqb _ _ (c .if2 .taken))
 
--- src/lib.rt:115:9
 returns-3 : tie.Need-returns-3
-returns-3 c = ?
+unfolding gateOf versionOf flagP controlVersion
+returns-3 c = simp (le-ltb _ _ (c .before .before .before .if1 .left), eq-eqb _ _ (c .before .if2 .left), eq-eqb _ _ (c .if3 .taken))
 
--- src/lib.rt:117:24
 shared-slice-read-flag-of : tie.Need-shared-slice-read-flag-of
 shared-slice-read-flag-of c = search needs
 
--- src/lib.rt:117:9
 flag-of-requires : tie.Need-flag-of-requires
 flag-of-requires c κs = search needs
 
--- src/lib.rt:119:9
 returns-4 : tie.Need-returns-4
-returns-4 c = ?
+unfolding gateOf versionOf flagP kindOf controlVersion notTaken
+returns-4 c = simp (le-ltb _ _ (c .before .before .before .before .before .before .if1 .left), eq-eqb _ _ (c .before .before .before .before .if2 .left), ne-eqb _ _ (c .before .before .before .if3 .left), eq-eqb _ _ (sym (c .before .flag-of .ensures) ∙ c .if4 .taken))
 
--- src/lib.rt:122:9
 returns-5 : tie.Need-returns-5
-returns-5 c = ?
+unfolding gateOf versionOf flagP flagT kindOf controlVersion notTaken
+returns-5 c = let e = c .before .before .flag-of .ensures in simp (le-ltb _ _ (c .before .before .before .before .before .before .before .if1 .left), eq-eqb _ _ (c .before .before .before .before .before .if2 .left), ne-eqb _ _ (c .before .before .before .before .if3 .left), sym e, ne-eqb _ _ (c .before .if4 .left), ne-eqb _ _ (c .if5 .taken))
 
--- src/lib.rt:124:31
 shared-slice-read-be16 : tie.Need-shared-slice-read-be16
 shared-slice-read-be16 c = search needs
 
--- src/lib.rt:124:37
 shared-slice-read-be16-2 : tie.Need-shared-slice-read-be16-2
 shared-slice-read-be16-2 c = search needs
 
--- src/lib.rt:124:18
 be16-requires : tie.Need-be16-requires
 be16-requires c κs = search needs
 
--- src/lib.rt:124:18
 cast-stated : tie.Need-cast-stated
 cast-stated c = search needs
 
--- src/lib.rt:125:8
 add-if6 : tie.Need-add-if6
 add-if6 c = search needs
 
--- src/lib.rt:126:9
 returns-6 : tie.Need-returns-6
-returns-6 c = ?
+unfolding gateOf versionOf flagP flagT kindOf lengthOf controlVersion notTaken
+returns-6 c = simp (le-ltb _ _ (c .before .before .before .before .before .before .before .before .before .before .before .if1 .left), eq-eqb _ _ (c .before .before .before .before .before .before .before .before .before .if2 .left), ne-eqb _ _ (c .before .before .before .before .before .before .before .before .if3 .left), sym (c .before .before .before .before .before .before .flag-of .ensures), ne-eqb _ _ (c .before .before .before .before .before .if4 .left), eq-eqb _ _ (c .before .before .before .before .if5 .left), sym (c .before .be16 .ensures), ne-eqb _ _ (c .if6 .taken))
 
--- src/lib.rt:128:9
 of-requires : tie.Need-of-requires
 of-requires c κs = search needs
 
--- src/lib.rt:130:9
 returns-7 : tie.Need-returns-7
-returns-7 c = ?
+unfolding gateOf versionOf flagP flagT kindOf lengthOf controlVersion notTaken headerOf
+returns-7 c = let h : length (now (c .before .before .before .before .before .before .before .before .before .before .before .before .before .before .before .before .args .d)) < headerSize (now (c .before .before .before .before .before .before .before .before .before .before .before .before .before .before .before .before .args .d)) = rw (c .before .before .of .ensures) at (c .if7 .taken) in
+    simp (le-ltb _ _ (c .before .before .before .before .before .before .before .before .before .before .before .before .before .before .if1 .left), eq-eqb _ _ (c .before .before .before .before .before .before .before .before .before .before .before .before .if2 .left), ne-eqb _ _ (c .before .before .before .before .before .before .before .before .before .before .before .if3 .left), sym (c .before .before .before .before .before .before .before .before .before .flag-of .ensures), ne-eqb _ _ (c .before .before .before .before .before .before .before .before .if4 .left), eq-eqb _ _ (c .before .before .before .before .before .before .before .if5 .left), sym (c .before .before .before .before .be16 .ensures), eq-eqb _ _ (c .before .before .before .if6 .left), lt-ltb _ _ h)
 
--- src/lib.rt:133:9
 returns-8 : tie.Need-returns-8
-returns-8 c = ?
+unfolding gateOf versionOf flagP flagT kindOf lengthOf controlVersion createType notTaken headerOf
+returns-8 c = let h : headerSize (now (c .before .before .before .before .before .before .before .before .before .before .before .before .before .before .before .before .before .before .before .args .d)) ≤ length (now (c .before .before .before .before .before .before .before .before .before .before .before .before .before .before .before .before .before .before .before .args .d)) = rw (c .before .before .before .before .before .of .ensures) at (c .before .before .before .if7 .left) in
+    let k = rw (c .before .before .before .before .before .of .ensures) at (c .if8 .taken) in
+    simp (le-ltb _ _ (c .before .before .before .before .before .before .before .before .before .before .before .before .before .before .before .before .before .if1 .left), eq-eqb _ _ (c .before .before .before .before .before .before .before .before .before .before .before .before .before .before .before .if2 .left), ne-eqb _ _ (c .before .before .before .before .before .before .before .before .before .before .before .before .before .before .if3 .left), sym (c .before .before .before .before .before .before .before .before .before .before .before .before .flag-of .ensures), ne-eqb _ _ (c .before .before .before .before .before .before .before .before .before .before .before .if4 .left), eq-eqb _ _ (c .before .before .before .before .before .before .before .before .before .before .if5 .left), sym (c .before .before .before .before .before .before .before .be16 .ensures), eq-eqb _ _ (c .before .before .before .before .before .before .if6 .left), le-ltb _ _ h, k)
 
--- src/lib.rt:104:1
 returns-9 : tie.Need-returns-9
-returns-9 c = ?
+unfolding gateOf versionOf flagP flagT kindOf lengthOf controlVersion createType notTaken headerOf
+returns-9 c = let h : headerSize (now (c .before .before .before .before .before .before .before .before .before .before .before .before .before .before .before .before .before .before .before .args .d)) ≤ length (now (c .before .before .before .before .before .before .before .before .before .before .before .before .before .before .before .before .before .before .before .args .d)) = rw (c .before .before .before .before .before .of .ensures) at (c .before .before .before .if7 .left) in
+    let k = rw (c .before .before .before .before .before .of .ensures) at (c .if8 .left) in
+    simp (le-ltb _ _ (c .before .before .before .before .before .before .before .before .before .before .before .before .before .before .before .before .before .if1 .left), eq-eqb _ _ (c .before .before .before .before .before .before .before .before .before .before .before .before .before .before .before .if2 .left), ne-eqb _ _ (c .before .before .before .before .before .before .before .before .before .before .before .before .before .before .if3 .left), sym (c .before .before .before .before .before .before .before .before .before .before .before .before .flag-of .ensures), ne-eqb _ _ (c .before .before .before .before .before .before .before .before .before .before .before .if4 .left), eq-eqb _ _ (c .before .before .before .before .before .before .before .before .before .before .if5 .left), sym (c .before .before .before .before .before .before .before .be16 .ensures), eq-eqb _ _ (c .before .before .before .before .before .before .if6 .left), le-ltb _ _ h, k)
 
 pub gate-spec : {M : Type 1} → statement M
 gate-spec =

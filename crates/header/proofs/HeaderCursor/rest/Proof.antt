@@ -1,40 +1,37 @@
+use lib.ListN.{length}
+use Prim.Native.Nat.{_≤_}
+use Rattle.octets.specs.Places.{tail-part}
+use lib.ListN.{drop-of-length-le}
+use denote.Ref.{now}
+use native.Mathlib.Omega.{arith}
+use mathlib.Core.Path.{_≡_, refl, sym, _∙_}
 use borrow.Author.Needs.{needs}
 use Rattle.header.proofs.HeaderCursor.rest.Statement.{statement}
 use Rattle.header.proofs.HeaderCursor.rest.Tie as tie
-use Rattle.header.proofs.HeaderCursor.rest.Reads as reads
-use Rattle.header.proofs.HeaderCursor.rest.Lts as lts
 
--- src/lib.rt:97:20
 sub-result : tie.Need-sub-result
 sub-result c = search needs
 
--- src/lib.rt:97:20
 part-result-start : tie.Need-part-result-start
 part-result-start c = search needs
 
--- src/lib.rt:97:20
 part-result-end : tie.Need-part-result-end
 part-result-end c = search needs
 
--- src/lib.rt:97:13
 returns : tie.Need-returns
-returns c = ?
+returns c = tail-part (now (c .before .before .args .d)) (c .before .before .args .self .fields)
 
--- src/lib.rt:99:9
 sub-result-2 : tie.Need-sub-result-2
 sub-result-2 c = search needs
 
--- src/lib.rt:99:9
 part-result-start-2 : tie.Need-part-result-start-2
 part-result-start-2 c = search needs
 
--- src/lib.rt:99:9
 part-result-end-2 : tie.Need-part-result-end-2
 part-result-end-2 c = search needs
 
--- src/lib.rt:92:5
 returns-2 : tie.Need-returns-2
-returns-2 c = ?
+returns-2 c = let h : length (now (c .before .before .args .d)) ≤ c .before .before .args .self .fields = omega arith in sym (drop-of-length-le (now (c .before .before .args .d)) h)
 
 pub rest-spec : {M : Type 1} → statement M
 rest-spec =
