@@ -1,0 +1,56 @@
+use borrow.Author.Needs.{needs}
+use Rattle.readers.proofs.recovery_in.Statement.{statement}
+use Rattle.readers.proofs.recovery_in.Tie as tie
+use Rattle.readers.proofs.recovery_in.Reads as reads
+use Rattle.readers.proofs.recovery_in.Lts as lts
+use Rattle.readers.proofs.octet_in.Reads as octet-in-reads
+
+-- src/lib.rt:228:11
+octet-in-requires : tie.Need-octet-in-requires
+octet-in-requires c κs = search needs
+
+-- src/lib.rt:229:22
+enum-known-x : tie.Need-enum-known-x
+enum-known-x c = search needs
+
+-- src/lib.rt:230:27
+enum-told : tie.Need-enum-told
+enum-told c = search needs
+
+-- src/lib.rt:231:25
+enum-told-2 : tie.Need-enum-told-2
+enum-told-2 c = search needs
+
+-- src/lib.rt:232:25
+enum-told-3 : tie.Need-enum-told-3
+enum-told-3 c = search needs
+
+-- src/lib.rt:225:1
+returns : tie.Need-returns
+returns c = ?
+
+-- src/lib.rt:225:1
+returns-2 : tie.Need-returns-2
+returns-2 c = ?
+
+-- src/lib.rt:225:1
+returns-3 : tie.Need-returns-3
+returns-3 c = ?
+
+-- src/lib.rt:225:1
+returns-4 : tie.Need-returns-4
+returns-4 c = ?
+
+pub recovery-in-spec : {M : Type 1} → statement M
+recovery-in-spec =
+    tie.close
+    (tie.spec
+    octet-in-requires
+    enum-known-x
+    enum-told
+    enum-told-2
+    enum-told-3
+    returns
+    returns-2
+    returns-3
+    returns-4)

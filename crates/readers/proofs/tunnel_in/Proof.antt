@@ -1,0 +1,62 @@
+use borrow.Author.Needs.{needs}
+use Rattle.readers.proofs.tunnel_in.Statement.{statement}
+use Rattle.readers.proofs.tunnel_in.Tie as tie
+use Rattle.readers.proofs.tunnel_in.Reads as reads
+use Rattle.readers.proofs.tunnel_in.Lts as lts
+use Rattle.fields.proofs.find.Reads as find-reads
+use Rattle.values.proofs.tunnel_of.Reads as tunnel-of-reads
+
+-- src/lib.rt:217:37
+find-requires : tie.Need-find-requires
+find-requires c κs = search needs
+
+-- src/lib.rt:217:21
+enum-known-start : tie.Need-enum-known-start
+enum-known-start c = search needs
+
+-- src/lib.rt:218:9
+enum-told : tie.Need-enum-told
+enum-told c = search needs
+
+-- src/lib.rt:218:9
+returns : tie.Need-returns
+returns c = ?
+
+-- src/lib.rt:220:15
+add-end : tie.Need-add-end
+add-end c = ?
+
+-- src/lib.rt:221:23
+sub-tunnel-of : tie.Need-sub-tunnel-of
+sub-tunnel-of c = search needs
+
+-- src/lib.rt:221:23
+part-tunnel-of-start : tie.Need-part-tunnel-of-start
+part-tunnel-of-start c = search needs
+
+-- src/lib.rt:221:23
+part-tunnel-of-end : tie.Need-part-tunnel-of-end
+part-tunnel-of-end c = ?
+
+-- src/lib.rt:221:5
+tunnel-of-requires : tie.Need-tunnel-of-requires
+tunnel-of-requires c κs = search needs
+
+-- src/lib.rt:214:1
+returns-2 : tie.Need-returns-2
+returns-2 c = ?
+
+pub tunnel-in-spec : {M : Type 1} → statement M
+tunnel-in-spec =
+    tie.close
+    (tie.spec
+    find-requires
+    enum-known-start
+    enum-told
+    returns
+    add-end
+    sub-tunnel-of
+    part-tunnel-of-start
+    part-tunnel-of-end
+    tunnel-of-requires
+    returns-2)
