@@ -1,3 +1,7 @@
+use Rattle.readers.proofs.Left.{left-judged}
+use Rattle.readers.specs.Readers.{ebiIn}
+use borrow.Author.Tests.{lt-ltb, le-ltb}
+use mathlib.Core.Path.{sym, _∙_}
 use borrow.Author.Needs.{needs}
 use Rattle.readers.proofs.ebi_in.Statement.{statement}
 use Rattle.readers.proofs.ebi_in.Tie as tie
@@ -15,15 +19,18 @@ enum-known-f c = search needs
 
 -- src/lib.rt:195:9
 returns : tie.Need-returns
-returns c = ?
+unfolding ebiIn
+returns c = rw (sym (c .before .octet-in .ensures)) (left-judged _ _ (c .match .keys2))
 
 -- src/lib.rt:198:9
 returns-2 : tie.Need-returns-2
-returns-2 c = ?
+unfolding ebiIn
+returns-2 c = rw (sym (c .before .before .before .before .octet-in .ensures) ∙ c .before .before .f .given .1, lt-ltb _ _ (c .if1 .taken))
 
 -- src/lib.rt:190:1
 returns-3 : tie.Need-returns-3
-returns-3 c = ?
+unfolding ebiIn
+returns-3 c = rw (sym (c .before .before .before .before .octet-in .ensures) ∙ c .before .before .f .given .1, le-ltb _ _ (c .if1 .left))
 
 pub ebi-in-spec : {M : Type 1} → statement M
 ebi-in-spec = tie.close (tie.spec octet-in-requires enum-known-f returns returns-2 returns-3)

@@ -1,3 +1,8 @@
+use Rattle.readers.specs.Readers.{imsiIn, imsiAt}
+use Rattle.fields.specs.Search.{find-within}
+use Rattle.octets.specs.Places.{part-of}
+use native.Mathlib.Omega.{arith}
+use mathlib.Core.Path.{sym, _∙_}
 use borrow.Author.Needs.{needs}
 use Rattle.readers.proofs.imsi_in.Statement.{statement}
 use Rattle.readers.proofs.imsi_in.Tie as tie
@@ -20,11 +25,12 @@ enum-told c = search needs
 
 -- src/lib.rt:207:9
 returns : tie.Need-returns
-returns c = ?
+unfolding imsiIn imsiAt
+returns c = rw (sym (c .before .before .find .ensures) ∙ c .enum-told .given .1)
 
 -- src/lib.rt:209:15
 add-end : tie.Need-add-end
-add-end c = ?
+add-end c = let h = find-within _ _ _ _ _ (sym (c .before .before .before .find .ensures) ∙ c .before .start .given .1) in omega arith
 
 -- src/lib.rt:210:21
 sub-imsi-of : tie.Need-sub-imsi-of
@@ -36,7 +42,7 @@ part-imsi-of-start c = search needs
 
 -- src/lib.rt:210:21
 part-imsi-of-end : tie.Need-part-imsi-of-end
-part-imsi-of-end c = ?
+part-imsi-of-end c = let h = find-within _ _ _ _ _ (sym (c .before .before .before .find .ensures) ∙ c .before .start .given .1) in omega arith
 
 -- src/lib.rt:210:5
 imsi-of-requires : tie.Need-imsi-of-requires
@@ -44,7 +50,8 @@ imsi-of-requires c κs = search needs
 
 -- src/lib.rt:203:1
 returns-2 : tie.Need-returns-2
-returns-2 c = ?
+unfolding imsiIn imsiAt
+returns-2 c = rw (sym (c .before .before .before .before .before .find .ensures) ∙ c .before .before .before .start .given .1, c .imsi-of .ensures, part-of)
 
 pub imsi-in-spec : {M : Type 1} → statement M
 imsi-in-spec =

@@ -1,3 +1,6 @@
+use Rattle.readers.specs.Readers.{octetIn, octetAt}
+use borrow.Author.Tests.{lt-ltb, le-ltb}
+use mathlib.Core.Path.{sym, _∙_}
 use borrow.Author.Needs.{needs}
 use Rattle.readers.proofs.octet_in.Statement.{statement}
 use Rattle.readers.proofs.octet_in.Tie as tie
@@ -20,11 +23,13 @@ enum-told c = search needs
 
 -- src/lib.rt:156:9
 returns : tie.Need-returns
-returns c = ?
+unfolding octetIn octetAt
+returns c = rw (sym (c .before .before .find .ensures) ∙ c .enum-told .given .1)
 
 -- src/lib.rt:159:9
 returns-2 : tie.Need-returns-2
-returns-2 c = ?
+unfolding octetIn octetAt
+returns-2 c = rw (sym (c .before .before .before .before .find .ensures) ∙ c .before .before .start .given .1, lt-ltb _ _ (c .if1 .taken))
 
 -- src/lib.rt:161:18
 octet-at-requires : tie.Need-octet-at-requires
@@ -32,7 +37,8 @@ octet-at-requires c κs = search needs
 
 -- src/lib.rt:152:1
 returns-3 : tie.Need-returns-3
-returns-3 c = ?
+unfolding octetIn octetAt
+returns-3 c = rw (sym (c .before .before .before .before .before .find .ensures) ∙ c .before .before .before .start .given .1, le-ltb _ _ (c .before .if1 .left), c .octet-at .ensures)
 
 pub octet-in-spec : {M : Type 1} → statement M
 octet-in-spec =

@@ -1,3 +1,7 @@
+use Rattle.readers.proofs.Left.{left-judged}
+use Rattle.readers.specs.Readers.{ratIn}
+use borrow.Author.Tests.{lt-ltb, le-ltb}
+use mathlib.Core.Path.{sym, _∙_}
 use borrow.Author.Needs.{needs}
 use Rattle.readers.proofs.rat_in.Statement.{statement}
 use Rattle.readers.proofs.rat_in.Tie as tie
@@ -15,15 +19,18 @@ enum-known-f c = search needs
 
 -- src/lib.rt:170:9
 returns : tie.Need-returns
-returns c = ?
+unfolding ratIn
+returns c = rw (sym (c .before .octet-in .ensures)) (left-judged _ _ (c .match .keys2))
 
 -- src/lib.rt:173:9
 returns-2 : tie.Need-returns-2
-returns-2 c = ?
+unfolding ratIn
+returns-2 c = rw (sym (c .before .before .before .before .octet-in .ensures) ∙ c .before .before .f .given .1, c .if1 .taken)
 
 -- src/lib.rt:165:1
 returns-3 : tie.Need-returns-3
-returns-3 c = ?
+unfolding ratIn
+returns-3 c = rw (sym (c .before .before .before .before .octet-in .ensures) ∙ c .before .before .f .given .1, c .if1 .left)
 
 pub rat-in-spec : {M : Type 1} → statement M
 rat-in-spec = tie.close (tie.spec octet-in-requires enum-known-f returns returns-2 returns-3)

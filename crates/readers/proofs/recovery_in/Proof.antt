@@ -1,3 +1,5 @@
+use Rattle.readers.specs.Readers.{recoveryIn, recoveryOf}
+use mathlib.Core.Path.{sym, _∙_}
 use borrow.Author.Needs.{needs}
 use Rattle.readers.proofs.recovery_in.Statement.{statement}
 use Rattle.readers.proofs.recovery_in.Tie as tie
@@ -27,19 +29,23 @@ enum-told-3 c = search needs
 
 -- src/lib.rt:225:1
 returns : tie.Need-returns
-returns c = ?
+unfolding recoveryIn recoveryOf
+returns c = rw (sym (c .before .before .before .octet-in .ensures) ∙ c .before .x .given .1)
 
 -- src/lib.rt:225:1
 returns-2 : tie.Need-returns-2
-returns-2 c = ?
+unfolding recoveryIn recoveryOf
+returns-2 c = rw (sym (c .before .before .octet-in .ensures) ∙ c .enum-told .given .1)
 
 -- src/lib.rt:225:1
 returns-3 : tie.Need-returns-3
-returns-3 c = ?
+unfolding recoveryIn recoveryOf
+returns-3 c = rw (sym (c .before .before .octet-in .ensures) ∙ c .enum-told2 .given .1)
 
 -- src/lib.rt:225:1
 returns-4 : tie.Need-returns-4
-returns-4 c = ?
+unfolding recoveryIn recoveryOf
+returns-4 c = rw (sym (c .before .before .octet-in .ensures) ∙ c .enum-told3 .given .1)
 
 pub recovery-in-spec : {M : Type 1} → statement M
 recovery-in-spec =

@@ -1,3 +1,8 @@
+use Rattle.readers.specs.Readers.{tunnelIn, tunnelAt}
+use Rattle.fields.specs.Search.{find-within}
+use Rattle.octets.specs.Places.{part-of}
+use native.Mathlib.Omega.{arith}
+use mathlib.Core.Path.{sym, _∙_}
 use borrow.Author.Needs.{needs}
 use Rattle.readers.proofs.tunnel_in.Statement.{statement}
 use Rattle.readers.proofs.tunnel_in.Tie as tie
@@ -20,11 +25,12 @@ enum-told c = search needs
 
 -- src/lib.rt:218:9
 returns : tie.Need-returns
-returns c = ?
+unfolding tunnelIn tunnelAt
+returns c = rw (sym (c .before .before .find .ensures) ∙ c .enum-told .given .1)
 
 -- src/lib.rt:220:15
 add-end : tie.Need-add-end
-add-end c = ?
+add-end c = let h = find-within _ _ _ _ _ (sym (c .before .before .before .find .ensures) ∙ c .before .start .given .1) in omega arith
 
 -- src/lib.rt:221:23
 sub-tunnel-of : tie.Need-sub-tunnel-of
@@ -36,7 +42,7 @@ part-tunnel-of-start c = search needs
 
 -- src/lib.rt:221:23
 part-tunnel-of-end : tie.Need-part-tunnel-of-end
-part-tunnel-of-end c = ?
+part-tunnel-of-end c = let h = find-within _ _ _ _ _ (sym (c .before .before .before .find .ensures) ∙ c .before .start .given .1) in omega arith
 
 -- src/lib.rt:221:5
 tunnel-of-requires : tie.Need-tunnel-of-requires
@@ -44,7 +50,8 @@ tunnel-of-requires c κs = search needs
 
 -- src/lib.rt:214:1
 returns-2 : tie.Need-returns-2
-returns-2 c = ?
+unfolding tunnelIn tunnelAt
+returns-2 c = rw (sym (c .before .before .before .before .before .find .ensures) ∙ c .before .before .before .start .given .1, c .tunnel-of .ensures, part-of)
 
 pub tunnel-in-spec : {M : Type 1} → statement M
 tunnel-in-spec =
