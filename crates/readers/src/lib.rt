@@ -137,7 +137,10 @@ pub fn tunnel_refusal(f: Tunnel, kind: u8, instance: u8) -> Refusal
     ensures { λ r. ⌜ r ≡ tunnelRefusal f kind instance ⌝ }
 {
     match f {
-        Tunnel::Value { teid: _, address: _ } => Refusal::bare(0),
+        Tunnel::Value {
+            teid: _,
+            address: _,
+        } => Refusal::bare(0),
         Tunnel::Missing => Refusal::missing(kind, instance),
         Tunnel::Short => Refusal::short(kind, instance),
         Tunnel::Wrong => Refusal::wrong(kind, instance),

@@ -5,29 +5,21 @@ use mathlib.Core.Path.{sym, _∙_}
 use borrow.Author.Needs.{needs}
 use Rattle.readers.proofs.ebi_in.Statement.{statement}
 use Rattle.readers.proofs.ebi_in.Tie as tie
-use Rattle.readers.proofs.ebi_in.Reads as reads
-use Rattle.readers.proofs.ebi_in.Lts as lts
-use Rattle.readers.proofs.octet_in.Reads as octet-in-reads
 
--- src/lib.rt:193:9
 octet-in-requires : tie.Need-octet-in-requires
 octet-in-requires c κs = search needs
 
--- src/lib.rt:194:22
 enum-known-f : tie.Need-enum-known-f
 enum-known-f c = search needs
 
--- src/lib.rt:195:9
 returns : tie.Need-returns
 unfolding ebiIn
 returns c = rw (sym (c .before .octet-in .ensures)) (left-judged _ _ (c .match .keys2))
 
--- src/lib.rt:198:9
 returns-2 : tie.Need-returns-2
 unfolding ebiIn
 returns-2 c = rw (sym (c .before .before .before .before .octet-in .ensures) ∙ c .before .before .f .given .1, lt-ltb _ _ (c .if1 .taken))
 
--- src/lib.rt:190:1
 returns-3 : tie.Need-returns-3
 unfolding ebiIn
 returns-3 c = rw (sym (c .before .before .before .before .octet-in .ensures) ∙ c .before .before .f .given .1, le-ltb _ _ (c .if1 .left))

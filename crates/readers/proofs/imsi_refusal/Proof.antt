@@ -3,61 +3,43 @@ use mathlib.Core.Path.{sym, _∙_}
 use borrow.Author.Needs.{needs}
 use Rattle.readers.proofs.imsi_refusal.Statement.{statement}
 use Rattle.readers.proofs.imsi_refusal.Tie as tie
-use Rattle.readers.proofs.imsi_refusal.Reads as reads
-use Rattle.readers.proofs.imsi_refusal.Lts as lts
-use Rattle.readers.proofs.Refusal.bare.Reads as bare-reads
-use Rattle.readers.proofs.Refusal.missing.Reads as missing-reads
-use Rattle.readers.proofs.Refusal.short.Reads as short-reads
-use Rattle.readers.proofs.Refusal.wrong.Reads as wrong-reads
 
--- src/lib.rt:133:27
 enum-told : tie.Need-enum-told
 enum-told c = search needs
 
--- src/lib.rt:133:27
 bare-requires : tie.Need-bare-requires
 bare-requires c κs = search needs
 
--- src/lib.rt:134:26
 enum-told-2 : tie.Need-enum-told-2
 enum-told-2 c = search needs
 
--- src/lib.rt:134:26
 missing-requires : tie.Need-missing-requires
 missing-requires c κs = search needs
 
--- src/lib.rt:135:24
 enum-told-3 : tie.Need-enum-told-3
 enum-told-3 c = search needs
 
--- src/lib.rt:135:24
 short-requires : tie.Need-short-requires
 short-requires c κs = search needs
 
--- src/lib.rt:136:24
 enum-told-4 : tie.Need-enum-told-4
 enum-told-4 c = search needs
 
--- src/lib.rt:136:24
 wrong-requires : tie.Need-wrong-requires
 wrong-requires c κs = search needs
 
--- src/lib.rt:129:1
 returns : tie.Need-returns
 unfolding imsiRefusal
 returns c = rw (c .before .enum-told .given .1, c .bare .ensures)
 
--- src/lib.rt:129:1
 returns-2 : tie.Need-returns-2
 unfolding imsiRefusal
 returns-2 c = rw (c .before .enum-told2 .given .1, c .missing .ensures)
 
--- src/lib.rt:129:1
 returns-3 : tie.Need-returns-3
 unfolding imsiRefusal
 returns-3 c = rw (c .before .enum-told3 .given .1, c .short .ensures)
 
--- src/lib.rt:129:1
 returns-4 : tie.Need-returns-4
 unfolding imsiRefusal
 returns-4 c = rw (c .before .enum-told4 .given .1, c .wrong .ensures)

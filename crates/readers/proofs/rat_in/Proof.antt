@@ -5,29 +5,21 @@ use mathlib.Core.Path.{sym, _∙_}
 use borrow.Author.Needs.{needs}
 use Rattle.readers.proofs.rat_in.Statement.{statement}
 use Rattle.readers.proofs.rat_in.Tie as tie
-use Rattle.readers.proofs.rat_in.Reads as reads
-use Rattle.readers.proofs.rat_in.Lts as lts
-use Rattle.readers.proofs.octet_in.Reads as octet-in-reads
 
--- src/lib.rt:168:9
 octet-in-requires : tie.Need-octet-in-requires
 octet-in-requires c κs = search needs
 
--- src/lib.rt:169:22
 enum-known-f : tie.Need-enum-known-f
 enum-known-f c = search needs
 
--- src/lib.rt:170:9
 returns : tie.Need-returns
 unfolding ratIn
 returns c = rw (sym (c .before .octet-in .ensures)) (left-judged _ _ (c .match .keys2))
 
--- src/lib.rt:173:9
 returns-2 : tie.Need-returns-2
 unfolding ratIn
 returns-2 c = rw (sym (c .before .before .before .before .octet-in .ensures) ∙ c .before .before .f .given .1, c .if1 .taken)
 
--- src/lib.rt:165:1
 returns-3 : tie.Need-returns-3
 unfolding ratIn
 returns-3 c = rw (sym (c .before .before .before .before .octet-in .ensures) ∙ c .before .before .f .given .1, c .if1 .left)

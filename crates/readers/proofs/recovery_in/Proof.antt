@@ -3,46 +3,34 @@ use mathlib.Core.Path.{sym, _∙_}
 use borrow.Author.Needs.{needs}
 use Rattle.readers.proofs.recovery_in.Statement.{statement}
 use Rattle.readers.proofs.recovery_in.Tie as tie
-use Rattle.readers.proofs.recovery_in.Reads as reads
-use Rattle.readers.proofs.recovery_in.Lts as lts
-use Rattle.readers.proofs.octet_in.Reads as octet-in-reads
 
--- src/lib.rt:228:11
 octet-in-requires : tie.Need-octet-in-requires
 octet-in-requires c κs = search needs
 
--- src/lib.rt:229:22
 enum-known-x : tie.Need-enum-known-x
 enum-known-x c = search needs
 
--- src/lib.rt:230:27
 enum-told : tie.Need-enum-told
 enum-told c = search needs
 
--- src/lib.rt:231:25
 enum-told-2 : tie.Need-enum-told-2
 enum-told-2 c = search needs
 
--- src/lib.rt:232:25
 enum-told-3 : tie.Need-enum-told-3
 enum-told-3 c = search needs
 
--- src/lib.rt:225:1
 returns : tie.Need-returns
 unfolding recoveryIn recoveryOf
 returns c = rw (sym (c .before .before .before .octet-in .ensures) ∙ c .before .x .given .1)
 
--- src/lib.rt:225:1
 returns-2 : tie.Need-returns-2
 unfolding recoveryIn recoveryOf
 returns-2 c = rw (sym (c .before .before .octet-in .ensures) ∙ c .enum-told .given .1)
 
--- src/lib.rt:225:1
 returns-3 : tie.Need-returns-3
 unfolding recoveryIn recoveryOf
 returns-3 c = rw (sym (c .before .before .octet-in .ensures) ∙ c .enum-told2 .given .1)
 
--- src/lib.rt:225:1
 returns-4 : tie.Need-returns-4
 unfolding recoveryIn recoveryOf
 returns-4 c = rw (sym (c .before .before .octet-in .ensures) ∙ c .enum-told3 .given .1)

@@ -6,49 +6,35 @@ use mathlib.Core.Path.{sym, _∙_}
 use borrow.Author.Needs.{needs}
 use Rattle.readers.proofs.tunnel_in.Statement.{statement}
 use Rattle.readers.proofs.tunnel_in.Tie as tie
-use Rattle.readers.proofs.tunnel_in.Reads as reads
-use Rattle.readers.proofs.tunnel_in.Lts as lts
-use Rattle.fields.proofs.find.Reads as find-reads
-use Rattle.values.proofs.tunnel_of.Reads as tunnel-of-reads
 
--- src/lib.rt:217:37
 find-requires : tie.Need-find-requires
 find-requires c κs = search needs
 
--- src/lib.rt:217:21
 enum-known-start : tie.Need-enum-known-start
 enum-known-start c = search needs
 
--- src/lib.rt:218:9
 enum-told : tie.Need-enum-told
 enum-told c = search needs
 
--- src/lib.rt:218:9
 returns : tie.Need-returns
 unfolding tunnelIn tunnelAt
 returns c = rw (sym (c .before .before .find .ensures) ∙ c .enum-told .given .1)
 
--- src/lib.rt:220:15
 add-end : tie.Need-add-end
 add-end c = let h = find-within _ _ _ _ _ (sym (c .before .before .before .find .ensures) ∙ c .before .start .given .1) in omega arith
 
--- src/lib.rt:221:23
 sub-tunnel-of : tie.Need-sub-tunnel-of
 sub-tunnel-of c = search needs
 
--- src/lib.rt:221:23
 part-tunnel-of-start : tie.Need-part-tunnel-of-start
 part-tunnel-of-start c = search needs
 
--- src/lib.rt:221:23
 part-tunnel-of-end : tie.Need-part-tunnel-of-end
 part-tunnel-of-end c = let h = find-within _ _ _ _ _ (sym (c .before .before .before .find .ensures) ∙ c .before .start .given .1) in omega arith
 
--- src/lib.rt:221:5
 tunnel-of-requires : tie.Need-tunnel-of-requires
 tunnel-of-requires c κs = search needs
 
--- src/lib.rt:214:1
 returns-2 : tie.Need-returns-2
 unfolding tunnelIn tunnelAt
 returns-2 c = rw (sym (c .before .before .before .before .before .find .ensures) ∙ c .before .before .before .start .given .1, c .tunnel-of .ensures, part-of)

@@ -8,10 +8,6 @@ use mathlib.Core.Bool.{Bool, true, false, _&&_}
 use Prim.Native.Nat.{ℕ, _≤_, _<_, _+_, _*_, _-_, _/_, _%_}
 use Rattle.values.proofs.digits.Statement.{statement}
 use Rattle.values.proofs.digits.Tie as tie
-use Rattle.values.proofs.digits.Reads as reads
-use Rattle.values.proofs.digits.Lts as lts
-use Rattle.values.proofs.two_digits.Reads as two-digits-reads
-use Rattle.values.proofs.wide.Reads as wide-reads
 
 abbrev Inv-loop : tie.InvT-loop
 Inv-loop v n₀ i₀ n i = (i ≤ 7) × (n < hundreds i) × (digitsFrom 0 (halves v) ≡ digitsFrom n (halves (drop i v)))
@@ -19,23 +15,18 @@ Inv-loop v n₀ i₀ n i = (i ≤ 7) × (n < hundreds i) × (digitsFrom 0 (halve
 abbrev μ-loop : tie.MeasureT-loop
 μ-loop v n₀ i₀ n i = 7 - i
 
--- src/lib.rt:51:5
 loop-holds : tie.Need-loop-holds Inv-loop μ-loop
 loop-holds c = (omega arith, omega (arith, hundreds-start), refl)
 
--- src/lib.rt:52:17
 shared-slice-read-x : tie.Need-shared-slice-read-x Inv-loop μ-loop
 shared-slice-read-x c = search needs
 
--- src/lib.rt:54:17
 two-digits-requires : tie.Need-two-digits-requires Inv-loop μ-loop
 two-digits-requires c κs = search needs
 
--- src/lib.rt:55:17
 mul-n : tie.Need-mul-n Inv-loop μ-loop
 mul-n c = let m = hundreds-most (c .before .before .before .before .loop .i) (omega arith) in omega arith
 
--- src/lib.rt:55:17
 add-n : tie.Need-add-n Inv-loop μ-loop
 unfolding isDigit
 add-n c = let m = hundreds-most (c .before .before .before .before .loop .i) (omega arith) in
@@ -43,21 +34,17 @@ add-n c = let m = hundreds-most (c .before .before .before .before .loop .i) (om
     let t : c .two-digits .result ≤ 99 = rw (c .two-digits .ensures) (two-most (x % 16) (x / 16) (c .before .if1 .taken)) in
     omega arith
 
--- src/lib.rt:57:13
 returns : tie.Need-returns Inv-loop μ-loop
 unfolding isDigit
 returns c = let k = c .before .before .before .loop in
     sym (k .inv .2 ∙ digits-off (now (c .before .before .before .before .before .args .v)) (k .i) (k .n) (omega arith) (c .if1 .left))
 
--- src/lib.rt:59:9
 add-i : tie.Need-add-i Inv-loop μ-loop
 add-i c = search needs
 
--- src/lib.rt:51:5
 loop-less : tie.Need-loop-less Inv-loop μ-loop
 loop-less c = search needs
 
--- src/lib.rt:51:5
 loop-again : tie.Need-loop-again Inv-loop μ-loop
 unfolding isDigit
 loop-again c = let k = c .before .before .before .before .loop in
@@ -66,23 +53,18 @@ loop-again c = let k = c .before .before .before .before .loop in
     let t : c .two-digits .result ≤ 99 = rw (c .two-digits .ensures) (two-most (x % 16) (x / 16) (c .before .if1 .taken)) in
     (omega arith, omega (arith, hundreds-next (k .i)), k .inv .2 ∙ digits-on v (k .i) (k .n) (omega arith) (c .before .if1 .taken) ∙ rw (c .two-digits .ensures))
 
--- src/lib.rt:61:13
 shared-slice-read-x-2 : tie.Need-shared-slice-read-x-2 Inv-loop μ-loop
 shared-slice-read-x-2 c = search needs
 
--- src/lib.rt:63:28
 mul-t22 : tie.Need-mul-t22 Inv-loop μ-loop
 mul-t22 c = let m = hundreds-most (c .before .before .before .loop .i) (omega arith) in omega arith
 
--- src/lib.rt:63:37
 wide-requires : tie.Need-wide-requires Inv-loop μ-loop
 wide-requires c κs = search needs
 
--- src/lib.rt:63:28
 add-t25 : tie.Need-add-t25 Inv-loop μ-loop
 add-t25 c = let m = hundreds-most (c .before .before .before .before .loop .i) (omega arith) in omega arith
 
--- src/lib.rt:63:9
 returns-2 : tie.Need-returns-2 Inv-loop μ-loop
 unfolding isDigit
 returns-2 c = let k = c .before .before .before .before .loop in
@@ -90,7 +72,6 @@ returns-2 c = let k = c .before .before .before .before .loop in
     let e : k .i ≡ 7 = omega arith in
     sym (k .inv .2 ∙ digits-end v (k .i) (k .n) (omega arith) ∙ rw (e, c .before .if2 .taken, c .wide .ensures))
 
--- src/lib.rt:45:1
 returns-3 : tie.Need-returns-3 Inv-loop μ-loop
 unfolding isDigit
 returns-3 c = let k = c .before .before .before .loop in

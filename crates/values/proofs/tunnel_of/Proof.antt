@@ -4,59 +4,43 @@ use mathlib.Core.Path.{_≡_, refl, sym, _∙_}
 use borrow.Author.Needs.{needs}
 use Rattle.values.proofs.tunnel_of.Statement.{statement}
 use Rattle.values.proofs.tunnel_of.Tie as tie
-use Rattle.values.proofs.tunnel_of.Reads as reads
-use Rattle.values.proofs.tunnel_of.Lts as lts
-use Rattle.octets.proofs.be32.Reads as be32-reads
 
--- src/lib.rt:84:9
 returns : tie.Need-returns
 returns c = sym (tunnel-short _ _ (c .if1 .taken))
 
--- src/lib.rt:86:29
 shared-slice-read-be32 : tie.Need-shared-slice-read-be32
 shared-slice-read-be32 c = search needs
 
--- src/lib.rt:86:35
 shared-slice-read-be32-2 : tie.Need-shared-slice-read-be32-2
 shared-slice-read-be32-2 c = search needs
 
--- src/lib.rt:86:41
 shared-slice-read-be32-3 : tie.Need-shared-slice-read-be32-3
 shared-slice-read-be32-3 c = search needs
 
--- src/lib.rt:86:47
 shared-slice-read-be32-4 : tie.Need-shared-slice-read-be32-4
 shared-slice-read-be32-4 c = search needs
 
--- src/lib.rt:86:9
 be32-requires : tie.Need-be32-requires
 be32-requires c κs = search needs
 
--- src/lib.rt:87:32
 shared-slice-read-be32-5 : tie.Need-shared-slice-read-be32-5
 shared-slice-read-be32-5 c = search needs
 
--- src/lib.rt:87:38
 shared-slice-read-be32-6 : tie.Need-shared-slice-read-be32-6
 shared-slice-read-be32-6 c = search needs
 
--- src/lib.rt:87:44
 shared-slice-read-be32-7 : tie.Need-shared-slice-read-be32-7
 shared-slice-read-be32-7 c = search needs
 
--- src/lib.rt:87:50
 shared-slice-read-be32-8 : tie.Need-shared-slice-read-be32-8
 shared-slice-read-be32-8 c = search needs
 
--- src/lib.rt:87:9
 be32-requires-2 : tie.Need-be32-requires-2
 be32-requires-2 c κs = search needs
 
--- src/lib.rt:88:17
 shared-slice-read-flags : tie.Need-shared-slice-read-flags
 shared-slice-read-flags c = search needs
 
--- src/lib.rt:90:9
 returns-2 : tie.Need-returns-2
 unfolding tunnelGood
 returns-2 c = let v = now (c .before .before .before .before .before .before .before .before .before .before .before .before .before .before .args .v) in
@@ -64,7 +48,6 @@ returns-2 c = let v = now (c .before .before .before .before .before .before .be
     let a : c .before .before .be322 .result ≡ wordAt v 5 = c .before .before .be322 .ensures ∙ sym (word-is v 5) in
     rw (t, a) (sym (tunnel-good v _ (c .before .before .before .before .before .before .before .before .before .before .before .before .if1 .left) (rw t at (c .if2 .taken))))
 
--- src/lib.rt:80:1
 returns-3 : tie.Need-returns-3
 unfolding tunnelGood
 returns-3 c = let v = now (c .before .before .before .before .before .before .before .before .before .before .before .before .before .before .args .v) in
