@@ -2,6 +2,7 @@
 // written as it is. Each datagram's line says what its header and its fields give, under the trial plan and for a session of EBI 5.
 use requestshost::Answer;
 use requestshost::Carried;
+ghost use Prim.Native.Nat.{_<_, _≤_};
 
 // The EBI of the session that a Modify or a Delete is for.
 fn session_ebi() -> u8 {
@@ -142,15 +143,17 @@ fn show(d: &[u8]) {
 }
 
 // The half octet that a capital hex digit writes.
-fn half(b: u8) -> u8 {
+fn half(b: u8) -> u8
+    ensures { λ r. ⌜ r < 16 ⌝ }
+{
     if b < 58 { b % 16 } else { (b % 16 + 9) % 16 }
 }
 
 // The octets that hex writes: how many.
-fn octets_of(hex: &[u8], out: &mut [u8; 2048]) -> usize {
+fn octets_of(hex: &[u8], out: &mut [u8]) -> usize {
     let mut n: usize = 0;
     let mut i: usize = 0;
-    while n < 2048 {
+    while n < out.len() {
         if hex.len() < 2 {
             return n;
         }
@@ -181,7 +184,9 @@ fn show_line(line: &[u8]) {
 }
 
 // Where the line that starts at a place ends.
-fn line_end(s: &[u8], from: usize) -> usize {
+fn line_end(s: &[u8], from: usize) -> usize
+    ensures { λ r. ⌜ from ≤ r ⌝ }
+{
     let mut i = from;
     while i < s.len() {
         if s[i] == b'\n' {
@@ -196,7 +201,7 @@ fn each(s: &[u8]) {
     let mut p: usize = 0;
     while p < s.len() {
         let e = line_end(s, p);
-        if (p <= e) & (e < s.len()) {
+        if e < s.len() {
             show_line(&s[p..e]);
             p = e + 1;
         } else {

@@ -1,59 +1,48 @@
+use lib.ListN.{length}
+use borrow.Author.Needs.{needs}
+use native.Mathlib.Omega.{arith}
+use Prim.Native.Nat.{_≤_, _-_}
 use Rattle.controlvectors.proofs.each.Statement.{statement}
 use Rattle.controlvectors.proofs.each.Tie as tie
-use Rattle.controlvectors.proofs.each.Reads as reads
-use Rattle.controlvectors.proofs.each.Lts as lts
-use Rattle.controlvectors.proofs.line_end.Reads as line-end-reads
-use Rattle.controlvectors.proofs.show_line.Reads as show-line-reads
 
 abbrev Inv-loop : tie.InvT-loop
-Inv-loop s p₀ p = ?
+Inv-loop s p₀ p = p ≤ length s
 
 abbrev μ-loop : tie.MeasureT-loop
-μ-loop s p₀ p = ?
+μ-loop s p₀ p = length s - p
 
--- src/main.rt:197:5
 loop-holds : tie.Need-loop-holds Inv-loop μ-loop
-loop-holds c = ?
+loop-holds c = search needs
 
--- src/main.rt:198:13
 line-end-requires : tie.Need-line-end-requires Inv-loop μ-loop
-line-end-requires c κs = ?
+line-end-requires c κs = search needs
 
--- src/main.rt:200:23
 sub-show-line : tie.Need-sub-show-line Inv-loop μ-loop
-sub-show-line c = ?
+sub-show-line c = search needs
 
--- src/main.rt:200:23
 part-show-line-start : tie.Need-part-show-line-start Inv-loop μ-loop
-part-show-line-start c = ?
+part-show-line-start c = search needs
 
--- src/main.rt:200:23
 part-show-line-end : tie.Need-part-show-line-end Inv-loop μ-loop
-part-show-line-end c = ?
+part-show-line-end c = search needs
 
--- src/main.rt:200:13
 show-line-requires : tie.Need-show-line-requires Inv-loop μ-loop
-show-line-requires c κs = ?
+show-line-requires c κs = search needs
 
--- src/main.rt:201:17
 add-p : tie.Need-add-p Inv-loop μ-loop
-add-p c = ?
+add-p c = search needs
 
--- src/main.rt:197:5
 loop-less : tie.Need-loop-less Inv-loop μ-loop
-loop-less c = ?
+loop-less c = search needs
 
--- src/main.rt:197:5
 loop-again : tie.Need-loop-again Inv-loop μ-loop
-loop-again c = ?
+loop-again c = search needs
 
--- src/main.rt:203:13
 returns : tie.Need-returns Inv-loop μ-loop
-returns c = ?
+returns c = search needs
 
--- src/main.rt:195:1
 returns-2 : tie.Need-returns-2 Inv-loop μ-loop
-returns-2 c = ?
+returns-2 c = search needs
 
 pub each-spec : {M : Type 1} → statement M
 each-spec =
