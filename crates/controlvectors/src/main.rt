@@ -104,27 +104,35 @@ fn show_bearer_reply(c: Carried) {
     word(c.cause);
 }
 
-fn show_fields(kind: u32, s: &[u8]) {
-    if kind == 32 {
-        show_create(requestshost::requests_create(s));
-    }
-    if kind == 34 {
-        show_modify(requestshost::requests_modify(s, session_ebi()));
-    }
-    if kind == 36 {
-        show_delete(requestshost::requests_delete(s, session_ebi()));
-    }
-    let c = requestshost::requests_carried(s);
+fn show_carried(kind: u32, c: Carried) {
     if kind == 1 {
         io::write_all(1, b" echo");
         show_recovery(c.echo);
+        return;
     }
     if kind == 2 {
         show_echo_reply(c);
+        return;
     }
     if kind == 100 {
         show_bearer_reply(c);
     }
+}
+
+fn show_fields(kind: u32, s: &[u8]) {
+    if kind == 32 {
+        show_create(requestshost::requests_create(s));
+        return;
+    }
+    if kind == 34 {
+        show_modify(requestshost::requests_modify(s, session_ebi()));
+        return;
+    }
+    if kind == 36 {
+        show_delete(requestshost::requests_delete(s, session_ebi()));
+        return;
+    }
+    show_carried(kind, requestshost::requests_carried(s));
 }
 
 fn show(d: &[u8]) {

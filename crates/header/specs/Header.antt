@@ -31,15 +31,22 @@ lengthOf d = numberOf (getD d 2 0 ∷ getD d 3 0 ∷ [])
 unfoldable pub withTeid : List ℕ → Bool
 withTeid d = eqb (flagT d) 1
 
+-- the four octets of a TEID; the sequence number behind a TEID, and without one
+unfoldable pub teidOctets : List ℕ → ℕ
+teidOctets d = numberOf (getD d 4 0 ∷ getD d 5 0 ∷ getD d 6 0 ∷ getD d 7 0 ∷ [])
+
+unfoldable pub sequenceBehind : List ℕ → ℕ
+sequenceBehind d = numberOf (getD d 8 0 ∷ getD d 9 0 ∷ getD d 10 0 ∷ [])
+
+unfoldable pub sequenceBare : List ℕ → ℕ
+sequenceBare d = numberOf (getD d 4 0 ∷ getD d 5 0 ∷ getD d 6 0 ∷ [])
+
 -- the TEID, 0 where there is none
 unfoldable pub teidOf : List ℕ → ℕ
-teidOf d = pick {A = ℕ} (withTeid d) (numberOf (getD d 4 0 ∷ getD d 5 0 ∷ getD d 6 0 ∷ getD d 7 0 ∷ [])) 0
+teidOf d = pick {A = ℕ} (withTeid d) (teidOctets d) 0
 
 unfoldable pub sequenceOf : List ℕ → ℕ
-sequenceOf d =
-    pick {A = ℕ} (withTeid d)
-    (numberOf (getD d 8 0 ∷ getD d 9 0 ∷ getD d 10 0 ∷ []))
-    (numberOf (getD d 4 0 ∷ getD d 5 0 ∷ getD d 6 0 ∷ []))
+sequenceOf d = pick {A = ℕ} (withTeid d) (sequenceBehind d) (sequenceBare d)
 
 -- how many octets the header has: the fields start behind it
 unfoldable pub headerSize : List ℕ → ℕ

@@ -2,7 +2,7 @@
 ghost use mathlib.Core.Path.{_≡_};
 ghost use lib.ListN.{drop};
 ghost use Rattle.header.specs.Types.{flagOf};
-ghost use Rattle.header.specs.Header.{headerOf};
+ghost use Rattle.header.specs.Header.{headerOf, teidOctets, sequenceBehind, sequenceBare};
 ghost use Rattle.header.specs.Gate.{gateOf};
 
 // The T flag that each type is taken with: 0 or 1; 2 is none, the type is not taken.
@@ -282,6 +282,33 @@ pub fn flag_of(kind: u8) -> u8
     FLAGS[at]
 }
 
+// The four octets of a TEID.
+fn teid_octets(d: &[u8]) -> u32
+    ensures { λ r. ⌜ r ≡ teidOctets (now (d .entry)) ⌝ }
+{
+    let a = fields::octet_at(d, 4);
+    let b = fields::octet_at(d, 5);
+    let c = fields::octet_at(d, 6);
+    octets::be32(a, b, c, fields::octet_at(d, 7))
+}
+
+// The sequence number behind a TEID, and without one.
+fn sequence_behind(d: &[u8]) -> u32
+    ensures { λ r. ⌜ r ≡ sequenceBehind (now (d .entry)) ⌝ }
+{
+    let a = fields::octet_at(d, 8);
+    let b = fields::octet_at(d, 9);
+    octets::be24(a, b, fields::octet_at(d, 10))
+}
+
+fn sequence_bare(d: &[u8]) -> u32
+    ensures { λ r. ⌜ r ≡ sequenceBare (now (d .entry)) ⌝ }
+{
+    let a = fields::octet_at(d, 4);
+    let b = fields::octet_at(d, 5);
+    octets::be24(a, b, fields::octet_at(d, 6))
+}
+
 impl HeaderCursor {
     // octets of a header without and with a TEID
     pub const BARE: usize = 8;
@@ -302,17 +329,10 @@ impl HeaderCursor {
         ensures { λ r. ⌜ r ≡ headerOf (now (d .entry)) ⌝ }
     {
         let kind = fields::octet_at(d, 1);
-        let a = fields::octet_at(d, 4);
-        let b = fields::octet_at(d, 5);
-        let c = fields::octet_at(d, 6);
         let flags = fields::octet_at(d, 0);
         if flags / 8 % 2 == 1 {
-            let teid = octets::be32(a, b, c, fields::octet_at(d, 7));
-            let sequence = octets::be24(
-                fields::octet_at(d, 8),
-                fields::octet_at(d, 9),
-                fields::octet_at(d, 10),
-            );
+            let teid = teid_octets(d);
+            let sequence = sequence_behind(d);
             return HeaderCursor {
                 kind,
                 teid,
@@ -320,10 +340,11 @@ impl HeaderCursor {
                 fields: Self::WITH_TEID,
             };
         }
+        let sequence = sequence_bare(d);
         HeaderCursor {
             kind,
             teid: 0,
-            sequence: octets::be24(a, b, c),
+            sequence,
             fields: Self::BARE,
         }
     }
