@@ -8,9 +8,8 @@
 
 typedef struct { uint32_t number, kind, teid, sequence, fields; } Head;
 typedef struct {
-  uint64_t imsi;
-  uint32_t number, named, field, instance, kind, ebi, control, controladdr, user, useraddr, point, recovery;
-  uint32_t moved, context, usermoved, replyto;
+  uint64_t imsi, number, named, field, instance, kind, ebi, control, controladdr, user, useraddr, point, recovery;
+  uint64_t moved, context, usermoved, replyto;
 } Answer;
 typedef struct { uint32_t echo, echounread, echoreply, bearerunread, cause; } Carried;
 

@@ -11,6 +11,8 @@ HERE = os.path.dirname(os.path.abspath(__file__))
 CRATE = os.path.join(HERE, "..", "..", "crates", "controlvectors")
 PLAN = [b"\x04data", b"\x03net", bytes([62]) + bytes(97 + i % 26 for i in range(62))]
 SESSION_EBI = 5
+# what a line of a request has behind type, TEID and sequence number
+COLUMNS = "number named field instance kind imsi ebi control controladdr user useraddr point recovery moved context usermoved replyto".split()
 
 
 class Refused(Exception):
@@ -62,12 +64,14 @@ def is_tunnel(interface):
     return lambda v: v[0] >= 128 and v[0] % 64 == interface and any(v[1:5])
 
 
-def tunnel(value):
-    return f"{int.from_bytes(value[1:5], 'big')} {int.from_bytes(value[5:9], 'big')}"
+def ends(names, value):
+    """TEID and address of an F-TEID, under the names that they have in a line."""
+    return dict(zip(names, (int.from_bytes(value[1:5], "big"), int.from_bytes(value[5:9], "big"))))
 
 
 def recovery(fields):
-    return str(fields[3, 0][0]) if fields.get((3, 0)) else "-"
+    """The Recovery value, 256 for none."""
+    return fields[3, 0][0] if fields.get((3, 0)) else 256
 
 
 def create(octets):
@@ -85,7 +89,10 @@ def create(octets):
         raise Refused(78, None)
     if address[0] % 8 != 1:
         raise Refused(83, None)
-    return f"create {int(digits(imsi))} {ebi[0] % 16} {tunnel(sender)} {tunnel(user)} {PLAN.index(name)} {recovery(outer)}"
+    return {
+        "kind": 32, "imsi": int(digits(imsi)), "ebi": ebi[0] % 16, "point": PLAN.index(name), "recovery": recovery(outer),
+        **ends(("control", "controladdr"), sender), **ends(("user", "useraddr"), user),
+    }
 
 
 def reply_to(octets):
@@ -97,32 +104,33 @@ def reply_to(octets):
 
 def modify(octets):
     outer, inner = request(octets)
-    sender = tunnel(field(outer, (87, 0), 9, is_tunnel(6))) if (87, 0) in outer else "-"
-    if inner is None:
-        return f"modify {sender} 0 -"
-    field(inner, (73, 0), 1, lambda v: v[0] % 16 == SESSION_EBI)
-    user = tunnel(field(inner, (87, 1), 9, is_tunnel(4))) if (87, 1) in inner else "-"
-    return f"modify {sender} 1 {user}"
+    line = {"kind": 34}
+    if (87, 0) in outer:
+        line.update(ends(("control", "controladdr"), field(outer, (87, 0), 9, is_tunnel(6))), moved=1)
+    if inner is not None:
+        line["context"] = 1
+        field(inner, (73, 0), 1, lambda v: v[0] % 16 == SESSION_EBI)
+        if (87, 1) in inner:
+            line.update(ends(("user", "useraddr"), field(inner, (87, 1), 9, is_tunnel(4))), usermoved=1)
+    return line
 
 
 def delete(octets):
     outer, _ = request(octets)
     if (73, 0) in outer and field(outer, (73, 0), 1)[0] % 16 != SESSION_EBI:
         raise Refused(64, None)
-    return f"delete {SESSION_EBI}"
+    return {"kind": 36, "ebi": SESSION_EBI}
 
 
-def carried(kind, octets):
+def carried(octets):
+    """What types 1, 2 and 100 carry: the Recovery of an Echo, whether an Echo's answer is unreadable and its Recovery, the same of a Delete Bearer Response and its Cause."""
     try:
         fields = cut(octets)
     except Overrun:
-        return "echo -" if kind == 1 else "unreadable"
-    if kind == 1:
-        return "echo " + recovery(fields)
-    if kind == 2:
-        return "echo-reply " + recovery(fields)
+        return 256, 1, 0, 1, 0
     cause = fields.get((2, 0), b"")
-    return f"bearer-reply {cause[0]}" if len(cause) >= 2 else "unreadable"
+    readable = len(cause) >= 2
+    return recovery(fields), 0, recovery(fields), int(not readable), cause[0] if readable else 0
 
 
 def number(d):
@@ -152,14 +160,18 @@ def answer(d):
     teid, after = (int.from_bytes(d[4:8], "big"), d[8:]) if t else (0, d[4:])
     line = f"0 {kind} {teid} {int.from_bytes(after[:3], 'big')}"
     octets = after[4:]
+    if kind not in (32, 34, 36):
+        return f"{line} {' '.join(map(str, carried(octets)))}", 0
     try:
-        if kind in (32, 34, 36):
-            return f"{line} {dict([(32, create), (34, modify), (36, delete)])[kind](octets)}", 0
-        return line + (" " + carried(kind, octets) if kind != 3 else ""), 0
+        read = {"number": 0, **{32: create, 34: modify, 36: delete}[kind](octets)}
     except Refused as r:
         cause, name = r.args
-        line += f" refused {cause} {'-' if name is None else '%d %d' % name}"
-        return line + (f" to {reply_to(octets)}" if kind == 32 else ""), cause
+        read = {"number": cause}
+        if name:
+            read.update(named=1, field=name[0], instance=name[1])
+    if kind == 32:
+        read["replyto"] = reply_to(octets)
+    return f"{line} {' '.join(str(read.get(c, 0)) for c in COLUMNS)}", read["number"]
 
 
 # ---- the cases
@@ -308,7 +320,8 @@ def cases():
 
 
 def main():
-    notes, lines, count, independent = [], [], 0, 0
+    head = "# Of a request, behind 0, type, TEID and sequence number: " + " ".join(COLUMNS)
+    notes, lines, count, independent = [head], [head], 0, 0
     for row in open(os.path.join(HERE, "independent.tsv")):
         row = row.rstrip("\n")
         if row.startswith("#"):

@@ -1,5 +1,6 @@
 // Runs the decoder over control datagrams. Standard input has a datagram in hex on each line; a line that begins with # is a note and is
-// written as it is. Each datagram's line says what its header and its fields give, under the trial plan and for a session of EBI 5.
+// written as it is. Each datagram's line has the first refusal by its header; where that is 0, type, TEID and sequence number follow, and
+// what the fields give, as numbers, under the trial plan and for a session of EBI 5.
 use requestshost::Answer;
 use requestshost::Carried;
 ghost use Prim.Native.Nat.{_<_, _≤_};
@@ -9,139 +10,47 @@ fn session_ebi() -> u8 {
     5
 }
 
-fn word(n: u32) {
-    io::write_all(1, b" ");
-    io::print_decimal(1, n as u64);
-}
-
-// A Recovery value, - for none.
-fn show_recovery(n: u32) {
-    if n == 256 {
-        io::write_all(1, b" -");
-    } else {
-        word(n);
+fn show_row(row: &[u64]) {
+    let mut i: usize = 0;
+    while i < row.len() {
+        io::write_all(1, b" ");
+        io::print_decimal(1, row[i]);
+        i += 1;
     }
 }
 
-// A tunnel end, - for one that stays.
-fn show_end(moved: u32, teid: u32, address: u32) {
-    if moved == 0 {
-        io::write_all(1, b" -");
-    } else {
-        word(teid);
-        word(address);
-    }
+fn show_answer(a: Answer) {
+    let row = requestshost::answer_row(a);
+    show_row(&row);
 }
 
-fn show_field(a: Answer) {
-    if a.named == 1 {
-        word(a.field);
-        word(a.instance);
-    } else {
-        io::write_all(1, b" -");
-    }
-}
-
-fn show_create(a: Answer) {
-    if a.number != 0 {
-        io::write_all(1, b" refused");
-        word(a.number);
-        show_field(a);
-        io::write_all(1, b" to");
-        word(a.replyto);
-        return;
-    }
-    io::write_all(1, b" create ");
-    io::print_decimal(1, a.imsi);
-    word(a.ebi);
-    word(a.control);
-    word(a.controladdr);
-    word(a.user);
-    word(a.useraddr);
-    word(a.point);
-    show_recovery(a.recovery);
-}
-
-fn show_modify(a: Answer) {
-    if a.number != 0 {
-        io::write_all(1, b" refused");
-        word(a.number);
-        show_field(a);
-        return;
-    }
-    io::write_all(1, b" modify");
-    show_end(a.moved, a.control, a.controladdr);
-    word(a.context);
-    show_end(a.usermoved, a.user, a.useraddr);
-}
-
-fn show_delete(a: Answer) {
-    if a.number != 0 {
-        io::write_all(1, b" refused");
-        word(a.number);
-        show_field(a);
-        return;
-    }
-    io::write_all(1, b" delete");
-    word(a.ebi);
-}
-
-fn show_echo_reply(c: Carried) {
-    if c.echounread == 1 {
-        io::write_all(1, b" unreadable");
-        return;
-    }
-    io::write_all(1, b" echo-reply");
-    show_recovery(c.echoreply);
-}
-
-fn show_bearer_reply(c: Carried) {
-    if c.bearerunread == 1 {
-        io::write_all(1, b" unreadable");
-        return;
-    }
-    io::write_all(1, b" bearer-reply");
-    word(c.cause);
-}
-
-fn show_carried(kind: u32, c: Carried) {
-    if kind == 1 {
-        io::write_all(1, b" echo");
-        show_recovery(c.echo);
-        return;
-    }
-    if kind == 2 {
-        show_echo_reply(c);
-        return;
-    }
-    if kind == 100 {
-        show_bearer_reply(c);
-    }
+fn show_carried(c: Carried) {
+    let row = requestshost::carried_row(c);
+    show_row(&row);
 }
 
 fn show_fields(kind: u32, s: &[u8]) {
     if kind == 32 {
-        show_create(requestshost::requests_create(s));
+        show_answer(requestshost::requests_create(s));
         return;
     }
     if kind == 34 {
-        show_modify(requestshost::requests_modify(s, session_ebi()));
+        show_answer(requestshost::requests_modify(s, session_ebi()));
         return;
     }
     if kind == 36 {
-        show_delete(requestshost::requests_delete(s, session_ebi()));
+        show_answer(requestshost::requests_delete(s, session_ebi()));
         return;
     }
-    show_carried(kind, requestshost::requests_carried(s));
+    show_carried(requestshost::requests_carried(s));
 }
 
 fn show(d: &[u8]) {
     let h = requestshost::requests_head(d);
     io::print_decimal(1, h.number as u64);
     if h.number == 0 {
-        word(h.kind);
-        word(h.teid);
-        word(h.sequence);
+        let head = [h.kind as u64, h.teid as u64, h.sequence as u64];
+        show_row(&head);
         let at = h.fields as usize;
         if at <= d.len() {
             show_fields(h.kind, &d[at..]);

@@ -1,5 +1,6 @@
--- The types of the fields that are read, each figure in one place.
+-- The types of the fields that are read, each figure in one place; that of the Bearer Context stands with the overruns.
 use Prim.Native.Nat.{ℕ}
+use Rattle.fields.specs.Overrun.{bearerContext}
 
 abbrev pub imsiKind : ℕ
 imsiKind = 1
@@ -28,6 +29,5 @@ ratKind = 82
 abbrev pub tunnelKind : ℕ
 tunnelKind = 87
 
--- an APN of any length; the Bearer Context, which holds fields
 abbrev pub bearerKind : ℕ
-bearerKind = 93
+bearerKind = bearerContext

@@ -29,25 +29,25 @@ pub struct Head {
 #[repr(C)]
 pub struct Answer {
     pub imsi: u64,
-    pub number: u32,
-    pub named: u32,
-    pub field: u32,
-    pub instance: u32,
+    pub number: u64,
+    pub named: u64,
+    pub field: u64,
+    pub instance: u64,
     // 32, 34 or 36 where it is sound
-    pub kind: u32,
-    pub ebi: u32,
-    pub control: u32,
-    pub controladdr: u32,
-    pub user: u32,
-    pub useraddr: u32,
-    pub point: u32,
-    pub recovery: u32,
+    pub kind: u64,
+    pub ebi: u64,
+    pub control: u64,
+    pub controladdr: u64,
+    pub user: u64,
+    pub useraddr: u64,
+    pub point: u64,
+    pub recovery: u64,
     // whether the control end, the Bearer Context and the user end came with a Modify
-    pub moved: u32,
-    pub context: u32,
-    pub usermoved: u32,
+    pub moved: u64,
+    pub context: u64,
+    pub usermoved: u64,
     // where a cause reply to a Create goes
-    pub replyto: u32,
+    pub replyto: u64,
 }
 
 // What types 1, 2 and 100 carry.
@@ -309,7 +309,7 @@ fn nothing() -> Answer {
     }
 }
 
-fn flag(b: bool) -> u32 {
+fn flag(b: bool) -> u64 {
     if b { 1 } else { 0 }
 }
 
@@ -322,10 +322,10 @@ pub fn recovery_number(r: Recovery) -> u32 {
 
 fn refused(w: Refusal) -> Answer {
     let mut a = nothing();
-    a.number = w.cause as u32;
+    a.number = w.cause as u64;
     a.named = flag(w.named);
-    a.field = w.kind as u32;
-    a.instance = w.instance as u32;
+    a.field = w.kind as u64;
+    a.instance = w.instance as u64;
     a
 }
 
@@ -333,14 +333,14 @@ fn of_create(c: Create) -> Answer {
     let mut a = nothing();
     a.kind = 32;
     a.imsi = c.imsi;
-    a.ebi = c.ebi as u32;
-    a.control = c.control;
-    a.controladdr = c.controladdr;
-    a.user = c.user;
-    a.useraddr = c.useraddr;
-    a.point = (c.point % 256) as u32;
+    a.ebi = c.ebi as u64;
+    a.control = c.control as u64;
+    a.controladdr = c.controladdr as u64;
+    a.user = c.user as u64;
+    a.useraddr = c.useraddr as u64;
+    a.point = c.point as u64;
     let recovery = c.recovery;
-    a.recovery = recovery_number(recovery);
+    a.recovery = recovery_number(recovery) as u64;
     a
 }
 
@@ -350,8 +350,8 @@ fn of_modify(m: Modify) -> Answer {
     let control = m.control;
     if let Peer::New { teid, address } = control {
         a.moved = 1;
-        a.control = teid;
-        a.controladdr = address;
+        a.control = teid as u64;
+        a.controladdr = address as u64;
     }
     let context = m.context;
     if let Context::Present = context {
@@ -360,8 +360,8 @@ fn of_modify(m: Modify) -> Answer {
     let user = m.user;
     if let Peer::New { teid, address } = user {
         a.usermoved = 1;
-        a.user = teid;
-        a.useraddr = address;
+        a.user = teid as u64;
+        a.useraddr = address as u64;
     }
     a
 }
@@ -373,7 +373,7 @@ fn of_request(q: Request) -> Answer {
         Request::Delete(d) => {
             let mut a = nothing();
             a.kind = 36;
-            a.ebi = d.ebi as u32;
+            a.ebi = d.ebi as u64;
             a
         }
     }
@@ -405,7 +405,7 @@ pub extern "C" fn requests_create(s: &[u8]) -> Answer {
     let plan = trial_plan();
     let d = requests::read_create(plan, s);
     let mut a = of_decoded(d);
-    a.replyto = requests::reply_to(s);
+    a.replyto = requests::reply_to(s) as u64;
     a
 }
 
@@ -446,4 +446,37 @@ pub extern "C" fn requests_carried(s: &[u8]) -> Carried {
         }
     }
     a
+}
+
+// The same as rows of numbers, in the order of a line of `controlvectors`.
+pub fn answer_row(a: Answer) -> [u64; 17] {
+    [
+        a.number,
+        a.named,
+        a.field,
+        a.instance,
+        a.kind,
+        a.imsi,
+        a.ebi,
+        a.control,
+        a.controladdr,
+        a.user,
+        a.useraddr,
+        a.point,
+        a.recovery,
+        a.moved,
+        a.context,
+        a.usermoved,
+        a.replyto,
+    ]
+}
+
+pub fn carried_row(c: Carried) -> [u64; 5] {
+    [
+        c.echo as u64,
+        c.echounread as u64,
+        c.echoreply as u64,
+        c.bearerunread as u64,
+        c.cause as u64,
+    ]
 }
