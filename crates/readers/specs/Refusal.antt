@@ -1,0 +1,45 @@
+-- Refusals with a cause. For a field: missing 70, short 67, wrong 69, and the field is named; the others name none.
+use Prim.Native.Nat.{ℕ}
+use mathlib.Core.Bool.{Bool, true, false}
+use Rattle.readers.specs.declared.Refusal.{Refusal}
+use Rattle.readers.specs.declared.Octet.{Octet}
+use Rattle.readers.specs.declared.Octet.the-variants as O
+use Rattle.values.specs.declared.Imsi.{Imsi}
+use Rattle.values.specs.declared.Imsi.the-variants as I
+use Rattle.values.specs.declared.Tunnel.{Tunnel}
+use Rattle.values.specs.declared.Tunnel.the-variants as T
+
+abbrev pub missing : ℕ → ℕ → Refusal
+missing kind instance = record { cause = 70; kind = kind; instance = instance; named = true }
+
+abbrev pub short : ℕ → ℕ → Refusal
+short kind instance = record { cause = 67; kind = kind; instance = instance; named = true }
+
+abbrev pub wrong : ℕ → ℕ → Refusal
+wrong kind instance = record { cause = 69; kind = kind; instance = instance; named = true }
+
+abbrev pub bare : ℕ → Refusal
+bare cause = record { cause = cause; kind = 0; instance = 0; named = false }
+
+-- a field runs past the end
+abbrev pub overrun : Refusal
+overrun = bare 67
+
+-- what a read that has no value is refused with; one that has a value is not refused, which the cause 0 stands for
+unfoldable pub octetRefusal : Octet → ℕ → ℕ → Refusal
+octetRefusal (O.Value x) kind instance = bare 0
+octetRefusal O.Missing kind instance = missing kind instance
+octetRefusal O.Short kind instance = short kind instance
+octetRefusal O.Wrong kind instance = wrong kind instance
+
+unfoldable pub imsiRefusal : Imsi → ℕ → ℕ → Refusal
+imsiRefusal (I.Value x) kind instance = bare 0
+imsiRefusal I.Missing kind instance = missing kind instance
+imsiRefusal I.Short kind instance = short kind instance
+imsiRefusal I.Wrong kind instance = wrong kind instance
+
+unfoldable pub tunnelRefusal : Tunnel → ℕ → ℕ → Refusal
+tunnelRefusal (T.Value t a) kind instance = bare 0
+tunnelRefusal T.Missing kind instance = missing kind instance
+tunnelRefusal T.Short kind instance = short kind instance
+tunnelRefusal T.Wrong kind instance = wrong kind instance

@@ -1,0 +1,268 @@
+-- What holds of the decoder's definitions on every list of octets: each answers one of its cases and no two, with a number of its own list; what
+-- it holds is sound; and a field's value is the very octets between its start and its end.
+-- Assumes nothing.
+use Prim.Native.Nat.{ℕ, _%_}
+use mathlib.Core.Bool.{Bool, true, false, not, _&&_}
+use mathlib.Core.List.{List, [], _∷_}
+use mathlib.Core.Path.{_≡_, refl}
+use native.Mathlib.Omega.{arith}
+use lib.ListN.{take, getD}
+use lib.Dec.{eqb, ltb}
+use Rattle.octets.specs.Choice.{split, and-left, and-right}
+use Rattle.fields.specs.Walk.{part}
+use Rattle.fields.specs.Search.{find, Stands, find-stands, find-value}
+use Rattle.fields.specs.Overrun.{overIn}
+use Rattle.fields.specs.declared.Found.{Found}
+use Rattle.fields.specs.declared.Found.the-variants as F
+use Rattle.header.specs.Types.{among}
+use Rattle.values.specs.declared.Imsi.{Imsi}
+use Rattle.values.specs.declared.Imsi.the-variants as I
+use Rattle.values.specs.declared.Tunnel.{Tunnel}
+use Rattle.values.specs.declared.Tunnel.the-variants as T
+use Rattle.readers.specs.declared.Octet.{Octet}
+use Rattle.readers.specs.declared.Octet.the-variants as O
+use Rattle.readers.specs.declared.Refusal.{Refusal}
+use Rattle.readers.specs.Kinds.{imsiKind, ratKind, tunnelKind, apnKind, paaKind, bearerKind, ebiKind, qosKind}
+use Rattle.readers.specs.Readers.{octetAt, octetIn, imsiIn, ratIn, tunnelIn, paaIn, ebiIn}
+use Rattle.plan.specs.declared.Plan.{Plan}
+use Rattle.plan.specs.declared.Named.{Named}
+use Rattle.plan.specs.declared.Named.the-variants as N
+use Rattle.plan.specs.Limits.{parties, used}
+use Rattle.plan.specs.Names.{namedIn}
+use Rattle.requests.specs.Chain.{refuse, place, octet, imsi, tunnel, point}
+use Rattle.requests.specs.Create.{createOf, CreateSound, create-sound}
+use Rattle.requests.specs.declared.Create as C
+use Rattle.requests.specs.declared.Modify as M
+use Rattle.requests.specs.declared.Delete as D
+use Rattle.requests.specs.declared.Peer.{Peer}
+use Rattle.requests.specs.declared.Request.{Request}
+use Rattle.requests.specs.declared.Request.the-variants.{Create, Modify, Delete}
+use Rattle.requests.specs.declared.Decoded.{Decoded}
+use Rattle.requests.specs.declared.Decoded.the-variants.{Sound, Refused}
+use Rattle.changes.specs.Change.{modifyOf, deleteOf, peer, context, equal, unlessOther, ModifySound, modify-sound}
+
+-- document 01's number of an answer: 0 where the request goes on, else the cause
+unfoldable pub numberFor : Decoded → ℕ
+numberFor (Sound q) = 0
+numberFor (Refused w) = w .cause
+
+unfoldable pub isCreate : Request → Bool
+isCreate (Create c) = true
+isCreate (Modify m) = false
+isCreate (Delete d) = false
+
+unfoldable pub isModify : Request → Bool
+isModify (Create c) = false
+isModify (Modify m) = true
+isModify (Delete d) = false
+
+unfoldable pub isDelete : Request → Bool
+isDelete (Create c) = false
+isDelete (Modify m) = false
+isDelete (Delete d) = true
+
+-- one of the cases, and no two: a number of the list; a request of the kind that was read, or a refusal, never both; and one value only
+pub record Answers (numbers : List ℕ) (kind : Request → Bool) (d : Decoded) : Type 0 where
+  pub number : among (numberFor d) numbers ≡ true
+  pub sort : (q : Request) → d ≡ Sound q → kind q ≡ true
+  pub apart : (q : Request) (w : Refusal) → d ≡ Sound q → d ≡ Refused w → ⊥
+  pub once : (q r : Request) → d ≡ Sound q → d ≡ Sound r → q ≡ r
+
+-- the same as one test
+unfoldable right : List ℕ → (Request → Bool) → Decoded → Bool
+right l kind (Sound q) = among 0 l && kind q
+right l kind (Refused w) = among (w .cause) l
+
+right-number : (l : List ℕ) (kind : Request → Bool) (d : Decoded) → right l kind d ≡ true → among (numberFor d) l ≡ true
+unfolding right numberFor
+right-number l kind (Sound q) e = and-left (among 0 l) (kind q) e
+right-number l kind (Refused w) e = e
+
+right-sort : (l : List ℕ) (kind : Request → Bool) (d : Decoded) (q : Request) → right l kind d ≡ true → d ≡ Sound q → kind q ≡ true
+unfolding right
+right-sort l kind d q e h = and-right (among 0 l) (kind q) (rw h at e)
+
+unlike : (d : Decoded) (q : Request) (w : Refusal) → d ≡ Sound q → d ≡ Refused w → ⊥
+unlike d q w e f = let z : _≡_ {A = ℕ} 0 1 = cc in omega arith
+
+same : (d : Decoded) (q r : Request) → d ≡ Sound q → d ≡ Sound r → q ≡ r
+same d q r e f = cc
+
+answers : (l : List ℕ) (kind : Request → Bool) (d : Decoded) → right l kind d ≡ true → Answers l kind d
+answers l kind d e = record { number = right-number l kind d e; sort = λ q. right-sort l kind d q e; apart = unlike d; once = same d }
+
+-- ---- each step of a list of fields keeps it
+module _ (l : List ℕ) (kind : Request → Bool) where
+  refuse-right : (cause : ℕ) (t : Bool) (rest : Decoded) → among cause l ≡ true → right l kind rest ≡ true → right l kind (refuse cause t rest) ≡ true
+  unfolding right
+  refuse-right cause true rest e r = e
+  refuse-right cause false rest e r = r
+
+  point-right : (cause : ℕ) (m : Named) (f : ℕ → Decoded) → among cause l ≡ true → ((p : ℕ) → right l kind (f p) ≡ true) → right l kind (point cause m f) ≡ true
+  unfolding right
+  point-right cause (N.Point p) f e r = r p
+  point-right cause N.Unknown f e r = e
+
+  place-right : (k i : ℕ) (m : Found) (f : ℕ → ℕ → Decoded) → among 70 l ≡ true → ((a n : ℕ) → right l kind (f a n) ≡ true) → right l kind (place k i m f) ≡ true
+  unfolding right
+  place-right k i (F.At a n) f e r = r a n
+  place-right k i F.Missing f e r = e
+
+  context-right : (m : Found) (without : Decoded) (f : ℕ → ℕ → Decoded) → right l kind without ≡ true → ((a n : ℕ) → right l kind (f a n) ≡ true) → right l kind (context m without f) ≡ true
+  context-right (F.At a n) without f e r = r a n
+  context-right F.Missing without f e r = e
+
+  -- a field that is missing, short or wrong
+  module _ (e70 : among 70 l ≡ true) (e67 : among 67 l ≡ true) (e69 : among 69 l ≡ true) where
+    octet-right : (k i : ℕ) (m : Octet) (f : ℕ → Decoded) → ((x : ℕ) → right l kind (f x) ≡ true) → right l kind (octet k i m f) ≡ true
+    unfolding right
+    octet-right k i (O.Value x) f r = r x
+    octet-right k i O.Missing f r = e70
+    octet-right k i O.Short f r = e67
+    octet-right k i O.Wrong f r = e69
+
+    imsi-right : (k i : ℕ) (m : Imsi) (f : ℕ → Decoded) → ((x : ℕ) → right l kind (f x) ≡ true) → right l kind (imsi k i m f) ≡ true
+    unfolding right
+    imsi-right k i (I.Value x) f r = r x
+    imsi-right k i I.Missing f r = e70
+    imsi-right k i I.Short f r = e67
+    imsi-right k i I.Wrong f r = e69
+
+    tunnel-right : (k i : ℕ) (m : Tunnel) (f : ℕ → ℕ → Decoded) → ((t a : ℕ) → right l kind (f t a) ≡ true) → right l kind (tunnel k i m f) ≡ true
+    unfolding right
+    tunnel-right k i (T.Value t a) f r = r t a
+    tunnel-right k i T.Missing f r = e70
+    tunnel-right k i T.Short f r = e67
+    tunnel-right k i T.Wrong f r = e69
+
+    peer-right : (k i : ℕ) (m : Tunnel) (f : Peer → Decoded) → ((p : Peer) → right l kind (f p) ≡ true) → right l kind (peer k i m f) ≡ true
+    unfolding right
+    peer-right k i (T.Value t a) f r = r _
+    peer-right k i T.Missing f r = r _
+    peer-right k i T.Short f r = e67
+    peer-right k i T.Wrong f r = e69
+
+    equal-right : (k i : ℕ) (t : Bool) (rest : Decoded) → right l kind rest ≡ true → right l kind (equal k i t rest) ≡ true
+    unfolding right
+    equal-right k i true rest r = r
+    equal-right k i false rest r = e69
+
+  other-right : (ebi : ℕ) (m : Octet) (rest : Decoded) → among 67 l ≡ true → among 64 l ≡ true → (m ≡ O.Wrong → ⊥) → right l kind rest ≡ true → right l kind (unlessOther ebi m rest) ≡ true
+  unfolding right
+  other-right ebi (O.Value x) rest e67 e64 w r = split (eqb (x % 16) ebi) (λ t. rw t r) (λ t. rw t e64)
+  other-right ebi O.Missing rest e67 e64 w r = r
+  other-right ebi O.Short rest e67 e64 w r = e67
+  other-right ebi O.Wrong rest e67 e64 w r = absurd (w refl)
+
+-- the octet of a field as it stands is never wrong: only a judgement of it is
+octet-not-wrong : (s : List ℕ) (least : ℕ) (f : Found) → octetAt s least f ≡ O.Wrong → ⊥
+unfolding octetAt
+octet-not-wrong s least F.Missing e = let z : _≡_ {A = ℕ} 0 1 = cc in omega arith
+octet-not-wrong s least (F.At a n) e =
+    split (ltb n least)
+    (λ t. let g : O.Short ≡ O.Wrong = rw t at e in let z : _≡_ {A = ℕ} 0 1 = cc in omega arith)
+    (λ t. let g : O.Value (getD s a 0) ≡ O.Wrong = rw t at e in let z : _≡_ {A = ℕ} 0 1 = cc in omega arith)
+
+-- ---- the claims
+-- the numbers that each may answer
+unfoldable pub createNumbers : List ℕ
+createNumbers = 0 ∷ 67 ∷ 69 ∷ 70 ∷ 78 ∷ 83 ∷ []
+
+unfoldable pub modifyNumbers : List ℕ
+modifyNumbers = 0 ∷ 67 ∷ 69 ∷ 70 ∷ []
+
+unfoldable pub deleteNumbers : List ℕ
+deleteNumbers = 0 ∷ 64 ∷ 67 ∷ []
+
+create-sort : (c : C.Create) → right createNumbers isCreate (Sound (Create c)) ≡ true
+unfolding right isCreate createNumbers
+create-sort c = refl
+
+modify-sort : (m : M.Modify) → right modifyNumbers isModify (Sound (Modify m)) ≡ true
+unfolding right isModify modifyNumbers
+modify-sort m = refl
+
+delete-sort : (d : D.Delete) → right deleteNumbers isDelete (Sound (Delete d)) ≡ true
+unfolding right isDelete deleteNumbers
+delete-sort d = refl
+
+create-right : (plan : Plan) (s : List ℕ) → right createNumbers isCreate (createOf plan s) ≡ true
+unfolding createOf createNumbers
+create-right plan s =
+    refuse-right createNumbers isCreate 67 (overIn s) _ refl
+    (imsi-right createNumbers isCreate refl refl refl imsiKind 0 (imsiIn s) _ λ imsi.
+    octet-right createNumbers isCreate refl refl refl ratKind 0 (ratIn s) _ λ rat.
+    tunnel-right createNumbers isCreate refl refl refl tunnelKind 0 (tunnelIn s 0 6) _ λ control controladdr.
+    place-right createNumbers isCreate apnKind 0 (find s apnKind 0) _ refl λ apn size.
+    octet-right createNumbers isCreate refl refl refl paaKind 0 (paaIn s) _ λ paa.
+    place-right createNumbers isCreate bearerKind 0 (find s bearerKind 0) _ refl λ start all.
+    octet-right createNumbers isCreate refl refl refl ebiKind 0 (ebiIn (part s start all)) _ λ ebi.
+    tunnel-right createNumbers isCreate refl refl refl tunnelKind 2 (tunnelIn (part s start all) 2 4) _ λ user useraddr.
+    octet-right createNumbers isCreate refl refl refl qosKind 0 (octetIn (part s start all) qosKind 22) _ λ qos.
+    point-right createNumbers isCreate 78 (namedIn (used plan) (part s apn size)) _ refl λ point.
+    refuse-right createNumbers isCreate 83 (not (eqb paa 1)) _ refl (create-sort _))
+
+modify-right : (ebi : ℕ) (s : List ℕ) → right modifyNumbers isModify (modifyOf ebi s) ≡ true
+unfolding modifyOf modifyNumbers
+modify-right ebi s =
+    refuse-right modifyNumbers isModify 67 (overIn s) _ refl
+    (peer-right modifyNumbers isModify refl refl refl tunnelKind 0 (tunnelIn s 0 6) _ λ control.
+    context-right modifyNumbers isModify (find s bearerKind 0) _ _ (modify-sort _) λ start size.
+    octet-right modifyNumbers isModify refl refl refl ebiKind 0 (ebiIn (part s start size)) _ λ x.
+    equal-right modifyNumbers isModify refl refl refl ebiKind 0 (eqb x ebi) _
+    (peer-right modifyNumbers isModify refl refl refl tunnelKind 1 (tunnelIn (part s start size) 1 4) _ λ user.
+    modify-sort _))
+
+delete-right : (ebi : ℕ) (s : List ℕ) → right deleteNumbers isDelete (deleteOf ebi s) ≡ true
+unfolding deleteOf deleteNumbers octetIn
+delete-right ebi s =
+    refuse-right deleteNumbers isDelete 67 (overIn s) _ refl
+    (other-right deleteNumbers isDelete ebi (octetIn s ebiKind 1) _ refl refl (octet-not-wrong s 1 (find s ebiKind 0)) (delete-sort _))
+
+unfoldable pub CreateAnswers : Type 0
+CreateAnswers = (plan : Plan) (s : List ℕ) → Answers createNumbers isCreate (createOf plan s)
+
+unfoldable pub ModifyAnswers : Type 0
+ModifyAnswers = (ebi : ℕ) (s : List ℕ) → Answers modifyNumbers isModify (modifyOf ebi s)
+
+unfoldable pub DeleteAnswers : Type 0
+DeleteAnswers = (ebi : ℕ) (s : List ℕ) → Answers deleteNumbers isDelete (deleteOf ebi s)
+
+-- what a decoded Create and Modify hold is sound
+unfoldable pub CreatesSound : Type 0
+CreatesSound = (plan : Plan) (s : List ℕ) (c : C.Create) → createOf plan s ≡ Sound (Create c) → CreateSound (parties plan) c
+
+unfoldable pub ModifiesSound : Type 0
+ModifiesSound = (ebi : ℕ) (s : List ℕ) (m : M.Modify) → modifyOf ebi s ≡ Sound (Modify m) → ModifySound m
+
+-- a field's value is the octets between its start and its end: behind type, length and instance, as many as the length says
+pub record ItsOctets (s : List ℕ) (kind inst start size : ℕ) : Type 0 where
+  pub stands : Stands s 0 kind inst start size
+  pub value : part s start size ≡ take size (stands .back)
+
+unfoldable pub ValuesAreTheirOctets : Type 0
+ValuesAreTheirOctets = (s : List ℕ) (kind inst start size : ℕ) → find s kind inst ≡ F.At start size → ItsOctets s kind inst start size
+
+pub create-answers : CreateAnswers
+unfolding CreateAnswers
+create-answers plan s = answers createNumbers isCreate (createOf plan s) (create-right plan s)
+
+pub modify-answers : ModifyAnswers
+unfolding ModifyAnswers
+modify-answers ebi s = answers modifyNumbers isModify (modifyOf ebi s) (modify-right ebi s)
+
+pub delete-answers : DeleteAnswers
+unfolding DeleteAnswers
+delete-answers ebi s = answers deleteNumbers isDelete (deleteOf ebi s) (delete-right ebi s)
+
+pub creates-sound : CreatesSound
+unfolding CreatesSound
+creates-sound = create-sound
+
+pub modifies-sound : ModifiesSound
+unfolding ModifiesSound
+modifies-sound = modify-sound
+
+pub values-are-their-octets : ValuesAreTheirOctets
+unfolding ValuesAreTheirOctets
+values-are-their-octets s kind inst start size e = record { stands = find-stands s kind inst start size e; value = find-value s kind inst start size e }

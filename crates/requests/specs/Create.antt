@@ -1,0 +1,158 @@
+-- Create (32), read from the octets behind its header under a plan: first the overruns, then the fields in document 01's order, then an unknown APN (78)
+-- and the type of the PAA (83), then Recovery.
+-- Assumes nothing.
+use Prim.Native.Nat.{ℕ, _<_, _≤_}
+use mathlib.Core.Bool.{Bool, true, false, not}
+use mathlib.Core.List.{List}
+use mathlib.Core.Path.{_≡_, refl, sym, _∙_}
+use native.Mathlib.Omega.{arith}
+use lib.Dec.{eqb}
+use Rattle.octets.specs.Choice.{pick}
+use Rattle.fields.specs.Walk.{part}
+use Rattle.fields.specs.Search.{find}
+use Rattle.fields.specs.Overrun.{overIn}
+use Rattle.values.specs.Imsi.{imsiLimit}
+use Rattle.values.specs.declared.Tunnel.{Tunnel}
+use Rattle.values.specs.declared.Tunnel.the-variants as T
+use Rattle.readers.specs.Kinds.{imsiKind, ratKind, tunnelKind, apnKind, paaKind, bearerKind, ebiKind, qosKind}
+use Rattle.readers.specs.Readers.{imsiIn, ratIn, tunnelIn, paaIn, ebiIn, octetIn, recoveryIn, imsi-in-below, ebi-range, tunnel-in-live}
+use Rattle.readers.specs.declared.Recovery.{Recovery}
+use Rattle.plan.specs.declared.Plan.{Plan}
+use Rattle.plan.specs.declared.AccessPoint.{AccessPoint}
+use Rattle.plan.specs.declared.Named.{Named}
+use Rattle.plan.specs.Limits.{used, parties, noPoint}
+use Rattle.plan.specs.Names.{namedIn, named-is}
+use Rattle.requests.specs.declared.Sender.{Sender}
+use Rattle.requests.specs.declared.Asked.{Asked}
+use Rattle.requests.specs.declared.Bearer.{Bearer}
+use Rattle.requests.specs.declared.Create as C
+use Rattle.requests.specs.declared.Request.{Request}
+use Rattle.requests.specs.declared.Request.the-variants.{Create}
+use Rattle.requests.specs.declared.Decoded.{Decoded}
+use Rattle.requests.specs.declared.Decoded.the-variants.{Sound, Refused}
+use Rattle.requests.specs.Chain.{refuse, place, octet, imsi, tunnel, point, refuse-got, place-got, octet-got, imsi-got, tunnel-got, point-got}
+
+-- the causes that name no field here: an overrun, an unknown APN, an address type that is not served
+abbrev pub overrunCause : ℕ
+overrunCause = 67
+
+abbrev pub unknownApn : ℕ
+unknownApn = 78
+
+abbrev pub addressType : ℕ
+addressType = 83
+
+-- the one PAA type that is served: IPv4
+abbrev pub ipv4 : ℕ
+ipv4 = 1
+
+unfoldable pub createOf : Plan → List ℕ → Decoded
+createOf plan s =
+    refuse overrunCause (overIn s) (
+    imsi imsiKind 0 (imsiIn s) λ imsi.
+    octet ratKind 0 (ratIn s) λ rat.
+    tunnel tunnelKind 0 (tunnelIn s 0 6) λ control controladdr.
+    place apnKind 0 (find s apnKind 0) λ apn size.
+    octet paaKind 0 (paaIn s) λ paa.
+    place bearerKind 0 (find s bearerKind 0) λ start all.
+    octet ebiKind 0 (ebiIn (part s start all)) λ ebi.
+    tunnel tunnelKind 2 (tunnelIn (part s start all) 2 4) λ user useraddr.
+    octet qosKind 0 (octetIn (part s start all) qosKind 22) λ qos.
+    point unknownApn (namedIn (used plan) (part s apn size)) λ point.
+    refuse addressType (not (eqb paa ipv4)) (
+    Sound (Create (record {
+      imsi = imsi;
+      ebi = ebi;
+      control = control;
+      controladdr = controladdr;
+      user = user;
+      useraddr = useraddr;
+      point = point;
+      recovery = recoveryIn s;
+    }))))
+
+-- ---- the same in stages, as it is read: of the message, of the Bearer Context, and what is settled after the list
+unfoldable pub settledOf : Sender → Asked → Bearer → Decoded
+settledOf who what bearer =
+    point unknownApn (what .named) λ point.
+    refuse addressType (not (eqb (what .paa) ipv4)) (
+    Sound (Create (record {
+      imsi = who .imsi;
+      ebi = bearer .ebi;
+      control = who .control;
+      controladdr = who .controladdr;
+      user = bearer .user;
+      useraddr = bearer .useraddr;
+      point = point;
+      recovery = what .recovery;
+    })))
+
+unfoldable pub bearerOf : List ℕ → Sender → Asked → Decoded
+bearerOf b who what =
+    octet ebiKind 0 (ebiIn b) λ ebi.
+    tunnel tunnelKind 2 (tunnelIn b 2 4) λ user useraddr.
+    octet qosKind 0 (octetIn b qosKind 22) λ qos.
+    settledOf who what (record { ebi = ebi; user = user; useraddr = useraddr })
+
+unfoldable pub askedOf : Plan → List ℕ → Sender → Decoded
+askedOf plan s who =
+    place apnKind 0 (find s apnKind 0) λ apn size.
+    octet paaKind 0 (paaIn s) λ paa.
+    place bearerKind 0 (find s bearerKind 0) λ start all.
+    bearerOf (part s start all) who (record { named = namedIn (used plan) (part s apn size); paa = paa; recovery = recoveryIn s })
+
+pub create-stages : (plan : Plan) (s : List ℕ) → createOf plan s ≡
+    refuse overrunCause (overIn s) (
+    imsi imsiKind 0 (imsiIn s) λ imsi.
+    octet ratKind 0 (ratIn s) λ rat.
+    tunnel tunnelKind 0 (tunnelIn s 0 6) λ control controladdr.
+    askedOf plan s (record { imsi = imsi; control = control; controladdr = controladdr }))
+unfolding createOf askedOf bearerOf settledOf
+create-stages plan s = refl
+
+-- the TEID that a cause reply to a Create goes to: that of a Sender F-TEID that passes its own checks, else 0; 0 after an overrun
+unfoldable pub teidIn : Tunnel → ℕ
+teidIn (T.Value teid address) = teid
+teidIn T.Missing = 0
+teidIn T.Short = 0
+teidIn T.Wrong = 0
+
+unfoldable pub replyTo : List ℕ → ℕ
+replyTo s = pick {A = ℕ} (overIn s) 0 (teidIn (tunnelIn s 0 6))
+
+-- ---- what a decoded Create holds
+pub record CreateSound (parties : ℕ) (c : C.Create) : Type 0 where
+  pub imsi : c .imsi < imsiLimit
+  pub low : 5 ≤ c .ebi
+  pub high : c .ebi ≤ 15
+  pub control : 0 < c .control
+  pub user : 0 < c .user
+  pub point : c .point < parties
+
+is-create : (n : ℕ) (r c : C.Create) → Sound (Create r) ≡ Sound (Create c) → CreateSound n r → CreateSound n c
+is-create n r c e q = let g : r ≡ c = cc in rw (← g) q
+
+pub create-sound : (plan : Plan) (s : List ℕ) (c : C.Create) → createOf plan s ≡ Sound (Create c) → CreateSound (parties plan) c
+unfolding createOf
+create-sound plan s c e =
+    refuse-got (Create c) overrunCause (overIn s) _ e λ o e0.
+    imsi-got (Create c) imsiKind 0 (imsiIn s) _ e0 λ x hx e1.
+    octet-got (Create c) ratKind 0 (ratIn s) _ e1 λ rat hr e2.
+    tunnel-got (Create c) tunnelKind 0 (tunnelIn s 0 6) _ e2 λ t a ht e3.
+    place-got (Create c) apnKind 0 (find s apnKind 0) _ e3 λ apn size ha e4.
+    octet-got (Create c) paaKind 0 (paaIn s) _ e4 λ paa hp e5.
+    place-got (Create c) bearerKind 0 (find s bearerKind 0) _ e5 λ start all hb e6.
+    octet-got (Create c) ebiKind 0 (ebiIn (part s start all)) _ e6 λ ebi he e7.
+    tunnel-got (Create c) tunnelKind 2 (tunnelIn (part s start all) 2 4) _ e7 λ u b hu e8.
+    octet-got (Create c) qosKind 0 (octetIn (part s start all) qosKind 22) _ e8 λ qos hq e9.
+    point-got (Create c) unknownApn (namedIn (used plan) (part s apn size)) _ e9 λ p hn e10.
+    refuse-got (Create c) addressType (not (eqb paa ipv4)) _ e10 λ hv e11.
+    is-create (parties plan) _ c e11
+    (record {
+      imsi = imsi-in-below s x hx;
+      low = ebi-range (part s start all) ebi he .0;
+      high = ebi-range (part s start all) ebi he .1;
+      control = tunnel-in-live s 0 6 t a ht;
+      user = tunnel-in-live (part s start all) 2 4 u b hu;
+      point = named-is (used plan) (part s apn size) p noPoint hn .0;
+    })

@@ -1,0 +1,482 @@
+// The decoder for hosts written in C or Rust: each function takes octets and answers a struct of numbers. It serves the trials under
+// tests/ and the program `controlvectors`; a gateway calls the decoding crates themselves. Where a part of the answer does not apply
+// it is 0; a Recovery that is not there is 256.
+use carried::BearerReply;
+use carried::EchoReply;
+use header::HeaderCursor;
+use plan::AccessPoint;
+use plan::Plan;
+use readers::Recovery;
+use readers::Refusal;
+use requests::Context;
+use requests::Create;
+use requests::Decoded;
+use requests::Modify;
+use requests::Peer;
+use requests::Request;
+
+#[repr(C)]
+pub struct Head {
+    // the first refusal, 0 where the header passes
+    pub number: u32,
+    pub kind: u32,
+    pub teid: u32,
+    pub sequence: u32,
+    pub fields: u32,
+}
+
+// A decoded request: number 0 and its kind, or the cause with the field that it names.
+#[repr(C)]
+pub struct Answer {
+    pub imsi: u64,
+    pub number: u64,
+    pub named: u64,
+    pub field: u64,
+    pub instance: u64,
+    // 32, 34 or 36 where it is sound
+    pub kind: u64,
+    pub ebi: u64,
+    pub control: u64,
+    pub controladdr: u64,
+    pub user: u64,
+    pub useraddr: u64,
+    pub point: u64,
+    pub recovery: u64,
+    // whether the control end, the Bearer Context and the user end came with a Modify
+    pub moved: u64,
+    pub context: u64,
+    pub usermoved: u64,
+    // where a cause reply to a Create goes
+    pub replyto: u64,
+}
+
+// What types 1, 2 and 100 carry.
+#[repr(C)]
+pub struct Carried {
+    pub echo: u32,
+    // 1 where a reply cannot be read
+    pub echounread: u32,
+    pub echoreply: u32,
+    pub bearerunread: u32,
+    pub cause: u32,
+}
+
+// A plan of three access points: data, net, and a name of 63 octets.
+pub fn trial_plan() -> Plan {
+    let a = AccessPoint {
+        name: [
+            4,
+            100,
+            97,
+            116,
+            97,
+            0,
+            0,
+            0,
+            0,
+            0,
+            0,
+            0,
+            0,
+            0,
+            0,
+            0,
+            0,
+            0,
+            0,
+            0,
+            0,
+            0,
+            0,
+            0,
+            0,
+            0,
+            0,
+            0,
+            0,
+            0,
+            0,
+            0,
+            0,
+            0,
+            0,
+            0,
+            0,
+            0,
+            0,
+            0,
+            0,
+            0,
+            0,
+            0,
+            0,
+            0,
+            0,
+            0,
+            0,
+            0,
+            0,
+            0,
+            0,
+            0,
+            0,
+            0,
+            0,
+            0,
+            0,
+            0,
+            0,
+            0,
+            0,
+        ],
+        size: 5,
+        guarantee: 1,
+        ceiling: 64,
+    };
+    let b = AccessPoint {
+        name: [
+            3,
+            110,
+            101,
+            116,
+            0,
+            0,
+            0,
+            0,
+            0,
+            0,
+            0,
+            0,
+            0,
+            0,
+            0,
+            0,
+            0,
+            0,
+            0,
+            0,
+            0,
+            0,
+            0,
+            0,
+            0,
+            0,
+            0,
+            0,
+            0,
+            0,
+            0,
+            0,
+            0,
+            0,
+            0,
+            0,
+            0,
+            0,
+            0,
+            0,
+            0,
+            0,
+            0,
+            0,
+            0,
+            0,
+            0,
+            0,
+            0,
+            0,
+            0,
+            0,
+            0,
+            0,
+            0,
+            0,
+            0,
+            0,
+            0,
+            0,
+            0,
+            0,
+            0,
+        ],
+        size: 4,
+        guarantee: 1,
+        ceiling: 64,
+    };
+    let c = AccessPoint {
+        name: [
+            62,
+            97,
+            98,
+            99,
+            100,
+            101,
+            102,
+            103,
+            104,
+            105,
+            106,
+            107,
+            108,
+            109,
+            110,
+            111,
+            112,
+            113,
+            114,
+            115,
+            116,
+            117,
+            118,
+            119,
+            120,
+            121,
+            122,
+            97,
+            98,
+            99,
+            100,
+            101,
+            102,
+            103,
+            104,
+            105,
+            106,
+            107,
+            108,
+            109,
+            110,
+            111,
+            112,
+            113,
+            114,
+            115,
+            116,
+            117,
+            118,
+            119,
+            120,
+            121,
+            122,
+            97,
+            98,
+            99,
+            100,
+            101,
+            102,
+            103,
+            104,
+            105,
+            106,
+        ],
+        size: 63,
+        guarantee: 1,
+        ceiling: 64,
+    };
+    let none = AccessPoint::none();
+    Plan {
+        control: 167772161,
+        user: 167772162,
+        pool: 1681915904,
+        recovery: 7,
+        resend: 3,
+        sends: 2,
+        interval: 60,
+        count: 3,
+        points: [a, b, c, none],
+    }
+}
+
+fn nothing() -> Answer {
+    Answer {
+        imsi: 0,
+        number: 0,
+        named: 0,
+        field: 0,
+        instance: 0,
+        kind: 0,
+        ebi: 0,
+        control: 0,
+        controladdr: 0,
+        user: 0,
+        useraddr: 0,
+        point: 0,
+        recovery: 0,
+        moved: 0,
+        context: 0,
+        usermoved: 0,
+        replyto: 0,
+    }
+}
+
+fn flag(b: bool) -> u64 {
+    if b { 1 } else { 0 }
+}
+
+pub fn recovery_number(r: Recovery) -> u32 {
+    match r {
+        Recovery::None => 256,
+        Recovery::Value(x) => x as u32,
+    }
+}
+
+fn refused(w: Refusal) -> Answer {
+    let mut a = nothing();
+    a.number = w.cause as u64;
+    a.named = flag(w.named);
+    a.field = w.kind as u64;
+    a.instance = w.instance as u64;
+    a
+}
+
+fn of_create(c: Create) -> Answer {
+    let mut a = nothing();
+    a.kind = 32;
+    a.imsi = c.imsi;
+    a.ebi = c.ebi as u64;
+    a.control = c.control as u64;
+    a.controladdr = c.controladdr as u64;
+    a.user = c.user as u64;
+    a.useraddr = c.useraddr as u64;
+    a.point = c.point as u64;
+    let recovery = c.recovery;
+    a.recovery = recovery_number(recovery) as u64;
+    a
+}
+
+fn of_modify(m: Modify) -> Answer {
+    let mut a = nothing();
+    a.kind = 34;
+    let control = m.control;
+    if let Peer::New { teid, address } = control {
+        a.moved = 1;
+        a.control = teid as u64;
+        a.controladdr = address as u64;
+    }
+    let context = m.context;
+    if let Context::Present = context {
+        a.context = 1;
+    }
+    let user = m.user;
+    if let Peer::New { teid, address } = user {
+        a.usermoved = 1;
+        a.user = teid as u64;
+        a.useraddr = address as u64;
+    }
+    a
+}
+
+fn of_request(q: Request) -> Answer {
+    match q {
+        Request::Create(c) => of_create(c),
+        Request::Modify(m) => of_modify(m),
+        Request::Delete(d) => {
+            let mut a = nothing();
+            a.kind = 36;
+            a.ebi = d.ebi as u64;
+            a
+        }
+    }
+}
+
+fn of_decoded(d: Decoded) -> Answer {
+    match d {
+        Decoded::Sound(q) => of_request(q),
+        Decoded::Refused(w) => refused(w),
+    }
+}
+
+#[no_mangle]
+pub extern "C" fn requests_head(d: &[u8]) -> Head {
+    let number = header::gate(d);
+    let h = HeaderCursor::of(d);
+    Head {
+        number: number as u32,
+        kind: h.kind as u32,
+        teid: h.teid,
+        sequence: h.sequence,
+        fields: (h.fields % 256) as u32,
+    }
+}
+
+// Each takes the octets behind the header.
+#[no_mangle]
+pub extern "C" fn requests_create(s: &[u8]) -> Answer {
+    let plan = trial_plan();
+    let d = requests::read_create(plan, s);
+    let mut a = of_decoded(d);
+    a.replyto = requests::reply_to(s) as u64;
+    a
+}
+
+#[no_mangle]
+pub extern "C" fn requests_modify(s: &[u8], ebi: u8) -> Answer {
+    of_decoded(changes::read_modify(ebi, s))
+}
+
+#[no_mangle]
+pub extern "C" fn requests_delete(s: &[u8], ebi: u8) -> Answer {
+    of_decoded(changes::read_delete(ebi, s))
+}
+
+#[no_mangle]
+pub extern "C" fn requests_carried(s: &[u8]) -> Carried {
+    let mut a = Carried {
+        echo: 0,
+        echounread: 0,
+        echoreply: 0,
+        bearerunread: 0,
+        cause: 0,
+    };
+    a.echo = recovery_number(carried::read_echo(s));
+    match carried::read_echo_reply(s) {
+        EchoReply::Carries(r) => {
+            a.echoreply = recovery_number(r);
+        }
+        EchoReply::Unreadable => {
+            a.echounread = 1;
+        }
+    }
+    match carried::read_bearer_reply(s) {
+        BearerReply::Cause(x) => {
+            a.cause = x as u32;
+        }
+        BearerReply::Unreadable => {
+            a.bearerunread = 1;
+        }
+    }
+    a
+}
+
+// The same as rows of numbers, in the order of a line of `controlvectors`.
+pub fn answer_row(a: Answer) -> [u64; 17] {
+    [
+        a.number,
+        a.named,
+        a.field,
+        a.instance,
+        a.kind,
+        a.imsi,
+        a.ebi,
+        a.control,
+        a.controladdr,
+        a.user,
+        a.useraddr,
+        a.point,
+        a.recovery,
+        a.moved,
+        a.context,
+        a.usermoved,
+        a.replyto,
+    ]
+}
+
+pub fn carried_row(c: Carried) -> [u64; 5] {
+    [
+        c.echo as u64,
+        c.echounread as u64,
+        c.echoreply as u64,
+        c.bearerunread as u64,
+        c.cause as u64,
+    ]
+}

@@ -1,0 +1,2 @@
+pub mod Imsi
+pub mod Tunnel
