@@ -1,8 +1,10 @@
 // For measuring alone: a full table that keeps every rule is put to the table rules once for each octet of standard input, and how
 // often it kept them is printed. tests/rules counts the instructions of one such check.
 //
-// The table: 64 sessions on four access points, the first eight closing with an awaited number each. The first octet says how the
-// IMSIs lie: `s` strewn about, `m` so that all keys meet one mark and have to be searched for, any other one after the other.
+// The table: 64 sessions on the access points in turn, the first eight closing with an awaited number each. The plan's figures are
+// read, so that nothing of the check is known to the compiler: the first octet says how the IMSIs lie (`s` strewn about, `m` so that
+// all keys meet one mark and have to be searched for, any other one after the other); the next eight, each less a multiple of 64, are
+// T, N, E, how many access points, the size of their names, guarantee and ceiling of each, and how often the echo was sent.
 use plan::AccessPoint;
 use plan::Plan;
 use session::Request;
@@ -10,34 +12,65 @@ use session::Session;
 use table::Node;
 use table::Table;
 
-// Four access points with a name of 12 octets each, which differ in the last one alone.
-fn point_called(last: u8) -> AccessPoint {
+fn figure(octet: u8) -> u8 {
+    octet % 64
+}
+
+// Names of `size` octets that differ in the last alone.
+fn point_called(last: u8, size: u8, guarantee: u8, ceiling: u8) -> AccessPoint {
     let mut name = [b'a'; 63];
-    name[11] = last;
+    let at = std::num::wrapping_sub_usize(figure(size) as usize, 1);
+    if at < 63 {
+        name[at] = last;
+    }
     AccessPoint {
         name,
-        size: 12,
-        guarantee: 10,
-        ceiling: 64,
+        size: figure(size),
+        guarantee: figure(guarantee) as u16,
+        ceiling: figure(ceiling) as u16,
     }
 }
 
-fn full_node() -> Node {
-    let a = point_called(1);
-    let b = point_called(2);
-    let c = point_called(3);
-    let d = point_called(4);
-    Node::fresh(Plan {
+fn full_plan(
+    resend: u8,
+    sends: u8,
+    interval: u8,
+    count: u8,
+    size: u8,
+    guarantee: u8,
+    ceiling: u8,
+) -> Plan {
+    let a = point_called(1, size, guarantee, ceiling);
+    let b = point_called(2, size, guarantee, ceiling);
+    let c = point_called(3, size, guarantee, ceiling);
+    let d = point_called(4, size, guarantee, ceiling);
+    Plan {
         control: 167772161,
         user: 167772162,
         pool: 1681915904,
         recovery: 7,
-        resend: 3,
-        sends: 2,
-        interval: 60,
-        count: 4,
+        resend: figure(resend),
+        sends: figure(sends),
+        interval: figure(interval),
+        count: figure(count),
         points: [a, b, c, d],
-    })
+    }
+}
+
+// The echo, with a number that no place awaits.
+fn full_node(plan: Plan, sends: u8) -> Node {
+    let echo = Request {
+        timer: plan.resend,
+        sends: figure(sends),
+        number: 8,
+    };
+    Node {
+        plan,
+        echo,
+        next: 0,
+        heard: 0,
+        recovery: 0,
+    }
 }
 
 // The session of a place: the access points take turns, and the first eight places await an answer.
@@ -67,15 +100,26 @@ fn session_at(place: u32, imsi: u64) -> Session {
     }
 }
 
-// All places taken, by IMSIs that lie `step` apart.
-fn full_table(step: u32) -> Table {
+// The IMSI after this one.
+fn next_imsi(imsi: u64, kind: u8) -> u64 {
+    if kind == b's' {
+        return imsi % 1000000007 * 999983 + 12345;
+    }
+    if kind == b'm' {
+        return std::num::wrapping_add_u64(imsi, 1021);
+    }
+    std::num::wrapping_add_u64(imsi, 1)
+}
+
+// All places taken.
+fn full_table(kind: u8) -> Table {
     let mut t = Table::fresh();
     let mut imsi: u64 = 262010000000000;
     let mut i: usize = 0;
     while i < 64 {
         let s = session_at(i as u32, imsi);
         t.recs[i] = s;
-        imsi = std::num::wrapping_add_u64(imsi, step as u64);
+        imsi = next_imsi(imsi, kind);
         i += 1;
     }
     t
@@ -88,21 +132,8 @@ fn kept_with(mut node: Node, t: Table, next: u8) -> u64 {
     if kept { 1 } else { 0 }
 }
 
-// How far apart the IMSIs lie.
-fn step_of(first: u8) -> u32 {
-    if first == b's' {
-        return 982451653;
-    }
-    if first == b'm' {
-        return 1021;
-    }
-    1
-}
-
 // How many of the checks, one an octet, find the rules kept.
-fn kept_of(d: &[u8], step: u32) -> u64 {
-    let node = full_node();
-    let t = full_table(step);
+fn kept_of(d: &[u8], node: Node, t: Table) -> u64 {
     let mut kept: u64 = 0;
     let mut i: usize = 0;
     while i < d.len() {
@@ -114,11 +145,13 @@ fn kept_of(d: &[u8], step: u32) -> u64 {
 }
 
 fn run(d: &[u8]) {
-    if d.len() == 0 {
+    if d.len() < 9 {
         return;
     }
-    let step = step_of(d[0]);
-    let kept = kept_of(d, step);
+    let plan = full_plan(d[1], d[2], d[3], d[4], d[5], d[6], d[7]);
+    let node = full_node(plan, d[8]);
+    let t = full_table(d[0]);
+    let kept = kept_of(d, node, t);
     io::print_decimal(1, kept);
     let end = [b'\n'];
     io::write_all(1, &end);

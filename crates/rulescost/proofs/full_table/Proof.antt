@@ -4,10 +4,10 @@ use Rattle.rulescost.proofs.full_table.Statement.{statement}
 use Rattle.rulescost.proofs.full_table.Tie as tie
 
 abbrev Inv-loop : tie.InvT-loop
-Inv-loop step t₀ imsi₀ i₀ t imsi i = i ≤ 64
+Inv-loop kind t₀ imsi₀ i₀ t imsi i = i ≤ 64
 
 abbrev μ-loop : tie.MeasureT-loop
-μ-loop step t₀ imsi₀ i₀ t imsi i = 64 - i
+μ-loop kind t₀ imsi₀ i₀ t imsi i = 64 - i
 
 fresh-requires : tie.Need-fresh-requires Inv-loop μ-loop
 fresh-requires c κs = search needs
@@ -27,8 +27,8 @@ mul-s c = search needs
 element-set-from-s : tie.Need-element-set-from-s Inv-loop μ-loop
 element-set-from-s c = search needs
 
-wrapping-add-u64-requires : tie.Need-wrapping-add-u64-requires Inv-loop μ-loop
-wrapping-add-u64-requires c κs = search needs
+next-imsi-requires : tie.Need-next-imsi-requires Inv-loop μ-loop
+next-imsi-requires c κs = search needs
 
 add-i : tie.Need-add-i Inv-loop μ-loop
 add-i c = search needs
@@ -54,7 +54,7 @@ full-table-spec =
     session-at-requires
     mul-s
     element-set-from-s
-    wrapping-add-u64-requires
+    next-imsi-requires
     add-i
     loop-less
     loop-again

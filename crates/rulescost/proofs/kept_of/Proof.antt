@@ -5,16 +5,10 @@ use Rattle.rulescost.proofs.kept_of.Statement.{statement}
 use Rattle.rulescost.proofs.kept_of.Tie as tie
 
 abbrev Inv-loop : tie.InvT-loop
-Inv-loop d step node t kept₀ i₀ kept i = i ≤ length d
+Inv-loop d node t kept₀ i₀ kept i = i ≤ length d
 
 abbrev μ-loop : tie.MeasureT-loop
-μ-loop d step node t kept₀ i₀ kept i = length d - i
-
-full-node-requires : tie.Need-full-node-requires Inv-loop μ-loop
-full-node-requires c κs = search needs
-
-full-table-requires : tie.Need-full-table-requires Inv-loop μ-loop
-full-table-requires c κs = search needs
+μ-loop d node t kept₀ i₀ kept i = length d - i
 
 loop-holds : tie.Need-loop-holds Inv-loop μ-loop
 loop-holds c = search needs
@@ -46,8 +40,6 @@ kept-of-spec =
     (tie.spec
     Inv-loop
     μ-loop
-    full-node-requires
-    full-table-requires
     loop-holds
     shared-slice-read-kept-with
     kept-with-requires
