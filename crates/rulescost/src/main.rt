@@ -103,7 +103,7 @@ fn session_at(place: u32, imsi: u64) -> Session {
 // The IMSI after this one.
 fn next_imsi(imsi: u64, kind: u8) -> u64 {
     if kind == b's' {
-        return imsi % 1000000007 * 999983 + 12345;
+        return imsi % 1000000007 * 777777 + 12345;
     }
     if kind == b'm' {
         return std::num::wrapping_add_u64(imsi, 1021);
