@@ -1,10 +1,11 @@
-// For measuring alone: a full table that keeps every rule is put to the table rules once for each octet of standard input, and how
-// often it kept them is printed. tests/rules counts the instructions of one such check.
+// For measuring alone: a full table is put to the table rules again and again, and how often it kept them is printed. tests/rules
+// counts the instructions of one such check.
 //
-// The table: 64 sessions on the access points in turn, the first eight closing with an awaited number each. The plan's figures are
-// read, so that nothing of the check is known to the compiler: the first octet says how the IMSIs lie (`s` strewn about, `m` so that
-// all keys meet one mark and have to be searched for, any other one after the other); the next eight, each less a multiple of 64, are
-// T, N, E, how many access points, the size of their names, guarantee and ceiling of each, and how often the echo was sent.
+// The table: 64 sessions on the four access points in turn, the first eight closing with an awaited number each. The figures of its
+// plan are read, so that nothing of a check is known to the compiler. The first octet of standard input says how the IMSIs lie: `s`
+// strewn about, `m` so that all keys meet one mark and have to be searched for, any other one after the other. The next seven, each
+// less a multiple of 64, are T, N, E, the size of the names, guarantee and ceiling of each access point, and how often the echo was
+// sent. Each octet after them is a check, with so many access points as it says less a multiple of 64: the rules are kept with 4.
 use plan::AccessPoint;
 use plan::Plan;
 use session::Request;
@@ -31,15 +32,7 @@ fn point_called(last: u8, size: u8, guarantee: u8, ceiling: u8) -> AccessPoint {
     }
 }
 
-fn full_plan(
-    resend: u8,
-    sends: u8,
-    interval: u8,
-    count: u8,
-    size: u8,
-    guarantee: u8,
-    ceiling: u8,
-) -> Plan {
+fn full_plan(resend: u8, sends: u8, interval: u8, size: u8, guarantee: u8, ceiling: u8) -> Plan {
     let a = point_called(1, size, guarantee, ceiling);
     let b = point_called(2, size, guarantee, ceiling);
     let c = point_called(3, size, guarantee, ceiling);
@@ -52,7 +45,7 @@ fn full_plan(
         resend: figure(resend),
         sends: figure(sends),
         interval: figure(interval),
-        count: figure(count),
+        count: 4,
         points: [a, b, c, d],
     }
 }
@@ -125,9 +118,11 @@ fn full_table(kind: u8) -> Table {
     t
 }
 
-// One check, with the next number given.
-fn kept_with(mut node: Node, t: Table, next: u8) -> u64 {
-    node.next = next as u32;
+// One check, with so many access points.
+fn kept_with(mut node: Node, t: Table, count: u8) -> u64 {
+    let mut plan = node.plan;
+    plan.count = figure(count);
+    node.plan = plan;
     let kept = rules::keeps_rules(node, t);
     if kept { 1 } else { 0 }
 }
@@ -145,13 +140,13 @@ fn kept_of(d: &[u8], node: Node, t: Table) -> u64 {
 }
 
 fn run(d: &[u8]) {
-    if d.len() < 9 {
+    if d.len() < 8 {
         return;
     }
-    let plan = full_plan(d[1], d[2], d[3], d[4], d[5], d[6], d[7]);
-    let node = full_node(plan, d[8]);
+    let plan = full_plan(d[1], d[2], d[3], d[4], d[5], d[6]);
+    let node = full_node(plan, d[7]);
     let t = full_table(d[0]);
-    let kept = kept_of(d, node, t);
+    let kept = kept_of(&d[8..], node, t);
     io::print_decimal(1, kept);
     let end = [b'\n'];
     io::write_all(1, &end);
