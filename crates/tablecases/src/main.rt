@@ -107,8 +107,16 @@ fn live_on(imsi: u64, point: u8) -> Session {
     }
 }
 
+// The table with this record at a place.
+fn put(mut t: Table, place: usize, s: Session) -> Table {
+    if place < 64 {
+        t.recs[place] = s;
+    }
+    t
+}
+
 fn base_table() -> Table {
-    let mut t = Table::fresh();
+    let t = Table::fresh();
     let a = live_on(1010000000001, 0);
     let mut b = live_on(1010000000002, 1);
     b.state = Session::CLOSING;
@@ -121,11 +129,7 @@ fn base_table() -> Table {
     let mut c = live_on(1010000000003, 1);
     c.state = Session::CLOSING;
     let d = Session::blank_at(7);
-    t.recs[0] = a;
-    t.recs[1] = b;
-    t.recs[2] = c;
-    t.recs[3] = d;
-    t
+    put(put(put(put(t, 0, a), 1, b), 2, c), 3, d)
 }
 
 fn base() -> Case {
@@ -234,14 +238,15 @@ fn with_point(mut plan: Plan, slot: usize, field: u64, v: u64) -> Plan {
 }
 
 // A place below `end` live on an access point.
-fn live_at(mut t: Table, place: usize, end: u64, point: u8) -> Table {
-    if place < 64 {
-        if (place as u64) < end {
-            let s = live_on(1010000001000 + place as u64, point);
-            t.recs[place] = s;
-        }
+fn live_at(t: Table, place: usize, end: u64, point: u8) -> Table {
+    if place as u64 >= end {
+        return t;
     }
-    t
+    let s = live_on(
+        std::num::wrapping_add_u64(1010000001000, place as u64),
+        point,
+    );
+    put(t, place, s)
 }
 
 // The places from 10 on that are below `end` live on an access point.
@@ -254,22 +259,31 @@ fn filled(mut t: Table, end: u64, point: u8) -> Table {
     t
 }
 
-fn edited(mut c: Case, place: u64, field: u64, v: u64) -> Case {
-    if place < 64 {
-        c.table = with_record(c.table, place as usize, field, v);
-        return c;
+// What goes with the records, edited.
+fn with_beside(mut n: Node, place: u64, field: u64, v: u64) -> Node {
+    if place == 64 {
+        return with_node(n, field, v);
     }
-    match place {
-        64 => c.node = with_node(c.node, field, v),
-        69 => c.table = filled(c.table, field % 64 + 10, low8(v)),
-        70 => c.table = Table::fresh(),
-        _ => {
-            let mut n = c.node;
-            n.plan = with_point(n.plan, (place - 65) as usize, field, v);
-            c.node = n;
-        }
+    let slot = std::num::wrapping_sub_u64(place, 65);
+    n.plan = with_point(n.plan, slot as usize, field, v);
+    n
+}
+
+// The records edited.
+fn with_records(t: Table, place: u64, field: u64, v: u64) -> Table {
+    if place == 69 {
+        return filled(t, field % 64 + 10, low8(v));
     }
-    c
+    if place == 70 {
+        return Table::fresh();
+    }
+    with_record(t, place as usize, field, v)
+}
+
+fn edited(c: Case, place: u64, field: u64, v: u64) -> Case {
+    let node = with_beside(c.node, place, field, v);
+    let table = with_records(c.table, place, field, v);
+    Case { node, table }
 }
 
 // ---- reading
