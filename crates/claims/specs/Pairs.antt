@@ -17,6 +17,14 @@ use Rattle.tunnel.specs.Tunnel.{numberAt, controlNumber, userNumber, nextUse}
 use Rattle.gpdu.specs.Header.{ours, optional, sizeOf, typeTaken, refusalOf, headerOf, headerTeid, sequenceOf}
 use Rattle.gpdu.specs.Extensions.{unfit, walkOf, extensionsOf}
 use Rattle.gpdu.specs.User.{firstType, walkPast, userOf}
+use Rattle.octets.specs.Overlay.{overlay}
+use Rattle.plan.specs.Limits.{noPlan, noPoint}
+use Rattle.session.specs.declared.Session.{Session}
+use Rattle.session.specs.Request.{idle}
+use Rattle.session.specs.Session.{isFree}
+use Rattle.table.specs.Find.{ownerOf, ownerFrom, bears}
+use Rattle.table.specs.Own.{freshNode, rested}
+use Rattle.userside.specs.UserSide.{Took, headerTaken, packetTaken}
 use Rattle.sharing.specs.Sharing.{share, sharable, admitted}
 
 pub data Pair : Type 0 where
@@ -28,6 +36,27 @@ pub data Pair : Type 0 where
   asks : List ℕ → List ℕ → List ℕ → ℕ → Bool → Pair
   -- a user datagram before the table is asked: its number, its tunnel number, where its payload begins, and the payload
   reads : List ℕ → ℕ → ℕ → ℕ → List ℕ → Pair
+  -- a user datagram put to a table whose place 0 alone is live, in use 1: its number, its place, where its payload begins
+  handed : List ℕ → ℕ → ℕ → ℕ → Pair
+
+-- a session at place 0 in use 1
+onlySession : Session
+onlySession = record {
+  imsi = 1;
+  usage = 1;
+  control = 1;
+  controladdr = 0;
+  user = 1;
+  useraddr = 0;
+  created = 0;
+  own = idle;
+  state = 1;
+  point = 0;
+  ebi = 5;
+}
+
+handedUp : List ℕ → Took
+handedUp d = headerTaken (freshNode noPlan) (onlySession ∷ []) (userOf d .header) (userOf d .size) (length d) []
 
 same : Bool → Bool → Bool
 same true b = b
@@ -40,6 +69,7 @@ holds (asks g c u a admits) = same (admitted (length g) (λ b. getD g b 0) (λ b
 holds (reads d number teid start payload) =
     eqb (userOf d .number) number && eqb (headerTeid (userOf d .header)) teid && eqb (userOf d .size) start
     && sameOctets (drop (userOf d .size) d) payload
+holds (handed d number place start) = eqb (handedUp d .number) number && eqb (handedUp d .place) place && eqb (handedUp d .start) start
 
 pub pairs : List Pair
 pairs =
@@ -54,11 +84,13 @@ pairs =
     ∷ reads (0x34 ∷ 0xFF ∷ 0 ∷ 0x0C ∷ 0 ∷ 0 ∷ 1 ∷ 0x80 ∷ 0 ∷ 0 ∷ 0 ∷ 0x40 ∷ 1 ∷ 0x12 ∷ 0x34 ∷ 0 ∷ 0x45 ∷ 0 ∷ 0 ∷ 0 ∷ []) 0 384 16 (0x45 ∷ 0 ∷ 0 ∷ 0 ∷ [])
     ∷ reads (0x34 ∷ 0xFF ∷ 0 ∷ 0x0C ∷ 0 ∷ 0 ∷ 1 ∷ 0x80 ∷ 0 ∷ 0 ∷ 0 ∷ 0xC0 ∷ 1 ∷ 0x12 ∷ 0x34 ∷ 0 ∷ 0x45 ∷ 0 ∷ 0 ∷ 0 ∷ []) 14 384 20 []
     ∷ reads (0x34 ∷ 0xFF ∷ 0 ∷ 0x0C ∷ 0 ∷ 0 ∷ 1 ∷ 0x80 ∷ 0 ∷ 0 ∷ 0 ∷ 0x40 ∷ 0 ∷ 0x12 ∷ 0x34 ∷ 0 ∷ 0x45 ∷ 0 ∷ 0 ∷ 0 ∷ []) 13 384 20 []
+    ∷ handed (0x30 ∷ 0xFF ∷ 0 ∷ 0x04 ∷ 0 ∷ 0 ∷ 1 ∷ 0x80 ∷ 0x45 ∷ 0 ∷ 0 ∷ 0 ∷ []) 0 0 8
+    ∷ handed (0x30 ∷ 0xFF ∷ 0 ∷ 0x04 ∷ 0 ∷ 0 ∷ 1 ∷ 0 ∷ 0x45 ∷ 0 ∷ 0 ∷ 0 ∷ []) 15 0 12
     ∷ []
 
 pub PairsHold : Type 0
 PairsHold = every holds pairs ≡ true
 
 pub pairs-hold : PairsHold
-unfolding PairsHold pairs holds same every numberAt nextUse share sharable admitted sumTo places base controlOffset userOffset lastUse teids numberFrom numberOf sameOctets ours optional sizeOf typeTaken refusalOf headerOf headerTeid sequenceOf unfit walkOf extensionsOf firstType walkPast userOf
+unfolding PairsHold pairs holds same every numberAt nextUse share sharable admitted sumTo places base controlOffset userOffset lastUse teids numberFrom numberOf sameOctets ours optional sizeOf typeTaken refusalOf headerOf headerTeid sequenceOf unfit walkOf extensionsOf firstType walkPast userOf onlySession handedUp headerTaken packetTaken ownerOf ownerFrom bears isFree idle freshNode rested noPlan noPoint overlay
 pairs-hold = refl
