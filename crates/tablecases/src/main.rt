@@ -52,10 +52,6 @@ fn low8(v: u64) -> u8 {
     (v % 256) as u8
 }
 
-fn low16(v: u64) -> u16 {
-    (v % 65536) as u16
-}
-
 fn low32(v: u64) -> u32 {
     (v % 4294967296) as u32
 }
@@ -107,16 +103,8 @@ fn live_on(imsi: u64, point: u8) -> Session {
     }
 }
 
-// The table with this record at a place.
-fn put(mut t: Table, place: usize, s: Session) -> Table {
-    if place < 64 {
-        t.recs[place] = s;
-    }
-    t
-}
-
 fn base_table() -> Table {
-    let t = Table::fresh();
+    let mut t = Table::fresh();
     let a = live_on(1010000000001, 0);
     let mut b = live_on(1010000000002, 1);
     b.state = Session::CLOSING;
@@ -129,7 +117,11 @@ fn base_table() -> Table {
     let mut c = live_on(1010000000003, 1);
     c.state = Session::CLOSING;
     let d = Session::blank_at(7);
-    put(put(put(put(t, 0, a), 1, b), 2, c), 3, d)
+    t.recs[0] = a;
+    t.recs[1] = b;
+    t.recs[2] = c;
+    t.recs[3] = d;
+    t
 }
 
 fn base() -> Case {
@@ -220,8 +212,8 @@ fn with_octet(mut p: AccessPoint, at: usize, v: u64) -> AccessPoint {
 fn with_share(mut p: AccessPoint, field: u64, v: u64) -> AccessPoint {
     match field {
         0 => p.size = low8(v),
-        1 => p.guarantee = low16(v),
-        2 => p.ceiling = low16(v),
+        1 => p.guarantee = (v % 65536) as u16,
+        2 => p.ceiling = (v % 65536) as u16,
         3 => p = with_octet(p, 0, v),
         _ => p = with_octet(p, 62, v),
     }
@@ -238,15 +230,14 @@ fn with_point(mut plan: Plan, slot: usize, field: u64, v: u64) -> Plan {
 }
 
 // A place below `end` live on an access point.
-fn live_at(t: Table, place: usize, end: u64, point: u8) -> Table {
-    if place as u64 >= end {
-        return t;
+fn live_at(mut t: Table, place: usize, end: u64, point: u8) -> Table {
+    if place < 64 {
+        if (place as u64) < end {
+            let s = live_on(1010000001000 + place as u64, point);
+            t.recs[place] = s;
+        }
     }
-    let s = live_on(
-        std::num::wrapping_add_u64(1010000001000, place as u64),
-        point,
-    );
-    put(t, place, s)
+    t
 }
 
 // The places from 10 on that are below `end` live on an access point.
@@ -259,47 +250,35 @@ fn filled(mut t: Table, end: u64, point: u8) -> Table {
     t
 }
 
-// What goes with the records, edited.
-fn with_beside(mut n: Node, place: u64, field: u64, v: u64) -> Node {
-    if place == 64 {
-        return with_node(n, field, v);
+fn edited(mut c: Case, place: u64, field: u64, v: u64) -> Case {
+    if place < 64 {
+        c.table = with_record(c.table, place as usize, field, v);
+        return c;
     }
-    let slot = std::num::wrapping_sub_u64(place, 65);
-    n.plan = with_point(n.plan, slot as usize, field, v);
-    n
-}
-
-// The records edited.
-fn with_records(t: Table, place: u64, field: u64, v: u64) -> Table {
-    if place == 69 {
-        return filled(t, field % 64 + 10, low8(v));
+    match place {
+        64 => c.node = with_node(c.node, field, v),
+        69 => c.table = filled(c.table, field % 64 + 10, low8(v)),
+        70 => c.table = Table::fresh(),
+        _ => {
+            let mut n = c.node;
+            n.plan = with_point(n.plan, (place - 65) as usize, field, v);
+            c.node = n;
+        }
     }
-    if place == 70 {
-        return Table::fresh();
-    }
-    with_record(t, place as usize, field, v)
-}
-
-fn edited(c: Case, place: u64, field: u64, v: u64) -> Case {
-    let node = with_beside(c.node, place, field, v);
-    let table = with_records(c.table, place, field, v);
-    Case { node, table }
+    c
 }
 
 // ---- reading
-fn no_triple() -> Triple {
-    Triple {
+// The start of a line.
+fn started(line: u64) -> Reading {
+    let case = base();
+    let triple = Triple {
         have: 0,
         open: false,
         number: 0,
         place: 0,
         field: 0,
-    }
-}
-
-fn started(line: u64) -> Reading {
-    let case = base();
-    let triple = no_triple();
+    };
     Reading {
         case,
         triple,
