@@ -1,0 +1,114 @@
+-- What is done with an Echo Request (1), the reply to the unit's own echo (2) and the reply to its Delete Bearer (100), once their
+-- headers and what they carry are read; and what a Recovery value does.
+-- Assumes nothing.
+use Prim.Native.Nat.{ℕ}
+use mathlib.Core.Bool.{Bool, true, false, _&&_}
+use mathlib.Core.List.{List}
+use mathlib.Core.Path.{_≡_, refl, sym, _∙_}
+use lib.Dec.{eqb}
+use Rattle.octets.specs.Choice.{pick, split}
+use Rattle.octets.specs.Overlay.{overlay}
+use Rattle.tunnel.specs.Numbering.{controlOffset}
+use Rattle.session.specs.declared.Session.{Session}
+use Rattle.session.specs.Request.{awaits}
+use Rattle.session.specs.Session.{waitsFor, freed}
+use Rattle.table.specs.declared.Node.{Node}
+use Rattle.table.specs.declared.Table.{Table}
+use Rattle.table.specs.declared.Found.{Found}
+use Rattle.table.specs.declared.Found.the-variants as F
+use Rattle.table.specs.Rules.{keepsRules, Rules, rules-of, rules-to}
+use Rattle.table.specs.Change.{changedAt, rules-freed}
+use Rattle.table.specs.Find.{foundIn, ownerOf}
+use Rattle.table.specs.Own.{rested, restarted, hearing, keptAfter, rules-heard, rules-rested}
+use Rattle.messages.specs.Messages.{echoOf}
+use Rattle.readers.specs.declared.Recovery.{Recovery}
+use Rattle.readers.specs.declared.Recovery.the-variants as R
+use Rattle.carried.specs.declared.EchoReply.{EchoReply}
+use Rattle.carried.specs.declared.EchoReply.the-variants as E
+use Rattle.carried.specs.declared.BearerReply.{BearerReply}
+use Rattle.carried.specs.declared.BearerReply.the-variants as B
+use Rattle.timing.specs.declared.Answer.{Answer}
+use Rattle.timing.specs.Timing.{Outcome, outcome, timed, held, refused}
+
+-- a Recovery value is stored, and one that is not the stored one frees all; where none came nothing is done
+unfoldable pub heardBy : Recovery → Node → Table → Answer
+heardBy R.None node t = refused 0 node t
+heardBy (R.Value value) node t = record { number = 0; size = 0; node = hearing value node; table = held (keptAfter node value (t .recs)) }
+
+-- Echo Request (1): Recovery, and the answer
+unfoldable pub echoTaken : Node → Table → ℕ → Recovery → List ℕ → Outcome
+echoTaken node t seq recovery reply = outcome
+    (record { number = 0; size = 13; node = heardBy recovery node t .node; table = heardBy recovery node t .table })
+    (overlay (echoOf 2 seq (node .plan .recovery)) reply)
+
+-- the echo's answer (2): awaited and readable, it ends the echo; Recovery is looked at
+unfoldable pub echoEnded : Answer → Answer
+echoEnded a = record {
+  number = 0;
+  size = 0;
+  node = timed (rested (a .node .plan .interval) (a .node .echo)) (a .node .next) (a .node);
+  table = a .table;
+}
+
+unfoldable pub echoReplyTaken : Node → Table → ℕ → EchoReply → Answer
+echoReplyTaken node t seq E.Unreadable = refused 9 node t
+echoReplyTaken node t seq (E.Carries recovery) = pick (awaits seq (node .echo)) (echoEnded (heardBy recovery node t)) (refused 9 node t)
+
+-- the place that awaits the number is the one whose control number it is
+unfoldable pub foundAt : ℕ → Found → Found
+foundAt i (F.At j) = pick (eqb i j) (F.At i) F.Nothing
+foundAt i F.Nothing = F.Nothing
+
+unfoldable pub sameFound : Found → Found → Found
+sameFound (F.At i) f = foundAt i f
+sameFound F.Nothing f = F.Nothing
+
+unfoldable pub freedFound : Found → Node → Table → Answer
+freedFound (F.At i) node t = record { number = 0; size = 0; node = node; table = held (changedAt freed i (t .recs)) }
+freedFound F.Nothing node t = refused 9 node t
+
+-- the reply to a Delete Bearer (100): with the awaited number, that place's control TEID and a readable Cause it frees the place
+unfoldable pub bearerReplyTaken : Node → Table → ℕ → ℕ → BearerReply → Answer
+bearerReplyTaken node t teid seq B.Unreadable = refused 9 node t
+bearerReplyTaken node t teid seq (B.Cause cause) =
+    freedFound (sameFound (foundIn (waitsFor seq) (t .recs)) (ownerOf controlOffset teid (t .recs))) node t
+
+-- ---- each keeps the rules
+module _ (node : Node) (t : Table) (e : keepsRules node (t .recs) ≡ true) where
+  rules : Rules (node .plan) (node .echo) (node .next) (t .recs)
+  rules = rules-of node (t .recs) e
+
+  pub heard-keeps : (r : Recovery) → keepsRules (heardBy r node t .node) (heardBy r node t .table .recs) ≡ true
+  unfolding heardBy refused held hearing
+  heard-keeps R.None = e
+  heard-keeps (R.Value value) = rules-to (hearing value node) (keptAfter node value (t .recs)) (rules-heard node value (t .recs) rules)
+
+  pub echo-keeps : (seq : ℕ) (r : Recovery) (reply : List ℕ)
+      → keepsRules (echoTaken node t seq r reply .answer .node) (echoTaken node t seq r reply .answer .table .recs) ≡ true
+  unfolding echoTaken
+  echo-keeps seq r reply = heard-keeps r
+
+  pub freed-keeps : (f : Found) → keepsRules (freedFound f node t .node) (freedFound f node t .table .recs) ≡ true
+  unfolding freedFound refused held
+  freed-keeps (F.At i) = rules-to node (changedAt freed i (t .recs)) (rules-freed (node .plan) (node .echo) (node .next) (t .recs) rules i)
+  freed-keeps F.Nothing = e
+
+  pub bearer-reply-keeps : (teid seq : ℕ) (b : BearerReply)
+      → keepsRules (bearerReplyTaken node t teid seq b .node) (bearerReplyTaken node t teid seq b .table .recs) ≡ true
+  unfolding bearerReplyTaken refused
+  bearer-reply-keeps teid seq B.Unreadable = e
+  bearer-reply-keeps teid seq (B.Cause cause) = freed-keeps (sameFound (foundIn (waitsFor seq) (t .recs)) (ownerOf controlOffset teid (t .recs)))
+
+-- an echo that ends leaves a table that keeps its rules
+pub ended-keeps : (a : Answer) → keepsRules (a .node) (a .table .recs) ≡ true → keepsRules (echoEnded a .node) (echoEnded a .table .recs) ≡ true
+unfolding echoEnded timed
+ended-keeps a e =
+    rules-to (timed (rested (a .node .plan .interval) (a .node .echo)) (a .node .next) (a .node)) (a .table .recs)
+    (rules-rested (a .node .plan) (a .node .echo) (a .node .next) (a .table .recs) (rules-of (a .node) (a .table .recs) e))
+
+pub echo-reply-keeps : (node : Node) (t : Table) (seq : ℕ) (r : EchoReply) → keepsRules node (t .recs) ≡ true
+    → keepsRules (echoReplyTaken node t seq r .node) (echoReplyTaken node t seq r .table .recs) ≡ true
+unfolding echoReplyTaken refused
+echo-reply-keeps node t seq E.Unreadable e = e
+echo-reply-keeps node t seq (E.Carries recovery) e =
+    split (awaits seq (node .echo)) (λ q. rw q (ended-keeps (heardBy recovery node t) (heard-keeps node t e recovery))) (λ q. rw q e)
