@@ -63,7 +63,7 @@ pub fn take_cause(
 }
 
 // The record of a place; nobody's past the table.
-fn record_at(table: Table, place: usize) -> Session
+pub fn record_at(table: Table, place: usize) -> Session
     ensures { λ r. ⌜ r ≡ getD (table .recs) place nobody ⌝ }
 {
     if place < Table::PLACES {
