@@ -18,6 +18,8 @@ use Rattle.gpdu.specs.Header.{ours, optional, sizeOf, typeTaken, refusalOf, hea
 use Rattle.gpdu.specs.Extensions.{unfit, walkOf, extensionsOf}
 use Rattle.gpdu.specs.User.{firstType, walkPast, userOf}
 use Rattle.octets.specs.Overlay.{overlay}
+use Rattle.header.specs.Header.{versionOf}
+use Rattle.header.specs.Gate.{gateOf, controlVersion}
 use Rattle.plan.specs.Limits.{noPlan, noPoint}
 use Rattle.session.specs.declared.Session.{Session}
 use Rattle.session.specs.Request.{idle}
@@ -38,6 +40,8 @@ pub data Pair : Type 0 where
   reads : List ℕ → ℕ → ℕ → ℕ → List ℕ → Pair
   -- a user datagram put to a table whose place 0 alone is live, in use 1: its number, its place, where its payload begins
   handed : List ℕ → ℕ → ℕ → ℕ → Pair
+  -- a control datagram and the number its header gets
+  gated : List ℕ → ℕ → Pair
 
 -- a session at place 0 in use 1
 onlySession : Session
@@ -70,6 +74,7 @@ holds (reads d number teid start payload) =
     eqb (userOf d .number) number && eqb (headerTeid (userOf d .header)) teid && eqb (userOf d .size) start
     && sameOctets (drop (userOf d .size) d) payload
 holds (handed d number place start) = eqb (handedUp d .number) number && eqb (handedUp d .place) place && eqb (handedUp d .start) start
+holds (gated d number) = eqb (gateOf d) number
 
 pub pairs : List Pair
 pairs =
@@ -86,11 +91,12 @@ pairs =
     ∷ reads (0x34 ∷ 0xFF ∷ 0 ∷ 0x0C ∷ 0 ∷ 0 ∷ 1 ∷ 0x80 ∷ 0 ∷ 0 ∷ 0 ∷ 0x40 ∷ 0 ∷ 0x12 ∷ 0x34 ∷ 0 ∷ 0x45 ∷ 0 ∷ 0 ∷ 0 ∷ []) 13 384 20 []
     ∷ handed (0x30 ∷ 0xFF ∷ 0 ∷ 0x04 ∷ 0 ∷ 0 ∷ 1 ∷ 0x80 ∷ 0x45 ∷ 0 ∷ 0 ∷ 0 ∷ []) 0 0 8
     ∷ handed (0x30 ∷ 0xFF ∷ 0 ∷ 0x04 ∷ 0 ∷ 0 ∷ 1 ∷ 0 ∷ 0x45 ∷ 0 ∷ 0 ∷ 0 ∷ []) 15 0 12
+    ∷ gated (0x20 ∷ 0 ∷ 0 ∷ 0 ∷ 0 ∷ 0 ∷ 0 ∷ 0 ∷ []) 5
     ∷ []
 
 pub PairsHold : Type 0
 PairsHold = every holds pairs ≡ true
 
 pub pairs-hold : PairsHold
-unfolding PairsHold pairs holds same every numberAt nextUse share sharable admitted sumTo places base controlOffset userOffset lastUse teids numberFrom numberOf sameOctets ours optional sizeOf typeTaken refusalOf headerOf headerTeid sequenceOf unfit walkOf extensionsOf firstType walkPast userOf onlySession handedUp headerTaken packetTaken ownerOf ownerFrom bears isFree idle freshNode rested noPlan noPoint overlay
+unfolding PairsHold pairs holds same every numberAt nextUse share sharable admitted sumTo places base controlOffset userOffset lastUse teids numberFrom numberOf sameOctets ours optional sizeOf typeTaken refusalOf headerOf headerTeid sequenceOf unfit walkOf extensionsOf firstType walkPast userOf onlySession handedUp headerTaken packetTaken ownerOf ownerFrom bears isFree idle freshNode rested noPlan noPoint overlay gateOf versionOf controlVersion
 pairs-hold = refl
