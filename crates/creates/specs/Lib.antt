@@ -1,1 +1,2 @@
 pub mod Creates
+pub mod Kept

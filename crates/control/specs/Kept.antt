@@ -1,0 +1,63 @@
+-- Take control datagram keeps the table rules, for any octets whatever.
+-- Assumes nothing.
+use Prim.Native.Nat.{ℕ, _≤_}
+use mathlib.Core.Bool.{Bool, true, false}
+use mathlib.Core.List.{List, [], _∷_}
+use mathlib.Core.Path.{_≡_, refl}
+use native.Mathlib.Omega.{arith}
+use lib.ListN.{length, drop, getD}
+use lib.Dec.{eqb, ltb}
+use borrow.Author.Tests.{ltb-true}
+use Rattle.octets.specs.Choice.{pick, split}
+use Rattle.octets.specs.Every.{every, every-at}
+use Rattle.octets.specs.BigEndian.{isOctet, numberOf, numberFrom}
+use Rattle.session.specs.Session.{lastCreated}
+use Rattle.table.specs.declared.Node.{Node}
+use Rattle.table.specs.declared.Table.{Table}
+use Rattle.table.specs.Rules.{keepsRules}
+use Rattle.header.specs.declared.HeaderCursor.{HeaderCursor}
+use Rattle.header.specs.Header.{headerOf, sequenceOf, sequenceBehind, sequenceBare, withTeid}
+use Rattle.header.specs.Gate.{gateOf}
+use Rattle.carried.specs.Carried as carried
+use Rattle.timing.specs.Timing.{Outcome, outcome, leastReply, refused}
+use Rattle.echoes.specs.Echoes.{echo-keeps, echo-reply-keeps, bearer-reply-keeps}
+use Rattle.amends.specs.Kept.{modify-keeps, delete-keeps}
+use Rattle.creates.specs.Kept.{create-keeps}
+use Rattle.control.specs.Control.{kindTaken, gateTaken, controlTaken}
+
+-- a sequence number has three octets
+three : (a b c : ℕ) → isOctet a ≡ true → isOctet b ≡ true → isOctet c ≡ true → numberOf (a ∷ b ∷ c ∷ []) ≤ 16777215
+unfolding numberOf numberFrom isOctet
+three a b c p q r =
+    let x = ltb-true a 256 p in
+    let y = ltb-true b 256 q in
+    let z = ltb-true c 256 r in
+    omega arith
+
+sequence-small : (d : List ℕ) → every isOctet d ≡ true → headerOf d .sequence ≤ lastCreated
+unfolding headerOf sequenceOf sequenceBehind sequenceBare lastCreated isOctet
+sequence-small d o =
+    split (withTeid d)
+    (λ t. rw t (three (getD d 8 0) (getD d 9 0) (getD d 10 0) (every-at isOctet d 8 0 o refl) (every-at isOctet d 9 0 o refl) (every-at isOctet d 10 0 o refl)))
+    (λ t. rw t (three (getD d 4 0) (getD d 5 0) (getD d 6 0) (every-at isOctet d 4 0 o refl) (every-at isOctet d 5 0 o refl) (every-at isOctet d 6 0 o refl)))
+
+module _ (node : Node) (t : Table) (e : keepsRules node (t .recs) ≡ true) (reply : List ℕ) where
+  kind-keeps : (h : HeaderCursor) (rest : List ℕ) → h .sequence ≤ lastCreated
+      → keepsRules (kindTaken h rest node t reply .answer .node) (kindTaken h rest node t reply .answer .table .recs) ≡ true
+  unfolding kindTaken refused
+  kind-keeps h rest s =
+      split (eqb (h .kind) 1) (λ a. rw a (echo-keeps node t e (h .sequence) (carried.echoOf rest) reply))
+      (λ a. split (eqb (h .kind) 2) (λ b. rw (a, b) (echo-reply-keeps node t (h .sequence) (carried.echoReplyOf rest) e))
+      (λ b. split (eqb (h .kind) 32) (λ c. rw (a, b, c) (create-keeps node t (h .sequence) rest reply e s))
+      (λ c. split (eqb (h .kind) 34) (λ d. rw (a, b, c, d) (modify-keeps node t e (h .teid) (h .sequence) rest reply))
+      (λ d. split (eqb (h .kind) 36) (λ f. rw (a, b, c, d, f) (delete-keeps node t e (h .teid) (h .sequence) rest reply))
+      (λ f. split (eqb (h .kind) 100) (λ g. rw (a, b, c, d, f, g) (bearer-reply-keeps node t e (h .teid) (h .sequence) (carried.bearerReplyOf rest)))
+      (λ g. rw (a, b, c, d, f, g) e))))))
+
+  pub control-keeps : (d : List ℕ) → every isOctet d ≡ true
+      → keepsRules (controlTaken node t d reply .answer .node) (controlTaken node t d reply .answer .table .recs) ≡ true
+  unfolding controlTaken gateTaken refused
+  control-keeps d o =
+      split (ltb (length reply) leastReply) (λ a. rw a e)
+      (λ a. split (eqb (gateOf d) 0) (λ b. rw (a, e, b) (kind-keeps (headerOf d) (drop (headerOf d .fields) d) (sequence-small d o)))
+      (λ b. split (eqb (gateOf d) 5) (λ c. rw (a, e, b, c) e) (λ c. rw (a, e, b, c) e)))
