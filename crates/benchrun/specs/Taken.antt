@@ -1,0 +1,78 @@
+-- One line of input by where the run stands, and the end of the input. The plan is taken at the first line that is not one of an access
+-- point, or at the end: a refused plan wins over a bad such line, a bad line of an access point over a refused plan.
+-- Assumes nothing.
+use Prim.Native.Nat.{ℕ}
+use mathlib.Core.Bool.{Bool, true, false}
+use mathlib.Core.List.{List, [], _∷_}
+use lib.ListN.{take, replicate}
+use lib.Dec.{eqb}
+use Rattle.octets.specs.Choice.{pick}
+use Rattle.timing.specs.Timing.{outcome, tickOf, closeOf}
+use Rattle.control.specs.Control.{controlTaken}
+use Rattle.benchtext.specs.declared.Line.{Line}
+use Rattle.benchtext.specs.declared.Line.the-variants.{Node, Point, Control, User, Tick, Close, BadPoint, Bad}
+use Rattle.benchtext.specs.Lines.{Told, lineRead}
+use Rattle.benchrun.specs.declared.Bench.{Bench}
+use Rattle.benchrun.specs.Run.{Ran, ran, first, plans, runs, over, lentReply, withLine, endBad, answered, thenSent, userRun, placesPrinted}
+use Rattle.benchrun.specs.Plans.{firstLine, oneMore, planTaken}
+
+-- ---- once the plan is taken
+unfoldable pub runLine : Line → List ℕ → Bench → List ℕ → Ran
+runLine (Control size) octets b out = answered (b .phase) (controlTaken (b .node) (b .table) (take size octets) lentReply) b out
+runLine (User size) octets b out = userRun (take size octets) b out
+runLine Tick octets b out = thenSent (answered (b .phase) (outcome (tickOf (b .node) (b .table)) []) b out)
+runLine (Close place) octets b out = thenSent (answered (b .phase) (outcome (closeOf (b .node) (b .table) place) []) b out)
+runLine (Node control user pool recovery resend sends interval) octets b out = endBad b out
+runLine (Point guarantee ceiling size) octets b out = endBad b out
+runLine BadPoint octets b out = endBad b out
+runLine Bad octets b out = endBad b out
+
+-- ---- where the lines of the plan stand
+unfoldable pub leavePlan : Line → List ℕ → Bench → List ℕ → Ran
+leavePlan line octets b out =
+    pick (eqb (planTaken b out .bench .phase) over) (planTaken b out) (runLine line octets (planTaken b out .bench) (planTaken b out .out))
+
+unfoldable pub planLine : Line → List ℕ → Bench → List ℕ → Ran
+planLine (Point guarantee ceiling size) octets b out = oneMore b guarantee ceiling (take size octets) out
+planLine BadPoint octets b out = endBad b out
+planLine (Control size) octets b out = leavePlan (Control size) octets b out
+planLine (User size) octets b out = leavePlan (User size) octets b out
+planLine Tick octets b out = leavePlan Tick octets b out
+planLine (Close place) octets b out = leavePlan (Close place) octets b out
+planLine (Node control user pool recovery resend sends interval) octets b out = leavePlan (Node control user pool recovery resend sends interval) octets b out
+planLine Bad octets b out = leavePlan Bad octets b out
+
+-- ---- the first line has to be N
+unfoldable pub startLine : Line → Bench → List ℕ → Ran
+startLine (Node control user pool recovery resend sends interval) b out = ran (firstLine b control user pool recovery resend sends interval) out
+startLine (Point guarantee ceiling size) b out = endBad b out
+startLine (Control size) b out = endBad b out
+startLine (User size) b out = endBad b out
+startLine Tick b out = endBad b out
+startLine (Close place) b out = endBad b out
+startLine BadPoint b out = endBad b out
+startLine Bad b out = endBad b out
+
+unfoldable pub lentOctets : List ℕ
+lentOctets = replicate 2048 0
+
+-- by where the run stands; once it has ended nothing is done
+unfoldable pub toldTaken : Told → Bench → List ℕ → Ran
+toldTaken x b out =
+    pick (eqb (b .phase) first) (startLine (x .line) (withLine b) out)
+    (pick (eqb (b .phase) plans) (planLine (x .line) (x .octets) (withLine b) out)
+    (pick (eqb (b .phase) runs) (runLine (x .line) (x .octets) (withLine b) out) (ran b out)))
+
+unfoldable pub lineTaken : List ℕ → Bench → List ℕ → Ran
+lineTaken text b out = toldTaken (lineRead text lentOctets) b out
+
+-- ---- the end of the input: without any line it is a bad first line
+unfoldable pub endPlan : Bench → List ℕ → Ran
+endPlan b out =
+    pick (eqb (planTaken b out .bench .phase) over) (planTaken b out) (placesPrinted (planTaken b out .bench) (planTaken b out .out))
+
+unfoldable pub ended : Bench → List ℕ → Ran
+ended b out =
+    pick (eqb (b .phase) over) (ran b out)
+    (pick (eqb (b .phase) runs) (placesPrinted b out)
+    (pick (eqb (b .phase) plans) (endPlan b out) (endBad (withLine b) out)))
