@@ -12,6 +12,7 @@ use Rattle.gpdu.specs.Part.{IsRest}
 use Rattle.timing.specs.declared.Answer.{Answer}
 use Rattle.timing.specs.Timing.{Outcome, outcome, freshOf, tickOf, closeOf, sendOf}
 use Rattle.control.specs.Control.{controlTaken}
+use Rattle.placeline.specs.Line.{lineOf}
 use Rattle.userside.specs.UserSide.{Took, took, userTaken}
 
 -- ---- the one law: a contract that sets an answer and a buffer equal to one outcome leaves nothing open
@@ -42,6 +43,10 @@ unfoldable pub ControlAgrees : Type 0
 ControlAgrees = (node : Node) (t : Table) (d reply : List ℕ) (a b : Answer) (x y : List ℕ)
     → outcome a x ≡ controlTaken node t d reply → outcome b y ≡ controlTaken node t d reply → (a ≡ b) × (x ≡ y)
 
+unfoldable pub LineAgrees : Type 0
+LineAgrees = (node : Node) (t : Table) (place : ℕ) (reply : List ℕ) (a b : Answer) (x y : List ℕ)
+    → outcome a x ≡ lineOf node t place reply → outcome b y ≡ lineOf node t place reply → (a ≡ b) × (x ≡ y)
+
 pub fresh-agrees : FreshAgrees
 unfolding FreshAgrees
 fresh-agrees plan = answer-fixes (freshOf plan)
@@ -61,6 +66,10 @@ send-agrees node t reply = outcome-fixes (sendOf node t reply)
 pub control-agrees : ControlAgrees
 unfolding ControlAgrees
 control-agrees node t d reply = outcome-fixes (controlTaken node t d reply)
+
+pub line-agrees : LineAgrees
+unfolding LineAgrees
+line-agrees node t place reply = outcome-fixes (lineOf node t place reply)
 
 -- ---- take user datagram
 -- what the call leaves: number, place, reply length, reply buffer, and the part that is handed up
@@ -123,6 +132,7 @@ pub record OutcomesAgree : Type 0 where
   pub close : CloseAgrees
   pub send : SendAgrees
   pub control : ControlAgrees
+  pub line : LineAgrees
   pub user : UserAgrees
 
 pub outcomes-agree : OutcomesAgree
@@ -132,5 +142,6 @@ outcomes-agree = record {
   close = close-agrees;
   send = send-agrees;
   control = control-agrees;
+  line = line-agrees;
   user = user-agrees;
 }

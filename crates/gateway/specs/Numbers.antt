@@ -49,6 +49,7 @@ use Rattle.echoes.specs.Echoes.{heardBy, echoTaken, echoEnded, echoReplyTaken, 
 use Rattle.amends.specs.Amends.{causeTaken, notLive, modifyDone, modifyBy, modifyFor, modifyTaken, deleteDone, deleteBy, deleteFor, deleteTaken}
 use Rattle.creates.specs.Creates.{acceptedTaken, noRoom, openedAt, shared, isRepeat, settledAt, heardCreate, createBy, createTaken}
 use Rattle.control.specs.Control.{kindTaken, gateTaken, controlTaken}
+use Rattle.placeline.specs.Line.{lineOf}
 
 -- the numbers that each call may answer, of a table that keeps its rules
 unfoldable pub freshNumbers : List ℕ
@@ -62,6 +63,9 @@ closeNumbers = 0 ∷ 10 ∷ []
 
 unfoldable pub sendNumbers : List ℕ
 sendNumbers = 0 ∷ 1 ∷ 17 ∷ []
+
+unfoldable pub lineNumbers : List ℕ
+lineNumbers = 0 ∷ 1 ∷ 10 ∷ []
 
 unfoldable pub controlNumbers : List ℕ
 controlNumbers = 0 ∷ 1 ∷ 3 ∷ 4 ∷ 5 ∷ 6 ∷ 7 ∷ 8 ∷ 9 ∷ 64 ∷ 67 ∷ 69 ∷ 70 ∷ 73 ∷ 78 ∷ 83 ∷ []
@@ -80,7 +84,7 @@ among-more n (x ∷ l) m w h =
 pub among-other : (n m : ℕ) (l : List ℕ) → among n l ≡ true → among m l ≡ false → n ≡ m → ⊥
 among-other n m l h f e = impossible (sym f ∙ rw (← e) h)
 
--- ---- fresh, tick, close, send
+-- ---- fresh, tick, close, send, line
 fresh-number : (p : Plan) → among (freshOf p .number) freshNumbers ≡ true
 unfolding freshOf freshNumbers
 fresh-number p = split (accepted p) (λ q. rw q) (λ q. rw q)
@@ -100,6 +104,12 @@ module _ (node : Node) (t : Table) (e : keepsRules node (t .recs) ≡ true) wher
       split (ltb (length reply) leastReply) (λ q. rw q)
       (λ q. split (eqb (node .echo .timer) 0) (λ z. rw (q, e, z))
       (λ z. split (ltb (duePlace (t .recs)) (length (t .recs))) (λ d. rw (q, e, z, d)) (λ d. rw (q, e, z, d))))
+
+  line-number : (place : ℕ) (reply : List ℕ) → among (lineOf node t place reply .answer .number) lineNumbers ≡ true
+  unfolding lineOf refused lineNumbers
+  line-number place reply =
+      split (ltb (length reply) leastReply) (λ q. rw q)
+      (λ q. split (ltb place (length (t .recs))) (λ h. rw (q, e, h)) (λ h. rw (q, e, h)))
 
 -- ---- take control datagram, type by type
 abbrev Answered : Outcome → Type 0
@@ -240,6 +250,9 @@ CloseNumbers = (node : Node) (t : Table) (place : ℕ) → keepsRules node (t .r
 unfoldable pub SendNumbers : Type 0
 SendNumbers = (node : Node) (t : Table) (reply : List ℕ) → keepsRules node (t .recs) ≡ true → among (sendOf node t reply .answer .number) sendNumbers ≡ true
 
+unfoldable pub LineNumbers : Type 0
+LineNumbers = (node : Node) (t : Table) (place : ℕ) (reply : List ℕ) → keepsRules node (t .recs) ≡ true → among (lineOf node t place reply .answer .number) lineNumbers ≡ true
+
 unfoldable pub ControlNumbers : Type 0
 ControlNumbers = (node : Node) (t : Table) (d reply : List ℕ) → keepsRules node (t .recs) ≡ true → among (controlTaken node t d reply .answer .number) controlNumbers ≡ true
 
@@ -258,6 +271,10 @@ close-numbers node t place e = close-number node t e place
 pub send-numbers : SendNumbers
 unfolding SendNumbers
 send-numbers node t reply e = send-number node t e reply
+
+pub line-numbers : LineNumbers
+unfolding LineNumbers
+line-numbers node t place reply e = line-number node t e place reply
 
 pub control-numbers : ControlNumbers
 unfolding ControlNumbers

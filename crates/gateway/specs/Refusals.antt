@@ -13,6 +13,7 @@ use Rattle.table.specs.declared.Table.{Table}
 use Rattle.table.specs.Rules.{keepsRules}
 use Rattle.timing.specs.Timing.{outcome, leastReply, refused, freshOf, tickOf, closeOf, sendOf}
 use Rattle.control.specs.Control.{controlTaken}
+use Rattle.placeline.specs.Line.{lineOf}
 use Rattle.userside.specs.UserSide.{silent, userTaken, user-short, user-broken}
 use Rattle.gateway.specs.Numbers.{
   among-other,
@@ -21,16 +22,19 @@ use Rattle.gateway.specs.Numbers.{
   closeNumbers,
   sendNumbers,
   controlNumbers,
+  lineNumbers,
   FreshNumbers,
   TickNumbers,
   CloseNumbers,
   SendNumbers,
   ControlNumbers,
+  LineNumbers,
   fresh-numbers,
   tick-numbers,
   close-numbers,
   send-numbers,
   control-numbers,
+  line-numbers,
 }
 use Rattle.gateway.specs.UserNumbers.{userNumbers, UserNumbers, user-numbers}
 
@@ -47,6 +51,7 @@ pub record NumbersKnown : Type 0 where
   pub close : CloseNumbers
   pub send : SendNumbers
   pub control : ControlNumbers
+  pub line : LineNumbers
   pub user : UserNumbers
 
 pub numbers-known : NumbersKnown
@@ -56,6 +61,7 @@ numbers-known = record {
   close = close-numbers;
   send = send-numbers;
   control = control-numbers;
+  line = line-numbers;
   user = user-numbers;
 }
 
@@ -74,16 +80,18 @@ pub record TwoNever : Type 0 where
   pub close : (node : Node) (t : Table) (place : ℕ) → Kept node t → closeOf node t place .number ≡ 2 → ⊥
   pub send : (node : Node) (t : Table) (reply : List ℕ) → Kept node t → sendOf node t reply .answer .number ≡ 2 → ⊥
   pub control : (node : Node) (t : Table) (d reply : List ℕ) → Kept node t → controlTaken node t d reply .answer .number ≡ 2 → ⊥
+  pub line : (node : Node) (t : Table) (place : ℕ) (reply : List ℕ) → Kept node t → lineOf node t place reply .answer .number ≡ 2 → ⊥
   pub user : (node : Node) (t : Table) (d reply : List ℕ) → Kept node t → userTaken node (t .recs) d reply .number ≡ 2 → ⊥
 
 pub two-never : TwoNever
-unfolding freshNumbers tickNumbers closeNumbers sendNumbers controlNumbers userNumbers FreshNumbers TickNumbers CloseNumbers SendNumbers ControlNumbers UserNumbers
+unfolding freshNumbers tickNumbers closeNumbers sendNumbers controlNumbers lineNumbers userNumbers FreshNumbers TickNumbers CloseNumbers SendNumbers ControlNumbers LineNumbers UserNumbers
 two-never = record {
   fresh = λ plan. among-other (freshOf plan .number) 2 freshNumbers (fresh-numbers plan) refl;
   tick = λ node t e. among-other (tickOf node t .number) 2 tickNumbers (tick-numbers node t e) refl;
   close = λ node t place e. among-other (closeOf node t place .number) 2 closeNumbers (close-numbers node t place e) refl;
   send = λ node t reply e. among-other (sendOf node t reply .answer .number) 2 sendNumbers (send-numbers node t reply e) refl;
   control = λ node t d reply e. among-other (controlTaken node t d reply .answer .number) 2 controlNumbers (control-numbers node t d reply e) refl;
+  line = λ node t place reply e. among-other (lineOf node t place reply .answer .number) 2 lineNumbers (line-numbers node t place reply e) refl;
   user = λ node t d reply e. among-other (userTaken node (t .recs) d reply .number) 2 userNumbers (user-numbers node t d reply e) refl;
 }
 
@@ -93,15 +101,17 @@ pub record TwoAlways : Type 0 where
   pub close : (node : Node) (t : Table) (place : ℕ) → Broken node t → closeOf node t place ≡ refused 2 node t
   pub send : (node : Node) (t : Table) (reply : List ℕ) → leastReply ≤ length reply → Broken node t → sendOf node t reply ≡ outcome (refused 2 node t) reply
   pub control : (node : Node) (t : Table) (d reply : List ℕ) → leastReply ≤ length reply → Broken node t → controlTaken node t d reply ≡ outcome (refused 2 node t) reply
+  pub line : (node : Node) (t : Table) (place : ℕ) (reply : List ℕ) → leastReply ≤ length reply → Broken node t → lineOf node t place reply ≡ outcome (refused 2 node t) reply
   pub user : (node : Node) (t : Table) (d reply : List ℕ) → leastReply ≤ length reply → Broken node t → userTaken node (t .recs) d reply ≡ silent 2 (length d) reply
 
 pub two-always : TwoAlways
-unfolding tickOf closeOf sendOf controlTaken leastReply
+unfolding tickOf closeOf sendOf controlTaken lineOf leastReply
 two-always = record {
   tick = λ node t e. rw e;
   close = λ node t place e. rw e;
   send = λ node t reply h e. rw (le-ltb (length reply) 128 h, e);
   control = λ node t d reply h e. rw (le-ltb (length reply) 128 h, e);
+  line = λ node t place reply h e. rw (le-ltb (length reply) 128 h, e);
   user = λ node t d reply h e. user-broken node (t .recs) d reply h e;
 }
 
@@ -109,12 +119,14 @@ two-always = record {
 pub record OneFirst : Type 0 where
   pub send : (node : Node) (t : Table) (reply : List ℕ) → length reply < leastReply → sendOf node t reply ≡ outcome (refused 1 node t) reply
   pub control : (node : Node) (t : Table) (d reply : List ℕ) → length reply < leastReply → controlTaken node t d reply ≡ outcome (refused 1 node t) reply
+  pub line : (node : Node) (t : Table) (place : ℕ) (reply : List ℕ) → length reply < leastReply → lineOf node t place reply ≡ outcome (refused 1 node t) reply
   pub user : (node : Node) (t : Table) (d reply : List ℕ) → length reply < leastReply → userTaken node (t .recs) d reply ≡ silent 1 (length d) reply
 
 pub one-first : OneFirst
-unfolding sendOf controlTaken leastReply
+unfolding sendOf controlTaken lineOf leastReply
 one-first = record {
   send = λ node t reply h. rw (lt-ltb (length reply) 128 h);
   control = λ node t d reply h. rw (lt-ltb (length reply) 128 h);
+  line = λ node t place reply h. rw (lt-ltb (length reply) 128 h);
   user = λ node t d reply h. user-short node (t .recs) d reply h;
 }
