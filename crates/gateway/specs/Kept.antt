@@ -1,0 +1,78 @@
+-- Every call keeps the table rules: a table that kept them before the call keeps them after it, whatever is asked and whatever is answered.
+-- Line of a place changes nothing at all. Take user datagram has no statement here, since it gives no table back: what was lent is what
+-- stays.
+-- Assumes nothing.
+use Prim.Native.Nat.{ℕ}
+use mathlib.Core.Bool.{true}
+use mathlib.Core.List.{List}
+use mathlib.Core.Path.{_≡_, refl}
+use lib.ListN.{length}
+use lib.Dec.{ltb}
+use Rattle.octets.specs.Choice.{split}
+use Rattle.octets.specs.Every.{every}
+use Rattle.octets.specs.BigEndian.{isOctet}
+use Rattle.plan.specs.declared.Plan.{Plan}
+use Rattle.plan.specs.Plan.{accepted}
+use Rattle.table.specs.declared.Node.{Node}
+use Rattle.table.specs.declared.Table.{Table}
+use Rattle.table.specs.Rules.{keepsRules}
+use Rattle.timing.specs.declared.Answer.{Answer}
+use Rattle.timing.specs.Timing.{leastReply, refused, freshOf, tickOf, closeOf, sendOf}
+use Rattle.timing.specs.Kept.{fresh-keeps, tick-keeps, close-keeps, send-keeps}
+use Rattle.control.specs.Control.{controlTaken}
+use Rattle.control.specs.Kept.{control-keeps}
+use Rattle.placeline.specs.Line.{lineOf}
+
+-- a node with its table keeps the rules; the same of what a call answers
+abbrev pub Keeps : Node → Table → Type 0
+Keeps node t = keepsRules node (t .recs) ≡ true
+
+abbrev pub LeavesKept : Answer → Type 0
+LeavesKept a = Keeps (a .node) (a .table)
+
+-- under an accepted plan the unit starts with the rules kept
+unfoldable pub FreshKeeps : Type 0
+FreshKeeps = (plan : Plan) → accepted plan ≡ true → LeavesKept (freshOf plan)
+
+unfoldable pub TickKeeps : Type 0
+TickKeeps = (node : Node) (t : Table) → Keeps node t → LeavesKept (tickOf node t)
+
+unfoldable pub CloseKeeps : Type 0
+CloseKeeps = (node : Node) (t : Table) (place : ℕ) → Keeps node t → LeavesKept (closeOf node t place)
+
+unfoldable pub SendKeeps : Type 0
+SendKeeps = (node : Node) (t : Table) (reply : List ℕ) → Keeps node t → LeavesKept (sendOf node t reply .answer)
+
+unfoldable pub ControlKeeps : Type 0
+ControlKeeps = (node : Node) (t : Table) (d reply : List ℕ) → every isOctet d ≡ true → Keeps node t → LeavesKept (controlTaken node t d reply .answer)
+
+unfoldable pub LineLeaves : Type 0
+LineLeaves = (node : Node) (t : Table) (place : ℕ) (reply : List ℕ) → (lineOf node t place reply .answer .node ≡ node) × (lineOf node t place reply .answer .table ≡ t)
+
+line-leaves : LineLeaves
+unfolding LineLeaves lineOf refused
+line-leaves node t place reply =
+    split (ltb (length reply) leastReply) (λ a. rw a (refl, refl))
+    (λ a. split (keepsRules node (t .recs))
+    (λ b. split (ltb place (length (t .recs))) (λ c. rw (a, b, c) (refl, refl)) (λ c. rw (a, b, c) (refl, refl)))
+    (λ b. rw (a, b) (refl, refl)))
+
+-- all of them
+pub record CallsKeep : Type 0 where
+  pub fresh : FreshKeeps
+  pub tick : TickKeeps
+  pub close : CloseKeeps
+  pub send : SendKeeps
+  pub control : ControlKeeps
+  pub line : LineLeaves
+
+pub calls-keep : CallsKeep
+unfolding FreshKeeps TickKeeps CloseKeeps SendKeeps ControlKeeps
+calls-keep = record {
+  fresh = fresh-keeps;
+  tick = tick-keeps;
+  close = λ node t place e. close-keeps node t e place;
+  send = λ node t reply e. send-keeps node t e reply;
+  control = λ node t d reply o e. control-keeps node t e reply d o;
+  line = line-leaves;
+}

@@ -1,0 +1,5 @@
+pub mod Agree
+pub mod Kept
+pub mod Numbers
+pub mod UserNumbers
+pub mod Refusals

@@ -1,0 +1,81 @@
+-- The numbers that take user datagram answers on a table that keeps its rules.
+-- Assumes nothing.
+use Prim.Native.Nat.{ℕ, zero, suc, _-_}
+use mathlib.Core.Bool.{true, not, _&&_}
+use mathlib.Core.List.{List, [], _∷_}
+use mathlib.Core.Path.{_≡_, refl}
+use lib.ListN.{length, drop}
+use lib.Dec.{eqb, ltb, leb}
+use Rattle.octets.specs.Choice.{split}
+use Rattle.tunnel.specs.Numbering.{userOffset}
+use Rattle.session.specs.declared.Session.{Session}
+use Rattle.table.specs.declared.Node.{Node}
+use Rattle.table.specs.declared.Table.{Table}
+use Rattle.table.specs.declared.Found.{Found}
+use Rattle.table.specs.declared.Found.the-variants as F
+use Rattle.table.specs.Rules.{keepsRules}
+use Rattle.table.specs.Find.{ownerOf}
+use Rattle.header.specs.Types.{among}
+use Rattle.gpdu.specs.declared.Header.{Header}
+use Rattle.gpdu.specs.declared.Header.the-variants as H
+use Rattle.gpdu.specs.Header.{refusalOf, headerOf, headerNumber, header-number, sizeOf, ours, typeTaken, optional, octet, lengthOf, fixedSize, wholeSize}
+use Rattle.gpdu.specs.Extensions.{walkOf, extensionsOf, firstMust, unfit, extent, nextType}
+use Rattle.gpdu.specs.User.{userOf, walkPast, firstType}
+use Rattle.userside.specs.UserSide.{packetTaken, headerTaken, userTaken}
+
+unfoldable pub userNumbers : List ℕ
+userNumbers = 0 ∷ 1 ∷ 3 ∷ 6 ∷ 7 ∷ 12 ∷ 13 ∷ 14 ∷ 15 ∷ []
+
+-- the header's refusals
+refusal-number : (d : List ℕ) → among (refusalOf d) userNumbers ≡ true
+unfolding refusalOf userNumbers
+refusal-number d =
+    split (ltb (length d) fixedSize) (λ a. rw a)
+    (λ a. split (ours (octet d 0))
+    (λ b. split (eqb (lengthOf d) (length d - fixedSize))
+    (λ c. split (typeTaken (octet d 1))
+    (λ e. split (optional (octet d 0) && ltb (length d) wholeSize) (λ f. rw (a, b, c, e, f)) (λ f. rw (a, b, c, e, f)))
+    (λ e. rw (a, b, c, e)))
+    (λ c. rw (a, b, c)))
+    (λ b. rw (a, b)))
+
+-- those of the extension headers
+walk-number : (n : ℕ) (l : List ℕ) (type : ℕ) → among (walkOf n l type .number) userNumbers ≡ true
+unfolding walkOf userNumbers
+walk-number zero l type = split (eqb type 0) (λ a. rw a) (λ a. split (leb firstMust type) (λ b. rw (a, b)) (λ b. rw (a, b)))
+walk-number (suc n) l type =
+    split (eqb type 0) (λ a. rw a)
+    (λ a. split (leb firstMust type) (λ b. rw (a, b))
+    (λ b. split (unfit l) (λ u. rw (a, b, u)) (λ u. rw (a, b, u) (walk-number n (drop (extent l) l) (nextType l)))))
+
+read-number : (d : List ℕ) → among (userOf d .number) userNumbers ≡ true
+unfolding userOf walkPast extensionsOf
+read-number d =
+    split (eqb (refusalOf d) 0)
+    (λ a. rw a (walk-number (length (drop (sizeOf (octet d 0)) d)) (drop (sizeOf (octet d 0)) d) (firstType d)))
+    (λ a. rw a (refusal-number d))
+
+-- by what the header says, a number that is live or not
+packet-number : (f : Found) (teid addr start end : ℕ) (reply : List ℕ) → among (packetTaken f teid addr start end reply .number) userNumbers ≡ true
+unfolding packetTaken userNumbers
+packet-number (F.At place) teid addr start end reply = refl
+packet-number F.Nothing teid addr start end reply = refl
+
+header-taken-number : (node : Node) (l : List Session) (h : Header) (start end : ℕ) (reply : List ℕ) → among (headerNumber h) userNumbers ≡ true
+    → among (headerTaken node l h start end reply .number) userNumbers ≡ true
+unfolding headerTaken headerNumber userNumbers
+header-taken-number node l (H.Echo sequence) start end reply h = refl
+header-taken-number node l (H.Packet teid) start end reply h =
+    packet-number (ownerOf userOffset (teid .0) l) (teid .0) (node .plan .user) start end reply
+header-taken-number node l (H.Refused number) start end reply h = h
+
+unfoldable pub UserNumbers : Type 0
+UserNumbers = (node : Node) (t : Table) (d reply : List ℕ) → keepsRules node (t .recs) ≡ true → among (userTaken node (t .recs) d reply .number) userNumbers ≡ true
+
+pub user-numbers : UserNumbers
+unfolding UserNumbers userTaken userNumbers userOf
+user-numbers node t d reply e =
+    split (ltb (length reply) 128) (λ a. rw a)
+    (λ a. split (eqb (userOf d .number) 0)
+    (λ b. rw (a, e, b) (header-taken-number node (t .recs) (headerOf d) (userOf d .size) (length d) reply (rw (header-number d) (refusal-number d))))
+    (λ b. rw (a, e, b) (read-number d)))
