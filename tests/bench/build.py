@@ -183,4 +183,4 @@ def freed(place=0, use=1):
 def case(name, shows, *lines, plan=PLAN, out=None, end="\n"):
     """out: the expected lines by hand; without it the model's are taken. end: what stands behind the last line."""
     text = "\n".join(plan + lines)
-    CASES.append((name, shows, text + end if text else "", None if out is None else "".join(part + "\n" for part in out)))
+    CASES.append((name, shows, text + end if plan + lines else "", None if out is None else "".join(part + "\n" for part in out)))

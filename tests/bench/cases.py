@@ -17,6 +17,9 @@ import cases_header  # noqa: F401  each adds its cases to build.CASES
 import cases_create  # noqa: F401
 import cases_change  # noqa: F401
 import cases_own  # noqa: F401
+import cases_share  # noqa: F401
+import cases_user  # noqa: F401
+import cases_bench  # noqa: F401
 
 HERE = os.path.dirname(os.path.abspath(__file__))
 FOLDER = os.path.join(HERE, "cases")
