@@ -104,11 +104,11 @@ def healed(bad):
 
 case("create-order-missing", "nothing there, then one field more in each Create: the next of the list is missing",
      C(with_teid(32, 0, 0)), *healed({name: NONE for name in GOOD}))
-case("create-order-short", "every field short, then one more good in each Create; the APN is unknown meanwhile, and 78 comes last",
+case("create-order-short", "every field short, then one more good in each Create; an APN of no octets is not short, and its 78 waits for the list's end",
      *healed(dict(imsi=field(1, b""), rat=field(82, b""), sender=field(87, b""), apn=apn(b""), paa=field(79, b""), ebi=field(73, b""),
                   user=field(87, b"", 2), qos=field(80, b""))))
 case("create-order-wrong", "every field wrong, then one more good in each Create; an unknown name and a wrong PAA type wait for the list's end",
-     *healed(dict(imsi=imsi(last="0"), rat=rat(0), sender=sender(first=0x84), apn=apn(), paa=paa(3), ebi=ebi(0), user=user(0),
+     *healed(dict(imsi=imsi(last="0"), rat=rat(0), sender=sender(first=0x84), apn=apn(b"\x01x"), paa=paa(3), ebi=ebi(0), user=user(0),
                   qos=field(80, bytes(21)))),
      C(create(20, apn=apn(b"\x01x"), paa=paa(3))), C(create(21, paa=paa(3))))
 

@@ -59,9 +59,13 @@ case("recovery-of-a-refused-create", "a Create refused with 67, 69, 70, 78 or 83
      C(echo(0x40, recovery(5))), C(create()), *[C(create(k, more=recovery(6), **bad)) for k, bad in enumerate(
          [dict(imsi=NONE), dict(rat=rat(0)), dict(qos=field(80, b"")), dict(apn=apn(b"x")), dict(paa=paa(2)), dict(ebi=ebi() + b"\0")], 2)])
 
-case("recovery-read-before-73", "a Create refused with 73 has read Recovery: another value has freed all, and then there is room",
+case("recovery-read-before-the-rule", "at the ceiling: with the same value 73; with another all are freed first, and there is room",
      C(create(1, more=recovery(5))), C(create(2, imsi=person(2), more=recovery(5))), C(create(3, imsi=person(3), more=recovery(6))),
      C(create(4, imsi=person(4), more=recovery(6))), plan=(N(), A(g=0, c=1)))
+
+case("recovery-frees-all-and-73", "another value frees all also where 73 follows: no room is left beside a guarantee of 64, used or not",
+     C(create(1, more=recovery(5))), C(create(2, imsi=person(2), apn=apn(b"\x03net"), more=recovery(6))), plan=(N(), A(g=64, c=64), A(b"\x03net", 0, 64)),
+     out=[accepted(), line(73, "48 21 000E 00001111 000002 00 02 0002 00 49 00"), *GONE])
 
 case("recovery-stored-by-73", "the first value seen stands in a Create refused with 73, and counts",
      C(create(1)), C(create(2, imsi=person(2), more=recovery(5))), C(echo(0x40, recovery(5))), C(echo(0x40, recovery(6))), plan=(N(), A(g=0, c=1)))
