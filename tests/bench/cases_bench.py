@@ -49,7 +49,8 @@ for name, shows, text in [
         ("n-number-hex", "a hex digit in a decimal number", N(n="A"))]:
     case("bad-" + name, "bad first line: " + shows, A(), C(echo(0x40)), plan=(text,), out=bad(1))
 
-case("n-leading-zeros", "leading zeros are allowed in decimal numbers", "X\t0000000000000000000064",
+case("n-leading-zeros", "leading zeros are allowed in decimal numbers",
+     "X\t0000000000000000000064",
      plan=(N(recovery="007", t="0000000000000000000000003", n="02", e="060"), "A\t0464617461\t01\t064"), out=[line(10, "-"), line("L", 0)])
 
 # ---- A lines
@@ -132,13 +133,16 @@ for name, shows, lines in [
         ("c-65", "c 65", (N(), A(g=0, c=65))),
         ("g-over-c", "g over c", (N(), A(g=3, c=2))),
         ("guarantees-65", "guarantees that add to 65", (N(), A(b"\x01a", 60, 64), A(b"\x01b", 5, 64))),
-        ("last-of-four", "the fourth access point breaks the limit", (N(), A(b"\x01a", 0, 1), A(b"\x01b", 0, 1), A(b"\x01c", 0, 1), A(b"\x01d", 2, 1)))]:
+        ("last-of-four", "the fourth access point breaks the limit",
+         (N(), A(b"\x01a", 0, 1), A(b"\x01b", 0, 1), A(b"\x01c", 0, 1), A(b"\x01d", 2, 1)))]:
     case("plan-refused-" + name, "refused plan: " + shows, C(echo(0x40)), T(), plan=lines, out=REFUSED)
 
 case("plan-refused-at-the-end", "a refused plan with no other line behind it", plan=(N(t=0), A()), out=REFUSED)
 case("plan-refused-before-a-bad-line", "a refused plan wins over the bad line at which it is taken", "Q", plan=(N(t=0), A()), out=REFUSED)
 case("plan-refused-before-an-empty-line", "the same with an empty line", "", "T", plan=(N(), A(g=2, c=1)), out=REFUSED)
-case("plan-at-its-limits", "T 255, N 10, E 255, four names, one of 63 octets, guarantees that add to 64, c 64, pool base FFFFFF00", crowd(1, 1, b"\x01d"), crowd(2, 2, b"\x01a"),
-     plan=(N("FFFFFFFF", "00000000", "FFFFFF00", 255, 255, 10, 255), A(b"\x01a", 64, 64), A(b"\x3e" + b"z" * 62, 0, 1), A(b"\x01", 0, 1), A(b"\x01d", 0, 64)))
+case("plan-at-its-limits", "T 255, N 10, E 255, four names, one of 63 octets, guarantees that add to 64, c 64, pool base FFFFFF00",
+     crowd(1, 1, b"\x01d"), crowd(2, 2, b"\x01a"),
+     plan=(N("FFFFFFFF", "00000000", "FFFFFF00", 255, 255, 10, 255),
+           A(b"\x01a", 64, 64), A(b"\x3e" + b"z" * 62, 0, 1), A(b"\x01", 0, 1), A(b"\x01d", 0, 64)))
 case("plan-at-its-lower-limits", "T 1, N 1, E 1, a name of one octet, g 0, c 1, pool base 0", C(create(1, apn=apn(b"\x00"))), T(2),
      plan=(N("00000000", "FFFFFFFF", "00000000", 0, 1, 1, 1), A(b"\x00", 0, 1)))

@@ -52,7 +52,8 @@ case("modify-user-faults", "F-TEID instance 1 short, TEID 0, V4 unset, another i
      + [line(69, "48 23 0012 00001111 %06X 00 02 0006 00 45 00 57 0000 01" % seq) for seq in (2, 3, 4)] + [line("L", 1), SESSION])
 
 case("modify-all-or-nothing", "a good Sender F-TEID beside a bad Bearer Context changes nothing, and the reply goes to the old peer",
-     C(create()), C(modify(0x100, 1, MOVED[0], bearer(ebi(), user(0, instance=1)))), C(modify(0x100, 2, MOVED[0], bearer(ebi(9)))), C(modify(0x100, 3)),
+     C(create()), C(modify(0x100, 1, MOVED[0], bearer(ebi(), user(0, instance=1)))),
+     C(modify(0x100, 2, MOVED[0], bearer(ebi(9)))), C(modify(0x100, 3)),
      out=[accepted(), line(69, "48 23 0012 00001111 000001 00 02 0006 00 45 00 57 0000 01"),
           line(69, "48 23 0012 00001111 000002 00 02 0006 00 45 00 49 0000 00"),
           line(0, "48 23 000E 00001111 000003 00 02 0002 00 10 00"), line("L", 1), SESSION])
@@ -62,7 +63,8 @@ case("modify-order", "Sender F-TEID before the Bearer Context, though it stands 
      C(modify(0x100, 3, bearer(user(0, instance=1), ebi(7)))), C(modify(0x100, 4, bearer(user(0, instance=1), ebi()))))
 
 case("modify-other-instances", "unknown there: Sender F-TEID of instance 1, Bearer Context of instance 1, F-TEID of instance 2 or 0 within",
-     C(create()), C(modify(0x100, 1, user(instance=1))), C(modify(0x100, 2, field(93, b"", 1))), C(modify(0x100, 3, bearer(ebi(), user(7), user(8, instance=0)))),
+     C(create()), C(modify(0x100, 1, user(instance=1))), C(modify(0x100, 2, field(93, b"", 1))),
+     C(modify(0x100, 3, bearer(ebi(), user(7), user(8, instance=0)))),
      C(modify(0x100, 4, sender(0x3333) + sender(0))), C(modify(0x100, 5, bearer(ebi()) + bearer())))
 
 case("modify-overrun", "overrun in the message or its first Bearer Context: 67 to the session's peer, no field named, nothing changes",
@@ -130,4 +132,5 @@ case("lowest-free-place", "a new session takes the lowest free place, and its ad
 case("place-5-use-1", "the pair of document 01: place 5, use 1 has TEIDs 261 and 389",
      crowd(1, 6), C(modify(261, 1)), U(gpdu(389, b"\x45")), C(modify(389, 2)), U(gpdu(261, b"\x45")))
 
-case("places-0-to-63", "all 64 places: numbers and addresses of each", crowd(1, 64), U(gpdu(0x1BF, b"!")), U(gpdu(0x1C0, b"!")), C(modify(0x13F)), C(modify(0x140)))
+case("places-0-to-63", "all 64 places: numbers and addresses of each",
+     crowd(1, 64), U(gpdu(0x1BF, b"!")), U(gpdu(0x1C0, b"!")), C(modify(0x13F)), C(modify(0x140)))

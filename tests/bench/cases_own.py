@@ -42,8 +42,10 @@ case("recovery-not-awaited", "in a type 2 that is not awaited it is not read",
      out=[accepted(), ECHOED, line(9, "-"), ECHOED, line("L", 1), SESSION])
 
 case("recovery-0-is-a-value", "0 is a value like any other: stored first, then 1 frees all, then 0 again does",
-     C(create(1)), C(echo(0x40, recovery(0))), C(echo(0x40, recovery(1))), C(create(2)), C(echo(0x40, recovery(0))),
-     out=[accepted(), ECHOED, ECHOED, accepted(seq="000002", control="00000200", user="00000280"), ECHOED, line("L", 0), freed(0, 2)])
+     C(create(1)), C(echo(0x40, recovery(0))), U(gpdu(0x180, b"a")), C(echo(0x40, recovery(1))), U(gpdu(0x180, b"a")), C(create(2)),
+     C(echo(0x40, recovery(0))),
+     out=[accepted(), ECHOED, line(0, "-", "61"), ECHOED, line(15, "32 1A 0010 00000000 00000000 10 00000180 85 0004 0A000002"),
+          accepted(seq="000002", control="00000200", user="00000280"), ECHOED, line("L", 0), freed(0, 2)])
 
 case("recovery-absent-or-empty", "absent or empty is ignored; an empty first one hides a second; another instance is unknown",
      C(create()), C(echo(0x40, recovery(5))), C(echo(0x40)), C(echo(0x40, field(3, b""))), C(echo(0x40, field(3, b""), recovery(6))),
@@ -52,8 +54,11 @@ case("recovery-absent-or-empty", "absent or empty is ignored; an empty first one
 
 case("recovery-behind-an-overrun", "an overrun in type 1 counts as no Recovery; it is answered all the same",
      C(create()), C(echo(0x40, recovery(5))), C(echo(0x40, recovery(6), b"\0")), C(echo(0x40, recovery(6), field(9, b"", length=1))),
-     C(echo(0x40, bearer(b"\0"), recovery(5))),  # a Bearer Context is an unknown field there
-     out=[accepted()] + [ECHOED] * 4 + [line("L", 1), SESSION])
+     out=[accepted()] + [ECHOED] * 3 + [line("L", 1), SESSION])
+
+case("recovery-behind-a-bearer-context", "in type 1 a Bearer Context is an unknown field: what runs past its end does not hide Recovery",
+     C(create()), C(echo(0x40, recovery(5))), C(echo(0x40, bearer(b"\0"), recovery(6))),
+     out=[accepted(), ECHOED, ECHOED, *GONE])
 
 case("recovery-of-a-refused-create", "a Create refused with 67, 69, 70, 78 or 83 has not read Recovery",
      C(echo(0x40, recovery(5))), C(create()), *[C(create(k, more=recovery(6), **bad)) for k, bad in enumerate(
@@ -64,7 +69,8 @@ case("recovery-read-before-the-rule", "at the ceiling: with the same value 73; w
      C(create(4, imsi=person(4), more=recovery(6))), plan=(N(), A(g=0, c=1)))
 
 case("recovery-frees-all-and-73", "another value frees all also where 73 follows: no room is left beside a guarantee of 64, used or not",
-     C(create(1, more=recovery(5))), C(create(2, imsi=person(2), apn=apn(b"\x03net"), more=recovery(6))), plan=(N(), A(g=64, c=64), A(b"\x03net", 0, 64)),
+     C(create(1, more=recovery(5))), C(create(2, imsi=person(2), apn=apn(b"\x03net"), more=recovery(6))),
+     plan=(N(), A(g=64, c=64), A(b"\x03net", 0, 64)),
      out=[accepted(), line(73, "48 21 000E 00001111 000002 00 02 0002 00 49 00"), *GONE])
 
 case("recovery-stored-by-73", "the first value seen stands in a Create refused with 73, and counts",
@@ -104,6 +110,10 @@ case("echo-lost-keeps-recovery", "giving up the echo keeps the stored Recovery: 
      C(echo(0x40, recovery(5))), T(2), C(create()), C(echo(0x40, recovery(5))), plan=plan(t=1, n=1, e=1),
      out=[ECHOED, OK, own_echo(0), OK, accepted(), ECHOED, line("L", 1), SESSION])
 
+case("echo-lost-then-restart", "giving up the echo keeps the stored Recovery: another value later is not a first one, and frees all",
+     C(echo(0x40, recovery(5))), T(2), C(create()), C(echo(0x40, recovery(6))), plan=plan(t=1, n=1, e=1),
+     out=[ECHOED, OK, own_echo(0), OK, accepted(), ECHOED, *GONE])
+
 case("echo-late-answer", "the answer after giving up is 9; the answer to a resent echo is taken",
      T(2), C(echo_reply(0)), T(2), T(1), C(echo_reply(1)), C(echo_reply(1)), plan=plan(t=1, n=2, e=1))
 
@@ -121,7 +131,8 @@ case("echo-every-tick", "T 1, N 1, E 1: an echo at each second tick, given up at
 case("echo-of-the-peer", "the peer's echo does not end or delay ours", T(3), C(echo(0, recovery(1))), T(1), C(echo(0, recovery(1))), T(3),
      plan=plan(t=3, n=2, e=4))
 
-case("echo-interval-255", "E 255 and T 255: the echo at the 255th tick, its resend at the 510th", T(510), plan=plan(255, 10, 255))
+case("echo-interval-255", "E 255 and T 255: the echo at the 255th tick, its resend at the 510th", T(510),
+     plan=plan(255, 10, 255))
 
 # ---- Close
 case("close", "Delete Bearer at once, again at the T-th tick; by the N x T-th tick the place is free",
@@ -149,7 +160,7 @@ case("close-answered-any-cause", "whatever the cause; octets past the two and ot
      crowd(1, 4), *[X(k) for k in range(4)], C(bearer_deleted(0x100, 0, cause(64))), C(bearer_deleted(0x101, 1, field(2, bytes(6)))),
      C(bearer_deleted(0x102, 2, ebi(), field(93, b"\0"), cause(0), recovery(3))), T(3), C(bearer_deleted(0x103, 3, cause(255))))
 
-case("close-wrong-answers", "9 and the request goes on: another number, another place's TEID, user number, other use, no Cause, of 1 octet, of instance 1, overrun",
+case("close-wrong-answers", "9, and the request goes on: number, TEID, use or Cause do not fit, or there is an overrun",
      crowd(1, 2), X(0), X(1), C(bearer_deleted(0x100, 1, cause())), C(bearer_deleted(0x101, 0, cause())), C(bearer_deleted(0x100, 2, cause())),
      C(bearer_deleted(0x180, 0, cause())), C(bearer_deleted(0x200, 0, cause())), C(bearer_deleted(0, 0, cause())), C(bearer_deleted(0x100, 0)),
      C(bearer_deleted(0x100, 0, cause(16, 1))), C(bearer_deleted(0x100, 0, field(2, b"\x10\0", 1))), C(bearer_deleted(0x100, 0, cause(), b"\0")),
@@ -159,7 +170,8 @@ case("close-not-asked", "type 100 for a live place that nobody closed: 9", C(cre
      out=[accepted(), line(9, "-"), line("L", 1), SESSION])
 
 case("close-late-answer", "the answer after giving up is 9, also when the place is taken again",
-     C(create()), X(0), T(6), C(bearer_deleted(0x100, 0, cause())), C(create(2)), C(bearer_deleted(0x100, 0, cause())), C(bearer_deleted(0x200, 0, cause())),
+     C(create()), X(0), T(6), C(bearer_deleted(0x100, 0, cause())), C(create(2)),
+     C(bearer_deleted(0x100, 0, cause())), C(bearer_deleted(0x200, 0, cause())),
      out=[accepted(), OK, bearer_delete(0), OK, OK, OK, bearer_delete(0), OK, OK, OK, line(9, "-"),
           accepted(seq="000002", control="00000200", user="00000280"), line(9, "-"), line(9, "-"), line("L", 1),
           line(0, 2, "L", 0, "440101234567890", 5, 4369, "0A010008", 8738, "0A010009", 2)])
@@ -170,7 +182,8 @@ case("sends-1", "N 1: sent once, given up at the T-th tick", C(create()), X(0), 
 case("sends-10", "N 10 and T 2: ten sends with one number, free at the 20th tick", C(create()), X(0), T(20), plan=plan(2, 10, 255),
      out=[accepted(), OK, bearer_delete(0)] + [OK, OK, bearer_delete(0)] * 9 + [OK, OK, *GONE])
 
-case("resend-time-255", "T 255: resent at the 255th tick, free at the 510th; E 255 with its echo meanwhile", C(create()), X(0), T(254), T(1), T(255),
+case("resend-time-255", "T 255: resent at the 255th tick, free at the 510th; E 255 with its echo meanwhile",
+     C(create()), X(0), T(255), T(255),
      plan=plan(255, 2, 255))
 
 case("due-in-order", "the echo first, then places upward, whatever order they were closed in",
@@ -188,4 +201,5 @@ case("numbers-go-on", "a number is taken at the first send; after answers, givin
 case("close-and-echo-apart", "echo and places count down each for itself; an answered place does not end the echo",
      crowd(1, 2), T(2), X(0), T(1), X(1), T(1), C(bearer_deleted(0x100, 1, cause())), T(6), plan=plan(t=4, n=2, e=2))
 
-case("close-all-64", "all 64 places closed: 64 own numbers, all given up in the same tick", crowd(1, 64), *[X(k) for k in range(64)], T(2), plan=plan(1, 2, 200))
+case("close-all-64", "all 64 places closed: 64 own numbers, all given up in the same tick",
+     crowd(1, 64), *[X(k) for k in range(64)], T(2), plan=plan(1, 2, 200))

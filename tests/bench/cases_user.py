@@ -58,7 +58,8 @@ case("gpdu-two-extensions", "extension headers follow one another: the next type
      C(create()), raw("36 FF 00 15 00 00 01 80 00 02 00 40 01 11 22 7F 03 00 01 02 03 04 05 06 07 08 09 00 EE"), out=[accepted(), taken("EE"), *LIVE])
 
 case("gpdu-long-extension", "an extension header of 255 units, and a chain of 100", C(create()),
-     U(gpdu(0x180, octets("0000 00 01 FF") + bytes(1018) + b"\0ab", 0x34)), U(gpdu(0x180, octets("0000 00 01") + octets("01 00 00 01") * 99 + octets("01 00 00 00") + b"cd", 0x34)))
+     U(gpdu(0x180, octets("0000 00 01 FF") + bytes(1018) + b"\0ab", 0x34)),
+     U(gpdu(0x180, octets("0000 00 01") + octets("01 00 00 01") * 99 + octets("01 00 00 00") + b"cd", 0x34)))
 
 case("gpdu-optional-part-cut", "1 to 3 octets, or none, where E, S or PN is set: 13",
      C(create()), *[U(gpdu(0x180, bytes(size), 0x30 | flags)) for flags in (1, 2, 4, 7) for size in range(4)],
@@ -103,7 +104,8 @@ case("user-length", "a length that is not the size less 8: 6, before the type",
      out=[accepted()] + [line(6, "-")] * 5 + [*LIVE])
 
 case("user-type-not-taken", "every type but 1 and 255: 7, before the optional part and the TEID",
-     C(create()), *[U(gpdu(0x180, b"", 0x30, kind)) for kind in (0, 2, 3, 26, 31, 32, 128, 254)], raw("34 1A 00 00 00 00 00 00"), raw("34 FE 00 04 00 00 00 00 00 00 00 80"),
+     C(create()), *[U(gpdu(0x180, b"", 0x30, kind)) for kind in (0, 2, 3, 26, 31, 32, 128, 254)],
+     raw("34 1A 00 00 00 00 00 00"), raw("34 FE 00 04 00 00 00 00 00 00 00 80"),
      out=[accepted()] + [line(7, "-")] * 10 + [*LIVE])
 
 case("user-echo", "an echo is answered with its sequence number; 0 if S is unset, also with PN or E",
