@@ -180,6 +180,16 @@ def freed(place=0, use=1):
     return line(place, use, "F", *["-"] * 8)
 
 
+def seated(place, person, use=1):
+    """The accepted reply to one of crowd(), who gets this place: "Control TEID = use x 256 + place; user TEID = use x 256 + 128 + place"; "address
+    is pool base + 1 + place"."""
+    return accepted(seq="%06X" % person, control="%06X%02X" % (use, place), address="644000%02X" % (1 + place), user="%06X%02X" % (use, 128 + place))
+
+
+def record(place, person, point=0, use=1, state="L"):
+    return line(place, use, state, point, "44010%010d" % person, 5, 4369, "0A010008", 8738, "0A010009", person)
+
+
 def case(name, shows, *lines, plan=PLAN, out=None, end="\n"):
     """out: the expected lines by hand; without it the model's are taken. end: what stands behind the last line."""
     text = "\n".join(plan + lines)

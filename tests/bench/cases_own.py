@@ -202,4 +202,6 @@ case("close-and-echo-apart", "echo and places count down each for itself; an ans
      crowd(1, 2), T(2), X(0), T(1), X(1), T(1), C(bearer_deleted(0x100, 1, cause())), T(6), plan=plan(t=4, n=2, e=2))
 
 case("close-all-64", "all 64 places closed: 64 own numbers, all given up in the same tick",
-     crowd(1, 64), *[X(k) for k in range(64)], T(2), plan=plan(1, 2, 200))
+     crowd(1, 64), *[X(k) for k in range(64)], T(2), plan=plan(1, 2, 200),
+     out=[seated(k, k + 1) for k in range(64)] + [part for k in range(64) for part in (OK, bearer_delete(k))]
+     + [OK] + [bearer_delete(k) for k in range(64)] + [OK, line("L", 0)] + [freed(k) for k in range(64)])

@@ -18,21 +18,36 @@ case("share-ceiling-above-guarantee", "g 1, c 2: two are admitted, the third is 
           line(0, 1, "L", 0, "440100000000001", 5, 4369, "0A010008", 8738, "0A010009", 1),
           line(1, 1, "L", 0, "440100000000002", 5, 4369, "0A010008", 8738, "0A010009", 2)])
 
-case("share-all-64", "one access point with c 64 gets all 64 places; the next is 73", crowd(1, 65), plan=(N(), A(g=0, c=64)))
+case("share-all-64", "one access point with c 64 gets all 64 places; the next is 73",
+     crowd(1, 65), plan=(N(), A(g=0, c=64)),
+     out=[seated(k, k + 1) for k in range(64)] + [full(65), line("L", 64)] + [record(k, k + 1) for k in range(64)])
 
 case("share-pair-44-and-0", "the pair of document 01: g 10 and 20, c 64; at u 44 and 0 the first gets 73 and the second is admitted",
-     crowd(1, 45), crowd(101, 1, NET), crowd(46, 1), plan=(N(), A(DATA, 10, 64), A(NET, 20, 64)))
+     crowd(1, 45), crowd(101, 1, NET), crowd(46, 1), plan=(N(), A(DATA, 10, 64), A(NET, 20, 64)),
+     out=[seated(k, k + 1) for k in range(44)] + [full(45), seated(44, 101), full(46), line("L", 45)]
+     + [record(k, k + 1) for k in range(44)] + [record(44, 101, 1)])
 
 case("share-pair-43-and-0", "the pair of document 01: at u 43 and 0 the first is admitted too",
-     crowd(1, 43), crowd(101, 1, NET), crowd(44, 2), plan=(N(), A(DATA, 10, 64), A(NET, 20, 64)))
+     crowd(1, 43), crowd(101, 1, NET), crowd(44, 2), plan=(N(), A(DATA, 10, 64), A(NET, 20, 64)),
+     out=[seated(k, k + 1) for k in range(43)] + [seated(43, 101), seated(44, 44), full(45), line("L", 45)]
+     + [record(k, k + 1) for k in range(43)] + [record(43, 101, 1), record(44, 44)])
 
 case("share-guarantee-held", "one access point fills up all it may; the other three still get their whole guarantees, and no more",
      crowd(1, 60), crowd(101, 11, NET), crowd(201, 6, WEB), crowd(301, 4, TEL),
-     plan=(N(), A(DATA, 0, 64), A(NET, 10, 64), A(WEB, 5, 5), A(TEL, 3, 64)))
+     plan=(N(), A(DATA, 0, 64), A(NET, 10, 64), A(WEB, 5, 5), A(TEL, 3, 64)),
+     out=[seated(k, k + 1) for k in range(46)] + [full(k) for k in range(47, 61)]  # 64 - 10 - 5 - 3
+     + [seated(46 + k, 101 + k) for k in range(10)] + [full(111)] + [seated(56 + k, 201 + k) for k in range(5)] + [full(206)]
+     + [seated(61 + k, 301 + k) for k in range(3)] + [full(304), line("L", 64)]
+     + [record(k, k + 1) for k in range(46)] + [record(46 + k, 101 + k, 1) for k in range(10)]
+     + [record(56 + k, 201 + k, 2) for k in range(5)] + [record(61 + k, 301 + k, 3) for k in range(3)])
 
 case("share-guarantee-held-later", "guaranteed room is held not only at the start: used and freed again it is still the other's",
      crowd(101, 4, NET), crowd(1, 61), *[C(delete(0x100 + k, k)) for k in range(4)], crowd(70, 1), crowd(111, 5, NET), crowd(71, 1),
-     plan=(N(), A(DATA, 0, 64), A(NET, 4, 64)))
+     plan=(N(), A(DATA, 0, 64), A(NET, 4, 64)),
+     out=[seated(k, 101 + k) for k in range(4)] + [seated(4 + k, 1 + k) for k in range(60)] + [full(61)]
+     + [line(0, "48 25 000E 00001111 %06X 00 02 0002 00 10 00" % k) for k in range(4)] + [full(70)]
+     + [seated(k, 111 + k, 2) for k in range(4)] + [full(115), full(71), line("L", 64)]
+     + [record(k, 111 + k, 1, 2) for k in range(4)] + [record(4 + k, 1 + k) for k in range(60)])
 
 case("share-guarantees-of-64", "guarantees that add to 64: nobody gets past its own, whatever the ceiling",
      *[crowd(100 * k, 17, name) for k, name in enumerate([DATA, NET, WEB, TEL], 1)],
