@@ -53,6 +53,8 @@ case("n-leading-zeros", "leading zeros are allowed in decimal numbers",
      "X\t0000000000000000000064",
      plan=(N(recovery="007", t="0000000000000000000000003", n="02", e="060"), "A\t0464617461\t01\t064"), out=[line(10, "-"), line("L", 0)])
 
+case("x-many-leading-zeros", "however many zeros", "X\t" + "0" * 5000 + "63", "X\t" + "0" * 5000 + "64", out=[line(10, "-"), line(10, "-"), line("L", 0)])
+
 # ---- A lines
 for name, shows, text in [
         ("a-too-few", "a field of A missing", "A\t0464617461\t1"),
@@ -93,6 +95,7 @@ for name, shows, text in [
         ("c-space-behind", "a space behind the hex", C(echo(0x40)) + " "),
         ("c-carriage-return", "a carriage return at the end", C(echo(0x40)) + "\r"),
         ("c-of-2049", "2,049 octets", C(bytes(2049))),
+        ("c-of-10000", "a line far longer than any good one", C(bytes(10000))),
         ("u-of-2049", "2,049 octets", U(bytes(2049))),
         ("u-alone", "U without a field", "U"),
         ("u-odd-hex", "an odd count of hex digits", "U\t3"),

@@ -317,9 +317,10 @@ class Bad(Exception):
 
 
 def decimal(text):
-    if not text or any(c not in b"0123456789" for c in text) or int(text) > 255:
+    digits = text.lstrip(b"0")  # leading zeros are allowed, however many
+    if not text or any(c not in b"0123456789" for c in text) or len(digits) > 3 or int(digits or b"0") > 255:
         raise Bad
-    return int(text)
+    return int(digits or b"0")
 
 
 def octets(text, most):
