@@ -1,0 +1,163 @@
+#!/usr/bin/env python3
+"""Puts slips into the model, one at a time, and looks whether a case tells the slip from the model.
+
+Shows how much a wrong program could get past the cases. Each slip is a text of gtp.py (G) or model.py (M), taken once, and what stands
+in its place. The slips marked ALIKE change nothing that can be seen: four octets that are not there run past the end anyway, and a
+reply with an overrun has no Cause to be found. Ends with 1 if another slip is not told, or if a text is no longer there.
+"""
+import os
+import sys
+import types
+
+sys.dont_write_bytecode = True
+
+HERE = os.path.dirname(os.path.abspath(__file__))
+FOLDER = os.path.join(HERE, "cases")
+G, M = "gtp", "model"
+ALIKE = True
+
+SLIPS = [
+    (G, "at + 4 > len(octets)", "False", ALIKE),
+    (G, "end > len(octets)", "end > len(octets) + 1"),
+    (G, "octets[at + 3] & 15", "octets[at + 3]"),
+    (G, "return next((value for k, i, value in found if (k, i) == (kind, instance)), None)",
+     "return next((value for k, i, value in reversed(found) if (k, i) == (kind, instance)), None)"),
+    (G, "bearer is not None and fields(bearer) is None", "False"),
+    (G, "all(half <= 9 for half in halves[:15])", "all(half <= 9 for half in halves[:14])"),
+    (G, "and halves[15] == 15", ""),
+    (G, "value[0] & 0x80 and ", ""),
+    (G, "value[0] & 0x3F == interface", "value[0] & 0x7F == interface"),
+    (G, "and number(value[1:5]) != 0", ""),
+    (G, "return value[0] if value else None", "return (value[0] if value else None) or None"),
+    (M, "used[point] < c and ", ""),
+    (M, "(used[point] < g or total < PLACES)", "(total < PLACES)"),
+    (M, "(used[point] < g or total < PLACES)", "(used[point] < g or sum(used) < PLACES)"),
+    (M, "place.state != FREE]", "place.state == LIVE]"),
+    (M, "if d[0] >> 5 != 2:", "if d[0] >> 5 < 2:"),
+    (M, "if d[0] & 0x10:\n            return 4", "if d[0] & 0x10 and d[1] < 200:\n            return 4"),
+    (M, "if flag != gtp.T_FLAG[kind]:", "if flag < gtp.T_FLAG[kind]:"),
+    (M, " or len(d) < start", ""),
+    (M, "kind == gtp.CREATE and teid != 0", "False"),
+    (M, "if place.control_teid() == teid", "if place.index == teid % 256"),
+    (M, "value[0] in (1, 6)", "value[0] <= 6"),
+    (M, "gtp.taken(found, gtp.PAA, 0, 5)", "gtp.taken(found, gtp.PAA, 0, 1)"),
+    (M, "gtp.taken(inner, gtp.QOS, 0, 22)", "gtp.taken(inner, gtp.QOS, 0, 21)"),
+    (M, "5 <= value[0] & 15)", "5 <= value[0])"),
+    (M, "paa[0] & 7 != 1", "paa[0] != 1"),
+    (M, "paa[0] & 7 != 1", "paa[0] & 3 != 1"),
+    (M, "            self.read_recovery(gtp.recovery(found))\n", ""),
+    (M, "if (held.point, held.creating) == (point, sequence)", "if (held.creating) == (sequence)"),
+    (M, "if (held.point, held.creating) == (point, sequence)", "if (held.point) == (point)"),
+    (M, "                held.free()\n            if not", "            if not"),
+    (M, "return 0, self.created(held), None", "held.peer = to; return 0, self.created(held), None"),
+    (M, "return 0, self.created(held), None", "held.state = LIVE; return 0, self.created(held), None"),
+    (M, "place.use + 1 if", "place.use + 1 if place.use == 0 else place.use if"),
+    (M, "plan.pool + 1 + place.index", "plan.pool + place.index"),
+    (M, "value[0] & 15 == place.ebi", "value[0] == place.ebi"),
+    (M, "value[0] & 15 == place.ebi", "True"),
+    (M, "return why.cause, gtp.cause_reply(35, place.peer", "return why.cause, gtp.cause_reply(35, peer[0]"),
+    (M, "gtp.taken(inner, gtp.FTEID, 1, 9, gtp.good_fteid(4))", "gtp.taken(inner, gtp.FTEID, 1, 9, gtp.good_fteid(6))"),
+    (M, "gtp.taken(found, gtp.EBI, 0, 1)[0] & 15 != place.ebi", "gtp.taken(found, gtp.EBI, 0, 1)[0] != place.ebi"),
+    (M, "                raise Refused(64)", "                raise Refused(64, (73, 0))"),
+    (M, "if self.stored is not None and self.stored != value", "if self.stored and self.stored != value"),
+    (M, "        self.stored = value", "        self.stored = self.stored or value"),
+    (M, "self.places[index].state = CLOSING", "self.places[index].state = CLOSING; self.places[index].timer = 0"),
+    (M, "        for place in self.places:\n            if place.state == CLOSING and place.timer == 0",
+     "        for place in reversed(self.places):\n            if place.state == CLOSING and place.timer == 0"),
+    (M, "                if place.sent == 0:\n                    place.own", "                if True:\n                    place.own"),
+    (M, "            if self.echo_sent == 0:\n                self.echo_own", "            if True:\n                self.echo_own"),
+    (M, "place.timer == 0 and place.sent == self.plan.sends", "place.timer == 0 and place.sent > self.plan.sends"),
+    (M, "                self.free_all()\n                self.echo_timer", "                self.echo_timer"),
+    (M, "                self.free_all()\n                self.echo_timer, self.echo_sent = self.plan.interval, 0",
+     "                self.free_all()\n                self.stored = None\n                self.echo_timer, self.echo_sent = self.plan.interval, 0"),
+    (M, "            self.free_all()\n        self.stored",
+     "            self.free_all()\n            self.echo_timer, self.echo_sent = self.plan.interval, 0\n        self.stored"),
+    (M, "                self.echo_timer, self.echo_sent = self.plan.interval, 0\n        return 0",
+     "                self.echo_timer, self.echo_sent = max(self.plan.interval-1,1), 0\n        return 0"),
+    (M, "self.echo_sent == 0 or sequence", "sequence"),
+    (M, " or found is None:\n            return 9", " :\n            return 9"),
+    (M, '        self.read_recovery(gtp.recovery(found))\n        return 0, b"", None', '        return 0, b"", None'),
+    (M, "place.sent == 0 or ", ""),
+    (M, " or place.own != sequence", ""),
+    (M, " or len(cause) < 2", " or len(cause) < 1"),
+    (M, "d[0] >> 5 != 1 or not d[0] & 0x10", "d[0] >> 5 != 1"),
+    (M, "if d[0] & 7:", "if d[0] & 6:"),
+    (M, "if d[0] & 7:", "if d[0] & 5:"),
+    (M, "following >= 128", "following > 128"),
+    (M, "following >= 128", "following >= 192"),
+    (M, "at + 4 * d[at] > len(d)", "at + 4 * d[at] > len(d) + 1"),
+    (M, "d[11] if d[0] & 4 else 0", "d[11]"),
+    (M, "            if d[0] & 2:\n                sequence", "            if True:\n                sequence"),
+    (M, "place.user_teid() == number(d[4:8])", "place.user_teid() % 256 == number(d[4:8]) % 256"),
+    (M, 'or int(digits or b"0") > 255', 'or int(digits or b"0") > 999'),
+    (M, "len(set(names)) == len(names)", "True"),
+    (M, "<= self.sends <= 10", "<= self.sends <= 11"),
+    (M, "self.pool % 256 == 0", "self.pool % 128 == 0"),
+    (M, "sum(g for _, g, _ in self.points) <= PLACES", "True"),
+    (M, "and c >= 1", ""),
+    (M, "if place.use > 0", "if place.state != FREE"),
+    (M, '"L\\t%d" % len(unit.live())', '"L\\t%d" % sum(p.state == LIVE for p in unit.places)'),
+    (M, "self.next = self.next + 1 if self.next < LAST_NUMBER else 0\n        return", "self.next = self.next\n        return"),
+    (M, "self.read_recovery(gtp.recovery(gtp.fields(body)))", "self.read_recovery(gtp.recovery(gtp.message_fields(body)))"),
+    (M, "cause = None if found is None else first(found, gtp.CAUSE)", "cause = first(found or [], gtp.CAUSE)", ALIKE),
+    (M, "                if len(parts) != 4 or len(plan.points) == NAMES:", "                if len(parts) != 4:"),
+    (M, "place, found = self.holder(teid), gtp.fields(body)", "place, found = self.holder(teid), gtp.message_fields(body)"),
+    (M, "        place, found = self.holder(teid), gtp.message_fields(body)\n        if place is None:\n            return 64, gtp.cause_reply(37",
+     "        place, found = self.holder(teid), gtp.fields(body)\n        if place is None:\n            return 64, gtp.cause_reply(37"),
+    (M, "found = gtp.fields(body)\n        if self.echo_sent", "found = gtp.message_fields(body)\n        if self.echo_sent"),
+    (M, 'raise Refused(67)  # "in Create', 'to = 0x1111; raise Refused(67)  # "in Create'),
+    (M, "            to = gtp.fteid_parts(sender)[0]", "            to = gtp.fteid_parts(sender)[0] if first(found, 1) else 0"),
+]
+
+
+def source(name):
+    with open(os.path.join(HERE, name + ".py")) as file:
+        return file.read()
+
+
+def model_of(texts):
+    """The model as a module of its own, made from these two texts."""
+    for name in (G, M):
+        module = types.ModuleType(name)
+        sys.modules[name] = module
+        exec(compile(texts[name], name, "exec"), module.__dict__)
+    return sys.modules[M]
+
+
+def told(model, cases):
+    """Does one case print something else, or fail?"""
+    for given, want in cases:
+        try:
+            if model.run(given) != want:
+                return True
+        except (IndexError, TypeError, StopIteration, OverflowError):
+            return True
+    return False
+
+
+def main():
+    cases = []
+    for name in sorted(file for file in os.listdir(FOLDER) if file.endswith(".in")):
+        with open(os.path.join(FOLDER, name), "rb") as given, open(os.path.join(FOLDER, name[:-3] + ".out"), "rb") as want:
+            cases.append((given.read(), want.read()))
+    texts = {G: source(G), M: source(M)}
+    if told(model_of(texts), cases):
+        sys.exit("slips: the model itself does not agree with the cases")
+    wrong = apart = alike = 0
+    for where, text, instead, *marked in SLIPS:
+        if text not in texts[where]:
+            wrong += 1
+            print("not there: %r" % text)
+        elif told(model_of({**texts, where: texts[where].replace(text, instead, 1)}), cases):
+            apart += 1
+        else:
+            alike += 1
+            if not marked:
+                wrong += 1
+                print("not told: %r -> %r" % (text, instead))
+    print("slips: %d told apart, %d alike" % (apart, alike))
+    sys.exit(wrong > 0)
+
+
+if __name__ == "__main__":
+    main()
