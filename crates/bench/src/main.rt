@@ -1,5 +1,6 @@
 // The service bench: reads lines from standard input, puts each to the unit, and prints what it did. The input may be of any length:
-// a buffer is filled, its whole lines are taken, and what is left of the last moves to the front.
+// a buffer is filled, its whole lines are taken, and what is left of the last moves to the front. Started with any argument, it takes
+// many runs one after another: a line N starts a fresh unit, after the lines at the end of the unit before it.
 use benchrun::Bench;
 ghost use Prim.Native.Nat.{_≤_};
 ghost use mathlib.Core.Path.{_≡_};
@@ -42,14 +43,37 @@ fn line_end(s: &[u8], from: usize) -> usize
     i
 }
 
+// Of many runs one after another: N behind the first line ends the run before it, and a fresh one starts.
+fn start_anew(b: Bench, many: bool, line: &[u8], out: &mut [u8]) -> Bench {
+    if !many | (b.phase == Bench::FIRST) {
+        return b;
+    }
+    if line.len() == 0 {
+        return b;
+    }
+    if line[0] != 78 {
+        return b;
+    }
+    let e = benchrun::end_of_input(b, out);
+    let mut next = Bench::start();
+    next.made = e.made;
+    next
+}
+
 // A run, and how much of a part of the input was taken.
 struct Turn {
     bench: Bench,
     used: usize,
 }
 
+fn run_line(b: Bench, many: bool, line: &[u8], out: &mut [u8]) -> Bench {
+    let a = start_anew(b, many, line, out);
+    let c = benchrun::take_line(a, line, out);
+    emit_if_full(c, out)
+}
+
 // The line at a place, if it is whole.
-fn take_next(b: Bench, s: &[u8], used: usize, out: &mut [u8]) -> Turn
+fn take_next(b: Bench, many: bool, s: &[u8], used: usize, out: &mut [u8]) -> Turn
     requires { ⌜ used ≤ length (now s) ⌝ }
     ensures { λ r. ⌜ (used ≤ r .used) × (r .used ≤ length (now (s .entry))) ⌝ }
 {
@@ -58,21 +82,20 @@ fn take_next(b: Bench, s: &[u8], used: usize, out: &mut [u8]) -> Turn
         return Turn { bench: b, used };
     }
     let next = end + 1;
-    let c = benchrun::take_line(b, &s[used..end], out);
-    let d = emit_if_full(c, out);
+    let c = run_line(b, many, &s[used..end], out);
     Turn {
-        bench: d,
+        bench: c,
         used: next,
     }
 }
 
 // The whole lines taken, up to the end of the run.
-fn take_lines(mut b: Bench, s: &[u8], out: &mut [u8]) -> Turn
+fn take_lines(mut b: Bench, many: bool, s: &[u8], out: &mut [u8]) -> Turn
     ensures { λ r. ⌜ r .used ≤ length (now (s .entry)) ⌝ }
 {
     let mut used: usize = 0;
     while used < s.len() {
-        let t = take_next(b, s, used, out);
+        let t = take_next(b, many, s, used, out);
         if t.used <= used {
             return t;
         }
@@ -111,33 +134,33 @@ fn shift(buf: &mut [u8], from: usize, end: usize) -> usize
 }
 
 // The last line may lack its line end; a buffer that is full holds a line that is too long, which is a bad one.
-fn take_rest(b: Bench, rest: &[u8], out: &mut [u8]) -> Bench {
+fn take_rest(b: Bench, many: bool, rest: &[u8], out: &mut [u8]) -> Bench {
     if rest.len() == 0 {
         return b;
     }
-    benchrun::take_line(b, rest, out)
+    run_line(b, many, rest, out)
 }
 
-fn finish(b: Bench, rest: &[u8], out: &mut [u8]) {
-    let c = take_rest(b, rest, out);
-    let d = emit_if_full(c, out);
-    let e = benchrun::end_of_input(d, out);
-    emit(e, out);
+fn finish(b: Bench, many: bool, rest: &[u8], out: &mut [u8]) {
+    let c = take_rest(b, many, rest, out);
+    let d = benchrun::end_of_input(c, out);
+    emit(d, out);
 }
 
 fn main() {
     let mut buf = io::large_buffer();
     let mut out = io::large_buffer();
     let mut b = Bench::start();
+    let many = 1 < os::arg_count();
     let mut have: usize = 0;
     let mut turns = u64::MAX;
     while 0 < turns {
         let end = fill(&mut buf, have);
         if end == have {
-            finish(b, &buf[0..end], &mut out);
+            finish(b, many, &buf[0..end], &mut out);
             return;
         }
-        let t = take_lines(b, &buf[0..end], &mut out);
+        let t = take_lines(b, many, &buf[0..end], &mut out);
         b = t.bench;
         if b.phase == Bench::OVER {
             emit(b, &out);

@@ -7,10 +7,10 @@ use Rattle.bench.proofs.main.Statement.{statement}
 use Rattle.bench.proofs.main.Tie as tie
 
 abbrev Inv-loop : tie.InvT-loop
-Inv-loop buf₀ out₀ b₀ have₀ turns₀ buf out b have turns = (65536 ≡ length buf) × ((65536 ≡ length out) × (have ≤ 65536))
+Inv-loop buf₀ out₀ b₀ many have₀ turns₀ buf out b have turns = (65536 ≡ length buf) × ((65536 ≡ length out) × (have ≤ 65536))
 
 abbrev μ-loop : tie.MeasureT-loop
-μ-loop buf₀ out₀ b₀ have₀ turns₀ buf out b have turns = turns
+μ-loop buf₀ out₀ b₀ many have₀ turns₀ buf out b have turns = turns
 
 large-buffer-requires : tie.Need-large-buffer-requires Inv-loop μ-loop
 large-buffer-requires c κs = search needs
@@ -20,6 +20,9 @@ large-buffer-requires-2 c κs = search needs
 
 start-requires : tie.Need-start-requires Inv-loop μ-loop
 start-requires c κs = search needs
+
+arg-count-requires : tie.Need-arg-count-requires Inv-loop μ-loop
+arg-count-requires c κs = search needs
 
 loop-holds : tie.Need-loop-holds Inv-loop μ-loop
 loop-holds c = search needs
@@ -99,6 +102,7 @@ main-spec =
     large-buffer-requires
     large-buffer-requires-2
     start-requires
+    arg-count-requires
     loop-holds
     slice-aggregate-fill
     fill-requires

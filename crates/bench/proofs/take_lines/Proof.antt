@@ -7,10 +7,10 @@ use Rattle.bench.proofs.take_lines.Statement.{statement}
 use Rattle.bench.proofs.take_lines.Tie as tie
 
 abbrev Inv-loop : tie.InvT-loop
-Inv-loop b₀ s out₀ used₀ b out used = (used ≤ length s) × (length out ≡ length out₀)
+Inv-loop b₀ many s out₀ used₀ b out used = (used ≤ length s) × (length out ≡ length out₀)
 
 abbrev μ-loop : tie.MeasureT-loop
-μ-loop b₀ s out₀ used₀ b out used = length s - used
+μ-loop b₀ many s out₀ used₀ b out used = length s - used
 
 loop-holds : tie.Need-loop-holds Inv-loop μ-loop
 loop-holds c = search needs
