@@ -52,7 +52,7 @@ freshOn count p = counted count (freshOf p) (refused 2 (freshNode noPlan) (held 
 
 -- ---- laws: another count than 64 leaves all as lent
 module _ (node : Node) (l : List Session) (other : eqb (length l) places ≡ false) where
-  rules-other : keepsRules node l ≡ false
+  pub rules-other : keepsRules node l ≡ false
   unfolding keepsRules
   rules-other = split (keepsRules node l) (λ e. let h : eqb (length l) places ≡ true = search (and-left, and-right) depth 9 in impossible (sym other ∙ h)) (λ e. e)
 

@@ -1,0 +1,46 @@
+// Take control datagram, as firmware calls it: the caller lends its records, the node goes in and comes back by value.
+use lentcore::Left;
+use session::Session;
+use table::Node;
+use table::Table;
+use timing::Answer;
+ghost use mathlib.Core.Path.{_≡_};
+ghost use Rattle.timing.specs.Timing.{held, outcome};
+ghost use Rattle.control.specs.Control.{controlTaken};
+ghost use Rattle.lentcore.specs.Lent.{left, countedReply};
+
+// The call on values, where there are 64 records.
+pub fn control_on(
+    count: usize,
+    node: Node,
+    recs: [Session; 64],
+    d: &[u8],
+    reply: &mut [u8],
+) -> Answer
+    ensures { λ r. ⌜ outcome r (now (reply .exit)) ≡ countedReply count node (held recs) (now (reply .entry)) (controlTaken node (held recs) (now (d .entry)) (now (reply .entry))) ⌝ }
+{
+    let table = Table { recs };
+    if count == Table::PLACES {
+        return control::take_control(node, table, d, reply);
+    }
+    let number = lentcore::uncounted(reply.len());
+    Answer::refused(number, node, table)
+}
+
+// Take control datagram.
+#[no_mangle]
+pub extern "C" fn grugavorn_control(
+    node: Node,
+    recs: &mut [Session],
+    d: &[u8],
+    reply: &mut [u8],
+) -> Left
+    ensures { λ r. ⌜ outcome (left r (now (recs .exit))) (now (reply .exit)) ≡ controlTaken node (held (now (recs .entry))) (now (d .entry)) (now (reply .entry)) ⌝ }
+{
+    let count = recs.len();
+    let table = lentkit::load(recs);
+    let answer = control_on(count, node, table, d, reply);
+    let records = lentcore::records_of(answer);
+    lentkit::store(recs, records);
+    lentcore::left_of(answer)
+}
