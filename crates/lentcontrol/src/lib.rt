@@ -2,30 +2,10 @@
 use lentcore::Left;
 use session::Session;
 use table::Node;
-use table::Table;
-use timing::Answer;
 ghost use mathlib.Core.Path.{_≡_};
 ghost use Rattle.timing.specs.Timing.{held, outcome};
 ghost use Rattle.control.specs.Control.{controlTaken};
-ghost use Rattle.lentcore.specs.Lent.{left, countedReply};
-
-// The call on values, where there are 64 records.
-pub fn control_on(
-    count: usize,
-    node: Node,
-    recs: [Session; 64],
-    d: &[u8],
-    reply: &mut [u8],
-) -> Answer
-    ensures { λ r. ⌜ outcome r (now (reply .exit)) ≡ countedReply count node (held recs) (now (reply .entry)) (controlTaken node (held recs) (now (d .entry)) (now (reply .entry))) ⌝ }
-{
-    let table = Table { recs };
-    if count == Table::PLACES {
-        return control::take_control(node, table, d, reply);
-    }
-    let number = lentcore::uncounted(reply.len());
-    Answer::refused(number, node, table)
-}
+ghost use Rattle.lentcore.specs.Lent.{left};
 
 // Take control datagram.
 #[no_mangle]
@@ -39,7 +19,7 @@ pub extern "C" fn grugavorn_control(
 {
     let count = recs.len();
     let table = lentkit::load(recs);
-    let answer = control_on(count, node, table, d, reply);
+    let answer = lentcall::control_on(count, node, table, d, reply);
     let records = lentcore::records_of(answer);
     lentkit::store(recs, records);
     lentcore::left_of(answer)

@@ -57,15 +57,15 @@ use Rattle.timing.specs.Timing.{Outcome, outcome, held}
 use Rattle.lentcore.specs.Lent.{left, leftOf, countedReply, lent-reply}
 use Rattle.table.specs.declared.Table.{Table}
 use Rattle.control.specs.Control.{controlTaken}
-use Rattle.lentcontrol.specs.Lent.{control-other}
+use Rattle.lentcall.specs.Lent.{control-other}
 use Rattle.lentkit.proofs.load as Load′
 use Rattle.lentkit.proofs.load.Symbol as Load-def
 use Rattle.lentkit.proofs.load.Symbol.{name as #lentkit·load}
 use Rattle.lentkit.proofs.load.Met as Load-thm
-use Rattle.lentcontrol.proofs.control_on as Core′
-use Rattle.lentcontrol.proofs.control_on.Symbol as Core-def
-use Rattle.lentcontrol.proofs.control_on.Symbol.{name as #lentcontrol·control-on}
-use Rattle.lentcontrol.proofs.control_on.Met as Core-thm
+use Rattle.lentcall.proofs.control_on as Core′
+use Rattle.lentcall.proofs.control_on.Symbol as Core-def
+use Rattle.lentcall.proofs.control_on.Symbol.{name as #lentcall·control-on}
+use Rattle.lentcall.proofs.control_on.Met as Core-thm
 use Rattle.lentcore.proofs.records_of as Part′
 use Rattle.lentcore.proofs.records_of.Symbol as Part-def
 use Rattle.lentcore.proofs.records_of.Symbol.{name as #lentcore·records-of}
@@ -162,7 +162,7 @@ module _ {M : Type 1} (𝓤 : URA M) (H : Heap 𝓤) (A : Atoms 𝓤) (W : Given
       suffices ! _ (ends-at 𝓤 H A entry′.ended stayed (entry′.clauses 𝓤 H A mem run) W bound w r (tt, (w-recs, (tt, (w-reply, tt)))) (tt, (l-recs, (tt, (l-reply, tt))))) $ says ! e $ frame ! $
       nothing ! $ move ! (2 ∷ 0 ∷ []) $ fjoin ! $ nothing ! $ fjoin ! $ move ! (1 ∷ 0 ∷ []) $ fjoin ! $ nothing ! $ fjoin ! $ done !
 
-  module _ (C : Calls 𝓤 H) (Λ : Loops 𝓤 H) (fm : FmC 𝓤 H (W .laws) C) (known-Load : Triple 𝓤 (C #lentkit·load) (Load 𝓤 H A mem run)) (known-Core : Triple 𝓤 (C #lentcontrol·control-on) (Core 𝓤 H A mem run)) (known-Part : Triple 𝓤 (C #lentcore·records-of) (Part 𝓤 H A mem run)) (known-Store : Triple 𝓤 (C #lentkit·store) (Store 𝓤 H A mem run)) (known-Back : Triple 𝓤 (C #lentcore·left-of) (Back 𝓤 H A mem run)) where
+  module _ (C : Calls 𝓤 H) (Λ : Loops 𝓤 H) (fm : FmC 𝓤 H (W .laws) C) (known-Load : Triple 𝓤 (C #lentkit·load) (Load 𝓤 H A mem run)) (known-Core : Triple 𝓤 (C #lentcall·control-on) (Core 𝓤 H A mem run)) (known-Part : Triple 𝓤 (C #lentcore·records-of) (Part 𝓤 H A mem run)) (known-Store : Triple 𝓤 (C #lentkit·store) (Store 𝓤 H A mem run)) (known-Back : Triple 𝓤 (C #lentcore·left-of) (Back 𝓤 H A mem run)) where
     walk : Is N.the-row node (v-node ∷ []) → Room S.the-row (length (recs .now)) → Room u8 (length (d .now)) → Room u8 (length (reply .now)) → ent 𝓤 (onEntry 𝓤 H A entry′.signature (κ₀, (κ₁, (κ₂, tt))) (q₀, (q₁, (q₂, tt))) a at) (WpFn 𝓤 H C Λ code.function (v-node ∷ v-recs ∷ v-d ∷ v-reply ∷ []) Post)
     walk is-node room-recs room-d room-reply =
         qed W ((Toks) ∷ ‵ (owns (N.the-row ∷ (MutSlice (named 0) κ₀ S.the-row) ∷ (ShrSlice (named 1) κ₁ u8) ∷ (MutSlice (named 2) κ₂ u8) ∷ []) a at) ∷ []) ∵ enter ! C Λ code.function (v-node ∷ v-recs ∷ v-d ∷ v-reply ∷ []) _ $
@@ -245,7 +245,7 @@ module _ {M : Type 1} (𝓤 : URA M) (H : Heap 𝓤) (A : Atoms 𝓤) (W : Given
         by ! (exits r-Back w-Back (z-Store .0) (z-Core .1 .1 .1 .1 .0) (lent-reply ys-recs r-Load r-Part (z-Store .0) r-Back r-Core e-Load e-Part e-Store e-Back (λ (t : Table). controlTaken node t (now d) (now reply)) node (now reply) (z-Core .1 .1 .1 .1 .0) (control-other node ys-recs (now d) (now reply)) e-Core) len-recs len-reply))))))))))))))))))))))))))))))))))))))))))))))
 
 module _ {M : Type 1} (𝓤 : URA M) (H : Heap 𝓤) (A : Atoms 𝓤) (W : Given 𝓤 H A) (mem : Memory → SProp 𝓤) (run : Routine → Fun 𝓤) where
-  grugavorn-control-walks : (C : Calls 𝓤 H) (Λ : Loops 𝓤 H) → FmC 𝓤 H (W .laws) C → Triple 𝓤 (C #lentkit·load) (Load 𝓤 H A mem run) → Triple 𝓤 (C #lentcontrol·control-on) (Core 𝓤 H A mem run) → Triple 𝓤 (C #lentcore·records-of) (Part 𝓤 H A mem run) → Triple 𝓤 (C #lentkit·store) (Store 𝓤 H A mem run) → Triple 𝓤 (C #lentcore·left-of) (Back 𝓤 H A mem run)
+  grugavorn-control-walks : (C : Calls 𝓤 H) (Λ : Loops 𝓤 H) → FmC 𝓤 H (W .laws) C → Triple 𝓤 (C #lentkit·load) (Load 𝓤 H A mem run) → Triple 𝓤 (C #lentcall·control-on) (Core 𝓤 H A mem run) → Triple 𝓤 (C #lentcore·records-of) (Part 𝓤 H A mem run) → Triple 𝓤 (C #lentkit·store) (Store 𝓤 H A mem run) → Triple 𝓤 (C #lentcore·left-of) (Back 𝓤 H A mem run)
       → Walks 𝓤 H A entry′.ended stayed (WpFn 𝓤 H C Λ code.function) (entry′.clauses 𝓤 H A mem run)
   grugavorn-control-walks C Λ fm known-Load known-Core known-Part known-Store known-Back = walked 𝓤 H A entry′.ended stayed (entry′.clauses 𝓤 H A mem run) (WpFn 𝓤 H C Λ code.function)
       (λ κs. (LL.vals N.the-type N′.the-laws, (slice-vals, (slice-vals, (slice-vals, tt))))) (λ κs. (LL.tells N.the-type N′.the-laws, (mut-slice-tells (named 0) (κs .0) S.the-row, (shr-slice-tells (named 1) (κs .1 .0) u8, (mut-slice-tells (named 2) (κs .1 .1 .0) u8, tt)))))
@@ -253,7 +253,7 @@ module _ {M : Type 1} (𝓤 : URA M) (H : Heap 𝓤) (A : Atoms 𝓤) (W : Given
       (walk 𝓤 H A W mem run (κs .0) (κs .1 .0) (κs .1 .1 .0) (qs .0) (qs .1 .0) (qs .1 .1 .0) (a .0) (a .1 .0 .ptr .0) (a .1 .0 .ptr .1) (a .1 .0 .name) (a .1 .0 .now) (a .1 .1 .0) (a .1 .1 .1 .0) C Λ fm known-Load known-Core known-Part known-Store known-Back (are .0) (are .1 .0 .0 .1) (are .1 .1 .0 .0 .1) (are .1 .1 .1 .0 .0 .1)))
 
 grugavorn-control-meets : {M : Type 1} (𝓤 : URA M) (H : Heap 𝓤) (A : Atoms 𝓤) → Given 𝓤 H A → (mem : Memory → SProp 𝓤) (run : Routine → Fun 𝓤) (𝓣 : Tables 𝓤 H)
-    → Triple 𝓤 (𝓣 .C #lentkit·load) (Load 𝓤 H A mem run) → Triple 𝓤 (𝓣 .C #lentcontrol·control-on) (Core 𝓤 H A mem run) → Triple 𝓤 (𝓣 .C #lentcore·records-of) (Part 𝓤 H A mem run) → Triple 𝓤 (𝓣 .C #lentkit·store) (Store 𝓤 H A mem run) → Triple 𝓤 (𝓣 .C #lentcore·left-of) (Back 𝓤 H A mem run)
+    → Triple 𝓤 (𝓣 .C #lentkit·load) (Load 𝓤 H A mem run) → Triple 𝓤 (𝓣 .C #lentcall·control-on) (Core 𝓤 H A mem run) → Triple 𝓤 (𝓣 .C #lentcore·records-of) (Part 𝓤 H A mem run) → Triple 𝓤 (𝓣 .C #lentkit·store) (Store 𝓤 H A mem run) → Triple 𝓤 (𝓣 .C #lentcore·left-of) (Back 𝓤 H A mem run)
     → Meets 𝓤 H A entry′.signature (WpFn 𝓤 H (𝓣 .C) (𝓣 .Λ) code.function) (entry′.spec 𝓤 H A mem run)
 grugavorn-control-meets 𝓤 H A W mem run 𝓣 known-Load known-Core known-Part known-Store known-Back =
     walk-meets 𝓤 H A entry′.ended stayed W (goes-dropped 𝓤 H A W 3 (plain (λ _. N.the-row)) yes (λ κs x f. refl), (goes-gave-slice 𝓤 H A W 3 0 tt (plain (λ _. S.the-row)), (goes-dropped 𝓤 H A W 3 (shrSliceOf (1 ∷ []) tt (plain (λ _. u8))) yes (λ κs x f. refl), (goes-gave-slice 𝓤 H A W 3 2 tt (plain (λ _. u8)), tt)))) (entry′.clauses 𝓤 H A mem run)
@@ -266,7 +266,7 @@ grugavorn-control-spec 𝓤 H 𝓜 𝓖 𝓡 =
     (tables 𝓤 H 𝓜 𝓡 code.env .C) (tables 𝓤 H 𝓜 𝓡 code.env .Λ) #lentcontrol·grugavorn-control code.function (code.unfolded 𝓤 H 𝓜 𝓡)
     (grugavorn-control-meets 𝓤 H (𝓖 .A) (givenOf 𝓤 H 𝓜 𝓖) (𝓜 .mem) (𝓡 .run) (tablesOf 𝓤 H 𝓜 (tables 𝓤 H 𝓜 𝓡 code.env))
     (cited 𝓤 H (Load 𝓤 H (𝓖 .A) (𝓜 .mem) (𝓡 .run)) 𝓜 𝓡 code.env #lentkit·load Load-def.routine code.calls-lentkit·load (Load-thm.met 𝓤 H 𝓜 𝓖 𝓡))
-    (cited 𝓤 H (Core 𝓤 H (𝓖 .A) (𝓜 .mem) (𝓡 .run)) 𝓜 𝓡 code.env #lentcontrol·control-on Core-def.routine code.calls-lentcontrol·control-on (Core-thm.met 𝓤 H 𝓜 𝓖 𝓡))
+    (cited 𝓤 H (Core 𝓤 H (𝓖 .A) (𝓜 .mem) (𝓡 .run)) 𝓜 𝓡 code.env #lentcall·control-on Core-def.routine code.calls-lentcall·control-on (Core-thm.met 𝓤 H 𝓜 𝓖 𝓡))
     (cited 𝓤 H (Part 𝓤 H (𝓖 .A) (𝓜 .mem) (𝓡 .run)) 𝓜 𝓡 code.env #lentcore·records-of Part-def.routine code.calls-lentcore·records-of (Part-thm.met 𝓤 H 𝓜 𝓖 𝓡))
     (cited 𝓤 H (Store 𝓤 H (𝓖 .A) (𝓜 .mem) (𝓡 .run)) 𝓜 𝓡 code.env #lentkit·store Store-def.routine code.calls-lentkit·store (Store-thm.met 𝓤 H 𝓜 𝓖 𝓡))
     (cited 𝓤 H (Back 𝓤 H (𝓖 .A) (𝓜 .mem) (𝓡 .run)) 𝓜 𝓡 code.env #lentcore·left-of Back-def.routine code.calls-lentcore·left-of (Back-thm.met 𝓤 H 𝓜 𝓖 𝓡)))

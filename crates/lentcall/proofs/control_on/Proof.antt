@@ -3,8 +3,8 @@ use Rattle.tunnel.specs.Numbering.{places}
 use Rattle.timing.specs.Timing.{held}
 use Rattle.lentcore.specs.Lent.{countedReply}
 use borrow.Author.Needs.{needs}
-use Rattle.lentcontrol.proofs.control_on.Statement.{statement}
-use Rattle.lentcontrol.proofs.control_on.Tie as tie
+use Rattle.lentcall.proofs.control_on.Statement.{statement}
+use Rattle.lentcall.proofs.control_on.Tie as tie
 
 take-control-requires : tie.Need-take-control-requires
 take-control-requires c κs = search needs
