@@ -8,6 +8,7 @@ use mathlib.Core.List.{List}
 use mathlib.Core.Path.{_≡_, refl, sym, ap, _∙_}
 use lib.ListN.{length, replicate}
 use lib.Dec.{eqb, ltb}
+use borrow.Author.Tests.{eq-eqb}
 use Rattle.octets.specs.Choice.{pick, split, impossible, and-left, and-right}
 use Rattle.tunnel.specs.Numbering.{places}
 use Rattle.plan.specs.declared.Plan.{Plan}
@@ -104,3 +105,8 @@ unfolding freshOn counted freshLent
 lent-fresh p l u zs r a parted wrote rest made = split (eqb (length l) places)
     (λ e. kept l (loaded l) u zs r a refl parted wrote rest e ∙ rw e at made ∙ rw e)
     (λ e. as-lent l (loaded l) u zs r a refl parted wrote rest 2 (freshNode noPlan) (held (replicate 64 nobody)) e (rw e at made) ∙ rw e)
+
+-- fresh on 64 records of any kind
+pub fresh-whole : (p : Plan) (l : List Session) → length l ≡ 64 → freshLent p l ≡ freshOf p
+unfolding freshLent places
+fresh-whole p l e = rw (eq-eqb (length l) 64 e)

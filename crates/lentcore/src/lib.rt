@@ -35,6 +35,25 @@ pub fn records_of(a: Answer) -> [Session; 64]
     table.recs
 }
 
+pub fn records_in(table: Table) -> [Session; 64]
+    ensures { λ r. ⌜ r ≡ table .recs ⌝ }
+{
+    table.recs
+}
+
+// The answer with its records, where they are at hand as an array.
+pub fn whole_of(r: Left, recs: [Session; 64]) -> Answer
+    ensures { λ a. ⌜ a ≡ left r recs ⌝ }
+{
+    let node = r.node;
+    Answer {
+        number: r.number,
+        size: r.size,
+        node,
+        table: Table { recs },
+    }
+}
+
 // The number for another count of records than 64: a short reply buffer comes first.
 pub fn uncounted(room: usize) -> u8
     ensures { λ r. ⌜ r ≡ uncounted room ⌝ }
