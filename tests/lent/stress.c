@@ -182,7 +182,7 @@ static void user_datagram(void) {
     unsigned next = one_in(2) ? 0 : one_in(12) ? chance() & 255 : 1 + below(127);
     octet(next);
     while ((d[0] & 4) && next != 0 && length < 300) {
-      unsigned n = one_in(25) ? below(256) : 1 + below(3);
+      unsigned n = one_in(25) ? one_in(2) ? 0 : below(256) : 1 + below(3);
       octet(n);
       for (unsigned i = 2; i < 4 * n && length < 500; i++) octet(chance());
       octet(next = one_in(2) ? 0 : one_in(12) ? chance() & 255 : 1 + below(127));
