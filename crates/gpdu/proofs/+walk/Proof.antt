@@ -25,7 +25,6 @@ walk-at t = and 3 walk-kinds.ps (is 3 walk-kinds.ps μ-walk t) walk.Pre
 abbrev walk-below : ℕ → In 3 walk-kinds.ps
 walk-below t = and 3 walk-kinds.ps (falls 3 walk-kinds.ps _<_ μ-walk t) walk.Pre
 
--- src/lib.rt:158:9
 walk-returns : (t : ℕ) → walk-lts.Need-returns (
   extent-reads.Asked,
   extent-reads.Learnt,
@@ -36,7 +35,6 @@ walk-returns t c =
     let a = c .before .before .before .args in
     sym (stretch-end (a .more) (now (a .rest)) (now (a .next)) (c .if1 .taken))
 
--- src/lib.rt:163:9
 walk-returns-2 : (t : ℕ) → walk-lts.Need-returns-2 (
   extent-reads.Asked,
   extent-reads.Learnt,
@@ -47,7 +45,6 @@ walk-returns-2 t c =
     let a = c .before .before .before .before .args in
     sym (stretch-must (now (a .rest)) (now (a .next)) (c .before .if1 .left) (a .more) (omega arith))
 
--- src/lib.rt:165:9
 walk-extent-requires : (t : ℕ) → walk-lts.Need-extent-requires (
   extent-reads.Asked,
   extent-reads.Learnt,
@@ -56,7 +53,6 @@ walk-extent-requires : (t : ℕ) → walk-lts.Need-extent-requires (
 ) (walk-at t) walk.Post
 walk-extent-requires t c κs = search needs
 
--- src/lib.rt:169:9
 walk-returns-3 : (t : ℕ) → walk-lts.Need-returns-3 (
   extent-reads.Asked,
   extent-reads.Learnt,
@@ -68,7 +64,6 @@ walk-returns-3 t c =
     let x = c .before .extent in
     sym (stretch-unfit (now (a .rest)) (now (a .next)) (c .before .before .before .if1 .left) (x .result) (omega arith) (x .ensures) (a .more) (c .if3 .taken))
 
--- src/lib.rt:171:18
 walk-sub-next : (t : ℕ) → walk-lts.Need-sub-next (
   extent-reads.Asked,
   extent-reads.Learnt,
@@ -79,7 +74,6 @@ walk-sub-next t c =
     let f = fit (now (c .before .before .before .before .before .before .args .rest)) (c .before .extent .result) (c .if3 .left) in
     omega arith
 
--- src/lib.rt:171:13
 walk-shared-slice-read-next : (t : ℕ) → walk-lts.Need-shared-slice-read-next (
   extent-reads.Asked,
   extent-reads.Learnt,
@@ -90,7 +84,6 @@ walk-shared-slice-read-next t c =
     let f = fit (now (c .before .before .before .before .before .before .before .args .rest)) (c .before .before .extent .result) (c .before .if3 .left) in
     omega arith
 
--- src/lib.rt:174:16
 walk-sub-result : (t : ℕ) → walk-lts.Need-sub-result (
   extent-reads.Asked,
   extent-reads.Learnt,
@@ -101,7 +94,6 @@ walk-sub-result t c =
     let f = fit (now (c .before .before .before .before .before .before .before .before .args .rest)) (c .before .before .before .extent .result) (c .before .before .if3 .left) in
     omega arith
 
--- src/lib.rt:174:9
 walk-returns-4 : (t : ℕ) → walk-lts.Need-returns-4 (
   extent-reads.Asked,
   extent-reads.Learnt,
@@ -113,7 +105,6 @@ walk-returns-4 t c =
     let x = c .before .before .before .extent in
     sym (stretch-pause (now (a .rest)) (now (a .next)) (c .before .before .before .before .before .if1 .left) (x .result) (omega arith) (x .ensures) (a .more) (c .if4 .taken) (c .before .before .if3 .left))
 
--- src/lib.rt:176:10
 walk-sub-walk : (t : ℕ) → walk-lts.Need-sub-walk (
   extent-reads.Asked,
   extent-reads.Learnt,
@@ -124,7 +115,6 @@ walk-sub-walk t c =
     let f = fit (now (c .before .before .before .before .before .before .before .before .args .rest)) (c .before .before .before .extent .result) (c .before .before .if3 .left) in
     omega arith
 
--- src/lib.rt:176:10
 walk-part-walk-start : (t : ℕ) → walk-lts.Need-part-walk-start (
   extent-reads.Asked,
   extent-reads.Learnt,
@@ -135,7 +125,6 @@ walk-part-walk-start t c =
     let f = fit (now (c .before .before .before .before .before .before .before .before .args .rest)) (c .before .before .before .extent .result) (c .before .before .if3 .left) in
     omega arith
 
--- src/lib.rt:176:10
 walk-part-walk-end : (t : ℕ) → walk-lts.Need-part-walk-end (
   extent-reads.Asked,
   extent-reads.Learnt,
@@ -144,7 +133,6 @@ walk-part-walk-end : (t : ℕ) → walk-lts.Need-part-walk-end (
 ) (walk-at t) walk.Post
 walk-part-walk-end t c = search needs
 
--- src/lib.rt:176:22
 walk-sub-walk-2 : (t : ℕ) → walk-lts.Need-sub-walk-2 (
   extent-reads.Asked,
   extent-reads.Learnt,
@@ -153,7 +141,6 @@ walk-sub-walk-2 : (t : ℕ) → walk-lts.Need-sub-walk-2 (
 ) (walk-at t) walk.Post
 walk-sub-walk-2 t c = search needs
 
--- src/lib.rt:176:5
 walk-walk-requires : (t : ℕ) → walk-lts.Need-walk-requires (
   extent-reads.Asked,
   extent-reads.Learnt,
@@ -164,7 +151,6 @@ walk-walk-requires t c κs =
     let f = fit (now (c .before .before .before .before .before .before .before .before .before .before .before .args .rest)) (c .before .before .before .before .before .before .extent .result) (c .before .before .before .before .before .if3 .left) in
     search needs
 
--- src/lib.rt:152:1
 walk-returns-5 : (t : ℕ) → walk-lts.Need-returns-5 (
   extent-reads.Asked,
   extent-reads.Learnt,

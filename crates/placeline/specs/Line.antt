@@ -1,0 +1,122 @@
+-- The line of a place: place, use, state (F, L or X for closing), access point, IMSI (15 digits), EBI, peer control TEID, its address
+-- (hex), peer user TEID, its address (hex), creating sequence; fields parted by tabs; a free place has a dash in each field from the
+-- fourth on.
+-- Assumes nothing.
+use Prim.Native.Nat.{ℕ, suc, _+_, _<_, _≤_, _^_}
+use mathlib.Core.Bool.{Bool, true, false}
+use mathlib.Core.List.{List, [], _∷_, _++_, append-assoc}
+use mathlib.Core.Path.{_≡_, refl, sym, _∙_}
+use native.Mathlib.Omega.{arith}
+use lib.ListN.{length, getD, length-append}
+use lib.Dec.{eqb, ltb}
+use borrow.Author.Tests.{lt-ltb, le-ltb}
+use Rattle.octets.specs.Choice.{pick, split}
+use Rattle.octets.specs.BigEndian.{octetsOf, length-octets}
+use Rattle.octets.specs.Overlay.{overlay}
+use Rattle.octets.specs.Places.{any-default}
+use Rattle.numerals.specs.Laid.{laid, written, laid-front}
+use Rattle.numerals.specs.Decimal.{decimal, decimal-size}
+use Rattle.numerals.specs.Hex.{hexOf, length-hex}
+use Rattle.session.specs.declared.Session.{Session}
+use Rattle.session.specs.Session.{isFree, isClosing}
+use Rattle.table.specs.declared.Node.{Node}
+use Rattle.table.specs.declared.Table.{Table}
+use Rattle.table.specs.Rules.{keepsRules}
+use Rattle.table.specs.Change.{nobody}
+use Rattle.timing.specs.declared.Answer.{Answer}
+use Rattle.timing.specs.Timing.{Outcome, outcome, refused, leastReply}
+
+-- a tab, then the field
+unfoldable pub numberText : ℕ → List ℕ
+numberText n = 9 ∷ decimal 1 n
+
+unfoldable pub imsiText : ℕ → List ℕ
+imsiText n = 9 ∷ decimal 15 n
+
+unfoldable pub addressText : ℕ → List ℕ
+addressText n = 9 ∷ hexOf (octetsOf 4 n)
+
+unfoldable pub stateLetter : Session → ℕ
+stateLetter s = pick {A = ℕ} (isFree s) 70 (pick {A = ℕ} (isClosing s) 88 76)
+
+unfoldable pub heldText : Session → List ℕ
+heldText s =
+    numberText (s .point) ++ imsiText (s .imsi) ++ numberText (s .ebi)
+    ++ (numberText (s .control) ++ addressText (s .controladdr))
+    ++ (numberText (s .user) ++ addressText (s .useraddr))
+    ++ numberText (s .created)
+
+-- eight fields of a dash each
+unfoldable pub dashes : List ℕ
+dashes = 9 ∷ 45 ∷ 9 ∷ 45 ∷ 9 ∷ 45 ∷ 9 ∷ 45 ∷ 9 ∷ 45 ∷ 9 ∷ 45 ∷ 9 ∷ 45 ∷ 9 ∷ 45 ∷ []
+
+unfoldable pub restText : Session → List ℕ
+restText s = pick (isFree s) dashes (heldText s)
+
+unfoldable pub lineText : ℕ → Session → List ℕ
+lineText place s = decimal 1 place ++ numberText (s .usage) ++ (9 ∷ []) ++ (stateLetter s ∷ []) ++ restText s
+
+-- ---- the call: 1, 2, 10; a line that is longer than the buffer would be cut, and none is (`line-fits`)
+unfoldable pub lineOf : Node → Table → ℕ → List ℕ → Outcome
+lineOf node t place reply =
+    pick (ltb (length reply) leastReply) (outcome (refused 1 node t) reply)
+    (pick (keepsRules node (t .recs))
+    (pick (ltb place (length (t .recs)))
+    (outcome
+    (record { number = 0; size = laid 0 (lineText place (getD (t .recs) place nobody)) reply .at; node = node; table = t })
+    (laid 0 (lineText place (getD (t .recs) place nobody)) reply .out))
+    (outcome (refused 10 node t) reply))
+    (outcome (refused 2 node t) reply))
+
+-- ---- the line that is written
+pub line-done : (node : Node) (t : Table) (place : ℕ) (reply : List ℕ) (d : Session) (r : ℕ) (o : List ℕ)
+    → leastReply ≤ length reply → keepsRules node (t .recs) ≡ true → place < length (t .recs)
+    → written r o ≡ laid 0 (lineText place (getD (t .recs) place d)) reply
+    → outcome (record { number = 0; size = r; node = node; table = t }) o ≡ lineOf node t place reply
+unfolding lineOf
+line-done node t place reply d r o h k g e =
+    rw (le-ltb (length reply) leastReply h, k, lt-ltb place (length (t .recs)) g, any-default (t .recs) place nobody d g, ← e)
+
+-- ---- no line is longer than 83 characters, so that none is cut: numbers of 32 bits, a use and a creating number of 24
+number-size : (n m : ℕ) → n < 10 ^ suc m → length (numberText n) ≤ suc (suc m)
+unfolding numberText
+number-size n m h = let r = decimal-size 1 n m (omega arith) h in omega arith
+
+address-size : (n : ℕ) → length (addressText n) ≡ 9
+unfolding addressText
+address-size n =
+    let h = length-hex (octetsOf 4 n) in
+    let l = length-octets 4 n in
+    omega arith
+
+imsi-size : (n : ℕ) → n < 10 ^ 15 → length (imsiText n) ≤ 16
+unfolding imsiText
+imsi-size n h = let r = decimal-size 15 n 14 (omega arith) h in omega arith
+
+module _ (s : Session)
+    (imsi : s .imsi < 10 ^ 15) (point : s .point < 10 ^ 1) (ebi : s .ebi < 10 ^ 2)
+    (control : s .control < 10 ^ 10) (user : s .user < 10 ^ 10) (created : s .created < 10 ^ 8) (usage : s .usage < 10 ^ 8) where
+  rest-size : length (restText s) ≤ 70
+  unfolding restText heldText dashes
+  rest-size =
+      let a = number-size (s .point) 0 point in
+      let b = imsi-size (s .imsi) imsi in
+      let c = number-size (s .ebi) 1 ebi in
+      let d = number-size (s .control) 9 control in
+      let e = address-size (s .controladdr) in
+      let f = number-size (s .user) 9 user in
+      let g = address-size (s .useraddr) in
+      let h = number-size (s .created) 7 created in
+      split (isFree s) (λ z. rw z (omega arith)) (λ z. rw z (simp length-append (omega arith)))
+
+  pub line-size : (place : ℕ) → place < 10 ^ 2 → length (lineText place s) ≤ 83
+  unfolding lineText
+  line-size place h =
+      let a = decimal-size 1 place 1 (omega arith) h in
+      let b = number-size (s .usage) 7 usage in
+      let r = rest-size in
+      simp length-append (omega arith)
+
+  pub line-fits : (place : ℕ) (reply : List ℕ) → place < 10 ^ 2 → 128 ≤ length reply
+      → laid 0 (lineText place s) reply ≡ written (length (lineText place s)) (overlay (lineText place s) reply)
+  line-fits place reply h g = let r = line-size place h in laid-front (lineText place s) reply (omega arith)

@@ -1,0 +1,116 @@
+// The line of a place, on values: what the bench prints of it, without a line end.
+use session::Session;
+use table::Node;
+use table::Table;
+use timing::Answer;
+ghost use mathlib.Core.Path.{_≡_};
+ghost use mathlib.Core.List.{_++_};
+ghost use Rattle.numerals.specs.Laid.{laid, written};
+ghost use Rattle.timing.specs.Timing.{outcome};
+ghost use Rattle.placeline.specs.Line.{numberText, imsiText, addressText, stateLetter, heldText, lineText, restText, lineOf};
+
+// A tab, then a number.
+fn put_number(out: &mut [u8], at: usize, n: u32) -> usize
+    ensures { λ r. ⌜ written r (now (out .exit)) ≡ laid at (numberText n) (now (out .entry)) ⌝ }
+{
+    let p = numerals::put(out, at, 9);
+    numerals::put_decimal(out, p, n as u64, 1)
+}
+
+// A tab, then the fifteen digits of an IMSI.
+fn put_imsi(out: &mut [u8], at: usize, imsi: u64) -> usize
+    ensures { λ r. ⌜ written r (now (out .exit)) ≡ laid at (imsiText imsi) (now (out .entry)) ⌝ }
+{
+    let p = numerals::put(out, at, 9);
+    numerals::put_decimal(out, p, imsi, 15)
+}
+
+// A tab, then an address in hex.
+fn put_address(out: &mut [u8], at: usize, address: u32) -> usize
+    ensures { λ r. ⌜ written r (now (out .exit)) ≡ laid at (addressText address) (now (out .entry)) ⌝ }
+{
+    let p = numerals::put(out, at, 9);
+    let o = octets::octets32(address);
+    numerals::put_hex(out, p, &o)
+}
+
+// A peer's TEID and address.
+fn put_peer(out: &mut [u8], at: usize, teid: u32, address: u32) -> usize
+    ensures { λ r. ⌜ written r (now (out .exit)) ≡ laid at (numberText teid ++ addressText address) (now (out .entry)) ⌝ }
+{
+    let p = put_number(out, at, teid);
+    put_address(out, p, address)
+}
+
+// What a session holds.
+fn put_held(out: &mut [u8], at: usize, s: Session) -> usize
+    ensures { λ r. ⌜ written r (now (out .exit)) ≡ laid at (heldText s) (now (out .entry)) ⌝ }
+{
+    let a = put_number(out, at, s.point as u32);
+    let b = put_imsi(out, a, s.imsi);
+    let c = put_number(out, b, s.ebi as u32);
+    let d = put_peer(out, c, s.control, s.controladdr);
+    let e = put_peer(out, d, s.user, s.useraddr);
+    put_number(out, e, s.created)
+}
+
+// F, L, or X for closing.
+fn state_letter(s: Session) -> u8
+    ensures { λ r. ⌜ r ≡ stateLetter s ⌝ }
+{
+    let free = s.is_free();
+    if free {
+        return 70;
+    }
+    if s.state == Session::CLOSING {
+        return 88;
+    }
+    76
+}
+
+// What stands behind the state: of a free place eight dashes.
+fn put_rest(out: &mut [u8], at: usize, s: Session) -> usize
+    ensures { λ r. ⌜ written r (now (out .exit)) ≡ laid at (restText s) (now (out .entry)) ⌝ }
+{
+    let free = s.is_free();
+    if free {
+        let dashes = [9, 45, 9, 45, 9, 45, 9, 45, 9, 45, 9, 45, 9, 45, 9, 45];
+        return numerals::put_text(out, at, &dashes);
+    }
+    put_held(out, at, s)
+}
+
+fn put_line(out: &mut [u8], place: usize, s: Session) -> usize
+    ensures { λ r. ⌜ written r (now (out .exit)) ≡ laid 0 (lineText place s) (now (out .entry)) ⌝ }
+{
+    let a = numerals::put_decimal(out, 0, place as u64, 1);
+    let b = put_number(out, a, s.usage);
+    let c = numerals::put(out, b, 9);
+    let letter = state_letter(s);
+    let d = numerals::put(out, c, letter);
+    put_rest(out, d, s)
+}
+
+// The line of a place. A free place has one too, also one that was never used.
+pub fn line(node: Node, table: Table, place: usize, reply: &mut [u8]) -> Answer
+    ensures { λ r. ⌜ outcome r (now (reply .exit)) ≡ lineOf node table place (now (reply .entry)) ⌝ }
+{
+    if reply.len() < Answer::LEAST_REPLY {
+        return Answer::refused(1, node, table);
+    }
+    let kept = rules::keeps_rules(node, table);
+    if !kept {
+        return Answer::refused(2, node, table);
+    }
+    if Table::PLACES <= place {
+        return Answer::refused(10, node, table);
+    }
+    let s = table.recs[place];
+    let size = put_line(reply, place, s);
+    Answer {
+        number: 0,
+        size,
+        node,
+        table,
+    }
+}
