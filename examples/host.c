@@ -1,5 +1,5 @@
-/* A host in C: one session is created, one packet of it is unwrapped, its place is closed, and what is then due is sent. Prints each
- * call's number and octets. `examples/build` builds and runs it. */
+/* A host in C: one session is created, one packet of it is unwrapped, its line is printed, its place is closed, and what is then due is
+ * sent. Prints each call's number and octets. `examples/build` builds and runs it. */
 #include "../include/grugavorn.h"
 #include <stdio.h>
 #include <string.h>
@@ -56,6 +56,9 @@ int main(void) {
 
   grugavorn_handed h = grugavorn_user(node, records, GRUGAVORN_PLACES, packet, sizeof packet, reply, sizeof reply);
   show("user", h.number, packet + h.start, h.octets);
+
+  a = grugavorn_line(node, records, GRUGAVORN_PLACES, h.place, reply, sizeof reply);
+  printf("line %u %.*s\n", a.number, (int)a.size, (const char *)reply);
 
   a = grugavorn_close(node, records, GRUGAVORN_PLACES, h.place);
   node = a.node;

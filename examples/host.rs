@@ -83,6 +83,7 @@ extern "C" {
     fn grugavorn_user(node: Node, records: *const Session, count: usize, datagram: *const u8, length: usize, reply: *mut u8, room: usize) -> Handed;
     fn grugavorn_tick(node: Node, records: *mut Session, count: usize) -> Left;
     fn grugavorn_send(node: Node, records: *mut Session, count: usize, reply: *mut u8, room: usize) -> Left;
+    fn grugavorn_line(node: Node, records: *const Session, count: usize, place: usize, reply: *mut u8, room: usize) -> Left;
     fn grugavorn_close(node: Node, records: *mut Session, count: usize, place: usize) -> Left;
 }
 
@@ -121,6 +122,10 @@ impl Unit {
     }
     fn send(&mut self) -> (u8, &[u8]) {
         let a = unsafe { grugavorn_send(self.node, self.records.as_mut_ptr(), 64, self.reply.as_mut_ptr(), 128) };
+        self.keep(a)
+    }
+    fn line(&mut self, place: usize) -> (u8, &[u8]) {
+        let a = unsafe { grugavorn_line(self.node, self.records.as_ptr(), 64, place, self.reply.as_mut_ptr(), 128) };
         self.keep(a)
     }
     fn close(&mut self, place: usize) -> (u8, &[u8]) {
@@ -174,6 +179,8 @@ fn main() {
     show("control", number, reply);
     let (number, place, payload) = unit.user(&PACKET);
     show("user", number, payload);
+    let (number, line) = unit.line(place);
+    println!("line {number} {}", String::from_utf8_lossy(line));
     let (number, reply) = unit.close(place);
     show("close", number, reply);
     let (number, reply) = unit.send();

@@ -173,6 +173,11 @@ grugavorn_left grugavorn_send(grugavorn_node node, grugavorn_session *records, s
  * There is no reply: size is 0. */
 grugavorn_left grugavorn_close(grugavorn_node node, grugavorn_session *records, size_t count, size_t place);
 
+/* Line of a place: what the bench prints of it, as `size` characters of text in the reply buffer, at most 83, with no line end. The table
+ * is only read: the node that comes back is the one that went in.
+ *   0   the line, also of a free place        1, 2   as for control        10  place over 63 */
+grugavorn_left grugavorn_line(grugavorn_node node, const grugavorn_session *records, size_t count, size_t place, uint8_t *reply, size_t room);
+
 #if defined(__cplusplus)
 }
 #endif

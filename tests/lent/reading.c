@@ -1,5 +1,6 @@
 /* Document 01 read once more, by hand, in C. It goes by the paper's sentences and is slow on purpose. */
 #include "reading.h"
+#include <stdio.h>
 #include <string.h>
 
 typedef grugavorn_session session;
@@ -482,4 +483,18 @@ grugavorn_left reading_close(node_t n, session *t, size_t count, size_t place) {
   if (place > 63 || t[place].state == GRUGAVORN_FREE) return answer(10, 0, n);
   t[place].state = GRUGAVORN_CLOSING;
   return answer(0, 0, n);
+}
+
+/* ---- line: 1, 2, 10 */
+grugavorn_left reading_line(node_t n, const session *t, size_t count, size_t place, uint8_t *reply, size_t room) {
+  if (room < 128) return answer(1, 0, n);
+  if (!rules_kept(&n, t, count)) return answer(2, 0, n);
+  if (place > 63) return answer(10, 0, n);
+  const session *s = &t[place];
+  char text[128];
+  int size = snprintf(text, sizeof text, "%u\t%u\t%c", (unsigned)place, s->usage, "FLX"[s->state]);
+  if (s->state == GRUGAVORN_FREE) size += snprintf(text + size, sizeof text - (size_t)size, "\t-\t-\t-\t-\t-\t-\t-\t-");
+  else size += snprintf(text + size, sizeof text - (size_t)size, "\t%u\t%015llu\t%u\t%u\t%08X\t%u\t%08X\t%u", s->point, (unsigned long long)s->imsi, s->ebi, s->control, s->controladdr, s->user, s->useraddr, s->created);
+  memcpy(reply, text, (size_t)size);
+  return answer(0, (size_t)size, n);
 }

@@ -9,4 +9,5 @@ grugavorn_handed reading_user(grugavorn_node node, const grugavorn_session *reco
 grugavorn_left reading_tick(grugavorn_node node, grugavorn_session *records, size_t count);
 grugavorn_left reading_send(grugavorn_node node, grugavorn_session *records, size_t count, uint8_t *reply, size_t room);
 grugavorn_left reading_close(grugavorn_node node, grugavorn_session *records, size_t count, size_t place);
+grugavorn_left reading_line(grugavorn_node node, const grugavorn_session *records, size_t count, size_t place, uint8_t *reply, size_t room);
 #endif

@@ -245,8 +245,8 @@ static int same_record(const session *a, const session *b) {
   return a->imsi == b->imsi && a->usage == b->usage && a->control == b->control && a->controladdr == b->controladdr && a->user == b->user && a->useraddr == b->useraddr
     && a->created == b->created && same_request(&a->own, &b->own) && a->state == b->state && a->point == b->point && a->ebi == b->ebi;
 }
-static const char *names[] = { "fresh", "control", "user", "tick", "send", "close" };
-static unsigned long met[6][256];
+static const char *names[] = { "fresh", "control", "user", "tick", "send", "close", "line" };
+static unsigned long met[7][256];
 static void differ(const char *what, int call, unsigned number, unsigned other, unsigned long turn) {
   printf("lent: %s differs in call %lu, %s: the library answers %u, the reading %u\n", what, turn, names[call], number, other);
   for (size_t i = 0; i < length; i++) printf("%02X", before.datagram[i]);
@@ -313,10 +313,13 @@ static void step(void) {
     grugavorn_left a = grugavorn_tick(node, lent.records, count), b = reading_tick(node, read_.records, count);
     compare(3, &a, &b, count, silent(a.number));
     node = a.node;
-  } else if (pick < 92) {
+  } else if (pick < 89) {
     grugavorn_left a = grugavorn_send(node, lent.records, count, lent.reply, room), b = reading_send(node, read_.records, count, read_.reply, room);
     compare(4, &a, &b, count, silent(a.number));
     node = a.node;
+  } else if (pick < 95) {
+    grugavorn_left a = grugavorn_line(node, lent.records, count, place, lent.reply, room), b = reading_line(node, read_.records, count, place, read_.reply, room);
+    compare(6, &a, &b, count, 1);
   } else {
     grugavorn_left a = grugavorn_close(node, lent.records, count, place), b = reading_close(node, read_.records, count, place);
     compare(5, &a, &b, count, silent(a.number));
@@ -347,6 +350,7 @@ static int cost(const char *call, int count) {
     else if (strcmp(call, "tick") == 0) sum += grugavorn_tick(node, lent.records, 64).number;
     else if (strcmp(call, "send") == 0) sum += grugavorn_send(node, lent.records, 64, lent.reply, 128).number;
     else if (strcmp(call, "close") == 0) { sum += grugavorn_close(node, lent.records, 64, 5).number; lent.records[5].state = GRUGAVORN_LIVE; }
+    else if (strcmp(call, "line") == 0) sum += (unsigned)grugavorn_line(node, lent.records, 64, 63, lent.reply, 128).size;
     else if (strcmp(call, "wrong") == 0) sum += grugavorn_tick(node, lent.records, 63).number;
     else return 2;
   }
@@ -366,7 +370,7 @@ int main(int argc, char **argv) {
     unsigned long run = node.plan.count == 0 ? below(5) : one_in(3) ? below(40) : below(3000);
     for (; run > 0 && turn < calls; run--, turn++) step();
   }
-  for (int c = 0; c < 6; c++) {
+  for (int c = 0; c < 7; c++) {
     printf("%-8s", names[c]);
     for (int i = 0; i < 256; i++) if (met[c][i]) printf(" %d:%lu", i, met[c][i]);
     puts("");
@@ -374,7 +378,7 @@ int main(int argc, char **argv) {
   static const uint8_t numbers[] = { 0, 1, 2, 3, 4, 5, 6, 7, 8, 9, 10, 12, 13, 14, 15, 16, 17, 64, 67, 69, 70, 73, 78, 83 };
   for (size_t i = 0; i < sizeof numbers; i++) {
     unsigned long all = 0;
-    for (int c = 0; c < 6; c++) all += met[c][numbers[i]];
+    for (int c = 0; c < 7; c++) all += met[c][numbers[i]];
     if (all == 0 && calls >= 100000) return printf("lent: number %d was never met: the trial says too little\n", numbers[i]), 1;
   }
   printf("lent: %lu calls, all as the reading has them\n", turn);
