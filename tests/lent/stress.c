@@ -3,11 +3,13 @@
  *   stress cost CALL COUNT  makes a table of 64 live sessions and then COUNT calls of one kind, for counting instructions
  * Each side works in an arena of its own, with octets of no meaning around every buffer. After a call answer and node are compared field by
  * field, reply, datagram and what stands around them octet by octet, and the records field by field; a silent refusal has to leave the
- * records as they were, and no record past the count may change, octet by octet, what is between the fields included. */
+ * records as they were, and no record past the count may change, octet by octet, what is between the fields included.
+ * The library runs on stacks of its own, one a call, so that the deepest use of each is known at the end. */
 #include "reading.h"
 #include <stdio.h>
 #include <stdlib.h>
 #include <string.h>
+#include <ucontext.h>
 
 enum { ROOM = 80, MOST = 640, BUFFER = 256, AROUND = 64 };
 typedef grugavorn_session session;
@@ -31,6 +33,46 @@ static uint32_t chance(void) {
 }
 static uint32_t below(uint32_t n) { return (uint32_t)((uint64_t)chance() * n >> 32); }
 static int one_in(uint32_t n) { return below(n) == 0; }
+
+/* ---- the library's calls, each on its own stack; what a call that does nothing uses is taken off */
+enum { DEEP = 262144, CALLS = 7 };
+static const char *names[] = { "fresh", "control", "user", "tick", "send", "close", "line" };
+static uint8_t stacks[CALLS + 1][DEEP];
+static ucontext_t home, there[CALLS + 1];
+static struct { grugavorn_plan plan; session *records; size_t count, length, room, place; const uint8_t *datagram; uint8_t *reply; grugavorn_left left; grugavorn_handed handed; } job;
+static void work(int call) {
+  for (;;) {
+    switch (call) {
+      case 0: job.left = grugavorn_fresh(job.plan, job.records, job.count); break;
+      case 1: job.left = grugavorn_control(node, job.records, job.count, job.datagram, job.length, job.reply, job.room); break;
+      case 2: job.handed = grugavorn_user(node, job.records, job.count, job.datagram, job.length, job.reply, job.room); break;
+      case 3: job.left = grugavorn_tick(node, job.records, job.count); break;
+      case 4: job.left = grugavorn_send(node, job.records, job.count, job.reply, job.room); break;
+      case 5: job.left = grugavorn_close(node, job.records, job.count, job.place); break;
+      case 6: job.left = grugavorn_line(node, job.records, job.count, job.place, job.reply, job.room); break;
+    }
+    swapcontext(&there[call], &home);
+  }
+}
+static void set_stacks(void) {
+  memset(stacks, 0xA5, sizeof stacks);
+  for (int i = 0; i <= CALLS; i++) {
+    getcontext(&there[i]);
+    there[i].uc_stack.ss_sp = stacks[i], there[i].uc_stack.ss_size = DEEP, there[i].uc_link = 0;
+    makecontext(&there[i], (void (*)(void))work, 1, i);
+  }
+  swapcontext(&home, &there[CALLS]);
+}
+static long deepest(int call) {
+  long i = 0;
+  while (i < DEEP && stacks[call][i] == 0xA5) i++;
+  return DEEP - i;
+}
+static grugavorn_left run_on(int call, size_t count, size_t room, size_t place) {
+  job.records = lent.records, job.count = count, job.datagram = lent.datagram, job.length = length, job.reply = lent.reply, job.room = room, job.place = place;
+  swapcontext(&home, &there[call]);
+  return job.left;
+}
 
 /* ---- plans */
 static grugavorn_plan some_plan(void) {
@@ -245,7 +287,6 @@ static int same_record(const session *a, const session *b) {
   return a->imsi == b->imsi && a->usage == b->usage && a->control == b->control && a->controladdr == b->controladdr && a->user == b->user && a->useraddr == b->useraddr
     && a->created == b->created && same_request(&a->own, &b->own) && a->state == b->state && a->point == b->point && a->ebi == b->ebi;
 }
-static const char *names[] = { "fresh", "control", "user", "tick", "send", "close", "line" };
 static unsigned long met[7][256];
 static void differ(const char *what, int call, unsigned number, unsigned other, unsigned long turn) {
   printf("lent: %s differs in call %lu, %s: the library answers %u, the reading %u\n", what, turn, names[call], number, other);
@@ -272,7 +313,8 @@ static void fresh(size_t count) {
   grugavorn_plan p = some_plan();
   if (one_in(4)) break_plan(&p);
   before = lent, read_ = lent;
-  grugavorn_left a = grugavorn_fresh(p, lent.records, count), b = reading_fresh(p, read_.records, count);
+  job.plan = p;
+  grugavorn_left a = run_on(0, count, 0, 0), b = reading_fresh(p, read_.records, count);
   compare(0, &a, &b, count, a.number == 2);
   node = a.node;
 }
@@ -301,27 +343,28 @@ static void step(void) {
   }
   before = lent, read_ = lent;
   if (pick < 58) {
-    grugavorn_left a = grugavorn_control(node, lent.records, count, lent.datagram, length, lent.reply, room), b = reading_control(node, read_.records, count, read_.datagram, length, read_.reply, room);
+    grugavorn_left a = run_on(1, count, room, 0), b = reading_control(node, read_.records, count, read_.datagram, length, read_.reply, room);
     compare(1, &a, &b, count, silent(a.number) || a.number == 5);
     node = a.node;
   } else if (pick < 72) {
-    grugavorn_handed h = grugavorn_user(node, lent.records, count, lent.datagram, length, lent.reply, room), r = reading_user(node, read_.records, count, read_.datagram, length, read_.reply, room);
+    run_on(2, count, room, 0);
+    grugavorn_handed h = job.handed, r = reading_user(node, read_.records, count, read_.datagram, length, read_.reply, room);
     grugavorn_left a = { h.number, h.size, node }, b = { r.number, r.size, node };
     if (h.place != r.place || h.start != r.start || h.octets != r.octets) differ("the payload", 2, h.number, r.number, turn);
     compare(2, &a, &b, count, 1);
   } else if (pick < 78) {
-    grugavorn_left a = grugavorn_tick(node, lent.records, count), b = reading_tick(node, read_.records, count);
+    grugavorn_left a = run_on(3, count, 0, 0), b = reading_tick(node, read_.records, count);
     compare(3, &a, &b, count, silent(a.number));
     node = a.node;
   } else if (pick < 89) {
-    grugavorn_left a = grugavorn_send(node, lent.records, count, lent.reply, room), b = reading_send(node, read_.records, count, read_.reply, room);
+    grugavorn_left a = run_on(4, count, room, 0), b = reading_send(node, read_.records, count, read_.reply, room);
     compare(4, &a, &b, count, silent(a.number));
     node = a.node;
   } else if (pick < 95) {
-    grugavorn_left a = grugavorn_line(node, lent.records, count, place, lent.reply, room), b = reading_line(node, read_.records, count, place, read_.reply, room);
+    grugavorn_left a = run_on(6, count, room, place), b = reading_line(node, read_.records, count, place, read_.reply, room);
     compare(6, &a, &b, count, 1);
   } else {
-    grugavorn_left a = grugavorn_close(node, lent.records, count, place), b = reading_close(node, read_.records, count, place);
+    grugavorn_left a = run_on(5, count, 0, place), b = reading_close(node, read_.records, count, place);
     compare(5, &a, &b, count, silent(a.number));
     node = a.node;
   }
@@ -363,6 +406,7 @@ int main(int argc, char **argv) {
   seed = argc > 1 ? strtoull(argv[1], 0, 10) * 2 + 1 : 1;
   unsigned long calls = argc > 2 ? strtoul(argv[2], 0, 10) : 1000000;
   for (size_t i = 0; i < sizeof lent; i++) ((uint8_t *)&lent)[i] = (uint8_t)chance();
+  set_stacks();
   while (turn < calls) {
     fresh(one_in(9) ? below(ROOM + 1) : 64);
     turn++;
@@ -375,6 +419,9 @@ int main(int argc, char **argv) {
     for (int i = 0; i < 256; i++) if (met[c][i]) printf(" %d:%lu", i, met[c][i]);
     puts("");
   }
+  printf("stack   ");
+  for (int c = 0; c < CALLS; c++) printf(" %s:%ld", names[c], deepest(c) - deepest(CALLS));
+  puts("");
   static const uint8_t numbers[] = { 0, 1, 2, 3, 4, 5, 6, 7, 8, 9, 10, 12, 13, 14, 15, 16, 17, 64, 67, 69, 70, 73, 78, 83 };
   for (size_t i = 0; i < sizeof numbers; i++) {
     unsigned long all = 0;
