@@ -20,7 +20,7 @@ use Rattle.lentkit.specs.Records.{loaded}
 use Rattle.lentcore.specs.declared.Left.{Left}
 use Rattle.lentcore.specs.Lent.{left, leftOf, uncounted, countedReply, rules-other}
 
-line-other : (node : Node) (l : List Session) (place : ℕ) (reply : List ℕ) → eqb (length l) places ≡ false
+pub line-other : (node : Node) (l : List Session) (place : ℕ) (reply : List ℕ) → eqb (length l) places ≡ false
     → lineOf node (held l) place reply ≡ outcome (refused (uncounted (length reply)) node (held l)) reply
 unfolding lineOf held uncounted
 line-other node l place reply other = split (ltb (length reply) leastReply) (λ e. rw e) (λ e. rw (e, rules-other node l other))
