@@ -1,4 +1,5 @@
--- `lendline::line` meets its contract: a walk of its MIR, by hand. A local array is lent to the call as a `&[Session]`, and goes into the answer as it was.
+-- `lendline::line` meets its contract: a walk of its MIR, by hand.
+-- A local array is lent to the call as a `&[Session]`, and goes into the answer as it was.
 -- Each statement of the MIR stands over its lines. Assumes nothing.
 use mathlib.Core.Path.{_≡_, refl, sym, ap, _∙_}
 use Prim.Native.Nat.{ℕ, _<_}

@@ -1,4 +1,5 @@
--- `lenduser::take_user` meets its contract: a walk of its MIR, by hand. A local array is lent to the call as a `&[Session]`, and the part that it answers is handed on.
+-- `lenduser::take_user` meets its contract: a walk of its MIR, by hand.
+-- A local array is lent to the call as a `&[Session]`, and the part that it answers is handed on.
 -- Each statement of the MIR stands over its lines. Assumes nothing.
 use mathlib.Core.Path.{_≡_, refl, subst}
 use Prim.Native.Nat.{ℕ, _<_}

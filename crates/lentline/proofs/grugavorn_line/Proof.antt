@@ -1,4 +1,5 @@
--- `lentline::grugavorn_line` meets its contract: a walk of its MIR, by hand. The records are loaded, the call is made on values, and what is not records goes back.
+-- `lentline::grugavorn_line` meets its contract: a walk of its MIR, by hand.
+-- The records are loaded, the call is made on values, and what is not records goes back.
 -- Each statement of the MIR stands over its lines. Assumes nothing.
 use mathlib.Core.Path.{_≡_, refl}
 use Prim.Native.Nat.{ℕ}

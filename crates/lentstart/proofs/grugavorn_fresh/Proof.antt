@@ -1,4 +1,5 @@
--- `lentstart::grugavorn_fresh` meets its contract: a walk of its MIR, by hand. The state is made on values, its records are stored, and the rest goes back.
+-- `lentstart::grugavorn_fresh` meets its contract: a walk of its MIR, by hand.
+-- The state is made on values, its records are stored, and the rest goes back.
 -- Each statement of the MIR stands over its lines. Assumes nothing.
 use mathlib.Core.Path.{_≡_, refl}
 use Prim.Native.Nat.{ℕ}

@@ -1,4 +1,5 @@
--- `lentuser::take_user` meets its contract: a walk of its MIR, by hand. The records are loaded, and the call on values answers a part of the datagram, which is handed on.
+-- `lentuser::take_user` meets its contract: a walk of its MIR, by hand.
+-- The records are loaded, and the call on values answers a part of the datagram, which is handed on.
 -- Each statement of the MIR stands over its lines. Assumes nothing.
 use mathlib.Core.Path.{_≡_, refl, subst}
 use Prim.Native.Nat.{ℕ}
