@@ -74,8 +74,17 @@ struct Handed {
     octets: usize,
 }
 
-const _: () = assert!(std::mem::size_of::<Session>() == 48 && std::mem::size_of::<Plan>() == 292);
-const _: () = assert!(std::mem::size_of::<Left>() == 328 && std::mem::size_of::<Handed>() == 40);
+// the library's layout
+const _: () = {
+    use std::mem::{offset_of, size_of};
+    assert!(size_of::<Point>() == 68 && offset_of!(Point, size) == 63 && offset_of!(Point, guarantee) == 64 && offset_of!(Point, ceiling) == 66);
+    assert!(size_of::<Plan>() == 292 && offset_of!(Plan, recovery) == 12 && offset_of!(Plan, count) == 16 && offset_of!(Plan, points) == 18);
+    assert!(size_of::<Request>() == 8 && offset_of!(Request, sends) == 1 && offset_of!(Request, number) == 4);
+    assert!(size_of::<Session>() == 48 && offset_of!(Session, usage) == 8 && offset_of!(Session, own) == 32 && offset_of!(Session, state) == 40);
+    assert!(size_of::<Node>() == 308 && offset_of!(Node, echo) == 292 && offset_of!(Node, next) == 300 && offset_of!(Node, recovery) == 305);
+    assert!(size_of::<Left>() == 328 && offset_of!(Left, size) == 8 && offset_of!(Left, node) == 16);
+    assert!(size_of::<Handed>() == 40 && offset_of!(Handed, place) == 8 && offset_of!(Handed, octets) == 32);
+};
 
 extern "C" {
     fn grugavorn_fresh(plan: Plan, records: *mut Session, count: usize) -> Left;

@@ -3,7 +3,8 @@
  * The library is proved: every call ends and answers for any octets in any of its arguments, also for a table, a plan or a datagram that
  * makes no sense. It allocates nothing, keeps no static state, calls nothing outside (but memcpy and memset) and writes only to what a
  * call's comment says. What it takes on trust is the C side: that each pointer has as many elements behind it as the count beside it
- * says, and that the records, the datagram and the reply buffer of one call do not overlap where one of them is written to.
+ * says and is not null, not even for a count of 0, and that the records, the datagram and the reply buffer of one call do not overlap where
+ * one of them is written to.
  *
  * The caller keeps two things: an array of 64 session records, and the node, which goes in and comes back by value in every call that can
  * change it. Together they are document 01's table: store the answer's node before the next call, whatever the number is.
