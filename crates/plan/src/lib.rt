@@ -11,6 +11,7 @@ ghost use Rattle.plan.specs.Plan.{guaranteed, accepted};
 ghost use Rattle.plan.specs.Address.{addressOf};
 
 // An access point: its name, of which the first `size` octets count, and the places it is promised and may have at most.
+#[repr(C)]
 pub struct AccessPoint {
     pub name: [u8; 63],
     pub size: u8,
@@ -24,6 +25,7 @@ pub enum Named {
     Unknown,
 }
 
+#[repr(C)]
 pub struct Plan {
     // the unit's own addresses, for control and for user datagrams
     pub control: u32,

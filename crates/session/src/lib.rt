@@ -4,6 +4,7 @@ ghost use Rattle.session.specs.Request.{idle, requestOk, sentOnce, count
 ghost use Rattle.session.specs.Session.{isFree, hasId, waitsFor, blank, heldOk, phaseOk, recordOk, blankAt, freed, opened, moved, closed, sent, ticked, isDue};
 
 // A request of the unit's own: a closing place's Delete Bearer, or the echo.
+#[repr(C)]
 pub struct Request {
     // ticks until it is due; 0: due, or nothing under way
     pub timer: u8,
@@ -40,6 +41,7 @@ pub struct Peers {
 }
 
 // The record of one place.
+#[repr(C)]
 pub struct Session {
     pub imsi: u64,
     // the use number: how often the place was taken

@@ -19,6 +19,7 @@ ghost use Rattle.table.specs.Own.{freshNode, rested, restarted, hearing,
 ghost use Rattle.table.specs.Find.{meets, foundIn, heldIn, ownerOf};
 
 // What goes with the records: the plan, the stored Recovery, the unit's own echo, and the next sequence number.
+#[repr(C)]
 pub struct Node {
     pub plan: Plan,
     pub echo: Request,

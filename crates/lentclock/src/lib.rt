@@ -1,0 +1,46 @@
+// Tick, close and send next due, as firmware calls them: the caller lends its records, the node goes in and comes back by value.
+use lentcore::Left;
+use session::Session;
+use table::Node;
+ghost use mathlib.Core.Path.{_≡_};
+ghost use Rattle.timing.specs.Timing.{held, outcome, tickOf, closeOf, sendOf};
+ghost use Rattle.lentcore.specs.Lent.{left};
+
+// Tick.
+#[no_mangle]
+pub extern "C" fn grugavorn_tick(node: Node, recs: &mut [Session]) -> Left
+    ensures { λ r. ⌜ left r (now (recs .exit)) ≡ tickOf node (held (now (recs .entry))) ⌝ }
+{
+    let count = recs.len();
+    let table = lentkit::load(recs);
+    let answer = lentcore::tick_on(count, node, table);
+    let records = lentcore::records_of(answer);
+    lentkit::store(recs, records);
+    lentcore::left_of(answer)
+}
+
+// Close a place.
+#[no_mangle]
+pub extern "C" fn grugavorn_close(node: Node, recs: &mut [Session], place: usize) -> Left
+    ensures { λ r. ⌜ left r (now (recs .exit)) ≡ closeOf node (held (now (recs .entry))) place ⌝ }
+{
+    let count = recs.len();
+    let table = lentkit::load(recs);
+    let answer = lentcore::close_on(count, node, table, place);
+    let records = lentcore::records_of(answer);
+    lentkit::store(recs, records);
+    lentcore::left_of(answer)
+}
+
+// Send next due.
+#[no_mangle]
+pub extern "C" fn grugavorn_send(node: Node, recs: &mut [Session], reply: &mut [u8]) -> Left
+    ensures { λ r. ⌜ outcome (left r (now (recs .exit))) (now (reply .exit)) ≡ sendOf node (held (now (recs .entry))) (now (reply .entry)) ⌝ }
+{
+    let count = recs.len();
+    let table = lentkit::load(recs);
+    let answer = lentcore::send_on(count, node, table, reply);
+    let records = lentcore::records_of(answer);
+    lentkit::store(recs, records);
+    lentcore::left_of(answer)
+}

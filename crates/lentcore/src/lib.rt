@@ -1,0 +1,109 @@
+// What an entry does beside reading the caller's records and writing them back, on values: the count of records is tested, the call is
+// made on the records as a table, and its answer is parted into what goes back by value and what goes back into the records.
+use plan::Plan;
+use session::Session;
+use table::Node;
+use table::Table;
+use timing::Answer;
+ghost use mathlib.Core.Path.{_≡_};
+ghost use Rattle.timing.specs.Timing.{refused, held, outcome, tickOf, closeOf, sendOf};
+ghost use Rattle.lentcore.specs.Lent.{leftOf, left, counted, countedReply, uncounted, freshOn};
+
+// What a call answers by value: document 01's number, the reply's length, and what goes with the records. The records are the caller's.
+#[repr(C)]
+pub struct Left {
+    pub number: u8,
+    pub size: usize,
+    pub node: Node,
+}
+
+pub fn left_of(a: Answer) -> Left
+    ensures { λ r. ⌜ r ≡ leftOf a ⌝ }
+{
+    let node = a.node;
+    Left {
+        number: a.number,
+        size: a.size,
+        node,
+    }
+}
+
+pub fn records_of(a: Answer) -> [Session; 64]
+    ensures { λ r. ⌜ r ≡ a .table .recs ⌝ }
+{
+    let table = a.table;
+    table.recs
+}
+
+pub fn records_in(table: Table) -> [Session; 64]
+    ensures { λ r. ⌜ r ≡ table .recs ⌝ }
+{
+    table.recs
+}
+
+// The answer with its records, where they are at hand as an array.
+pub fn whole_of(r: Left, recs: [Session; 64]) -> Answer
+    ensures { λ a. ⌜ a ≡ left r recs ⌝ }
+{
+    let node = r.node;
+    Answer {
+        number: r.number,
+        size: r.size,
+        node,
+        table: Table { recs },
+    }
+}
+
+// The number for another count of records than 64: a short reply buffer comes first.
+pub fn uncounted(room: usize) -> u8
+    ensures { λ r. ⌜ r ≡ uncounted room ⌝ }
+{
+    if room < Answer::LEAST_REPLY {
+        return 1;
+    }
+    2
+}
+
+// Fresh: another count of records keeps them, with the state that a refused plan leaves.
+pub fn fresh_on(count: usize, plan: Plan) -> Answer
+    ensures { λ r. ⌜ r ≡ freshOn count plan ⌝ }
+{
+    if count == Table::PLACES {
+        return timing::fresh(plan);
+    }
+    let none = Plan::none();
+    let node = Node::fresh(none);
+    let table = Table::fresh();
+    Answer::refused(2, node, table)
+}
+
+pub fn tick_on(count: usize, node: Node, recs: [Session; 64]) -> Answer
+    ensures { λ r. ⌜ r ≡ counted count (tickOf node (held recs)) (refused 2 node (held recs)) ⌝ }
+{
+    let table = Table { recs };
+    if count == Table::PLACES {
+        return timing::tick(node, table);
+    }
+    Answer::refused(2, node, table)
+}
+
+pub fn close_on(count: usize, node: Node, recs: [Session; 64], place: usize) -> Answer
+    ensures { λ r. ⌜ r ≡ counted count (closeOf node (held recs) place) (refused 2 node (held recs)) ⌝ }
+{
+    let table = Table { recs };
+    if count == Table::PLACES {
+        return timing::close(node, table, place);
+    }
+    Answer::refused(2, node, table)
+}
+
+pub fn send_on(count: usize, node: Node, recs: [Session; 64], reply: &mut [u8]) -> Answer
+    ensures { λ r. ⌜ outcome r (now (reply .exit)) ≡ countedReply count node (held recs) (now (reply .entry)) (sendOf node (held recs) (now (reply .entry))) ⌝ }
+{
+    let table = Table { recs };
+    if count == Table::PLACES {
+        return timing::send(node, table, reply);
+    }
+    let number = uncounted(reply.len());
+    Answer::refused(number, node, table)
+}

@@ -1,0 +1,4 @@
+pub mod Rows
+pub mod Bodies
+pub mod Loans
+pub mod Local

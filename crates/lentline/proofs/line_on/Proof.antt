@@ -1,0 +1,32 @@
+use borrow.Author.Tests.{eq-eqb, ne-eqb}
+use Rattle.tunnel.specs.Numbering.{places}
+use Rattle.timing.specs.Timing.{held}
+use Rattle.lentcore.specs.Lent.{countedReply}
+use borrow.Author.Needs.{needs}
+use Rattle.lentline.proofs.line_on.Statement.{statement}
+use Rattle.lentline.proofs.line_on.Tie as tie
+
+line-requires : tie.Need-line-requires
+line-requires c κs = search needs
+
+same-length : tie.Need-same-length
+same-length c = search needs
+
+returns : tie.Need-returns
+unfolding countedReply places held
+returns c = rw (eq-eqb _ _ (c .before .before .before .before .if1 .taken)) (c .before .before .line .ensures)
+
+uncounted-requires : tie.Need-uncounted-requires
+uncounted-requires c κs = search needs
+
+refused-requires : tie.Need-refused-requires
+refused-requires c κs = search needs
+
+returns-2 : tie.Need-returns-2
+unfolding countedReply places held
+returns-2 c = rw (ne-eqb _ _ (c .before .before .if1 .left), c .refused .ensures, c .before .uncounted .ensures)
+
+pub line-on-spec : {M : Type 1} → statement M
+line-on-spec =
+    tie.close
+    (tie.spec line-requires same-length returns uncounted-requires refused-requires returns-2)

@@ -1,0 +1,75 @@
+-- User datagrams with lent records: what is said of a list of 64 records is said of any lent list, since 64 records are one of the
+-- table's rules. Another count is 1 where the reply buffer is short, else 2, with nothing written and nothing handed up.
+-- Assumes nothing.
+use Prim.Native.Nat.{ℕ, _-_, _≤_}
+use mathlib.Core.Bool.{false}
+use mathlib.Core.List.{List}
+use mathlib.Core.Path.{_≡_, sym, _∙_}
+use native.Mathlib.Omega.{arith}
+use lib.ListN.{length}
+use lib.Dec.{eqb, ltb}
+use denote.Ref.{RefT}
+use Rattle.octets.specs.Choice.{pick, split}
+use Rattle.tunnel.specs.Numbering.{places}
+use Rattle.session.specs.declared.Session.{Session}
+use Rattle.table.specs.declared.Node.{Node}
+use Rattle.table.specs.Rules.{keepsRules}
+use Rattle.timing.specs.Timing.{leastReply}
+use Rattle.gpdu.specs.Part.{IsRest, rest-length}
+use Rattle.gpdu.specs.User.{userOf, user-within}
+use Rattle.userside.specs.UserSide.{Took, took, silent, userTaken, start-within}
+use Rattle.lentkit.specs.Records.{loaded}
+use Rattle.lentcore.specs.Lent.{uncounted, rules-other}
+use Rattle.lentuser.specs.declared.Handed.{Handed}
+
+-- ---- in numbers: the answer, and the reply buffer as it is left
+pub record Parcel : Type 0 where
+  pub handed : Handed
+  pub reply : List ℕ
+
+abbrev pub parcel : Handed → List ℕ → Parcel
+parcel h reply = record { handed = h; reply = reply }
+
+-- of a datagram of `end` octets
+unfoldable pub parcelOf : ℕ → Took → Parcel
+parcelOf end x = parcel (record { number = x .number; place = x .place; size = x .size; start = x .start; octets = end - x .start }) (x .reply)
+
+-- ---- in the words of the code
+unfoldable pub userOn : ℕ → Node → List Session → List ℕ → List ℕ → Took
+userOn count node l d reply = pick (eqb count places) (userTaken node l d reply) (silent (uncounted (length reply)) (length d) reply)
+
+-- ---- laws
+pub user-other : (node : Node) (l : List Session) (d reply : List ℕ) → eqb (length l) places ≡ false
+    → userTaken node l d reply ≡ silent (uncounted (length reply)) (length d) reply
+unfolding userTaken uncounted leastReply
+user-other node l d reply other = split (ltb (length reply) 128) (λ e. rw e) (λ e. rw (e, rules-other node l other))
+
+-- what was read and answered is what is said of the lent list
+pub user-lent : (node : Node) (l t : List Session) (d reply : List ℕ) → t ≡ loaded l → userOn (length l) node t d reply ≡ userTaken node l d reply
+unfolding userOn loaded
+user-lent node l t d reply read = split (eqb (length l) places)
+    (λ e. let q : t ≡ l = read ∙ rw e in rw (e, q))
+    (λ e. rw e (sym (user-other node l d reply e)))
+
+-- what is handed up begins within the datagram
+taken-within : (node : Node) (l : List Session) (d reply : List ℕ) → userTaken node l d reply .start ≤ length d
+unfolding userTaken
+taken-within node l d reply = split (ltb (length reply) 128) (λ e. rw e (omega arith)) (λ e.
+    split (keepsRules node l) (λ f. split (eqb (userOf d .number) 0)
+    (λ g. rw (e, f, g) (start-within node l (userOf d .header) (userOf d .size) (length d) reply (user-within d)))
+    (λ g. rw (e, f, g) (omega arith)))
+    (λ f. rw (e, f) (omega arith)))
+
+pub on-within : (count : ℕ) (node : Node) (l : List Session) (d reply : List ℕ) → userOn count node l d reply .start ≤ length d
+unfolding userOn
+on-within count node l d reply = split (eqb count places) (λ e. rw e (taken-within node l d reply)) (λ e. rw e (omega arith))
+
+-- the part's length gives its place
+pub parcel-is : (r d : RefT (List ℕ)) (reply : List ℕ) (x : Took) (number place size : ℕ) → x .start ≤ length (d .now)
+    → took number place size reply (x .start) ≡ x → IsRest r d (x .start)
+    → parcel (record { number = number; place = place; size = size; start = length (d .now) - length (r .now); octets = length (r .now) }) reply ≡ parcelOf (length (d .now)) x
+unfolding parcelOf
+parcel-is r d reply x number place size h e rest =
+    let n = rest-length r d (x .start) rest in
+    let s : length (d .now) - (length (d .now) - x .start) ≡ x .start = omega (arith, h) in
+    rw (n, s, ← e)

@@ -1,0 +1,78 @@
+/* A host in C: one session is created, one packet of it is unwrapped, its line is printed, its place is closed, and what is then due is
+ * sent. Prints each call's number and octets. `examples/build` builds and runs it. */
+#include "../include/grugavorn.h"
+#include <stdio.h>
+#include <string.h>
+
+static grugavorn_session records[GRUGAVORN_PLACES];
+static uint8_t reply[GRUGAVORN_REPLY];
+
+static void show(const char *call, unsigned number, const uint8_t *octets, size_t size) {
+  printf("%s %u ", call, number);
+  for (size_t i = 0; i < size; i++) printf("%02X", octets[i]);
+  puts(size == 0 ? "-" : "");
+}
+
+/* a Create of IMSI 440101234567890, EBI 5, for the access point "data" */
+static const uint8_t create[] = {
+  0x48, 0x20, 0x00, 0x6D, 0, 0, 0, 0, 0, 0, 1, 0,
+  1, 0, 8, 0, 0x44, 0x10, 0x10, 0x32, 0x54, 0x76, 0x98, 0xF0,
+  82, 0, 1, 0, 6,
+  87, 0, 9, 0, 0x86, 0, 0, 0x11, 0x11, 10, 1, 0, 8,
+  71, 0, 5, 0, 4, 'd', 'a', 't', 'a',
+  79, 0, 5, 0, 1, 0, 0, 0, 0,
+  93, 0, 44, 0,
+  73, 0, 1, 0, 5,
+  87, 0, 9, 2, 0x84, 0, 0, 0x22, 0x22, 10, 1, 0, 9,
+  80, 0, 22, 0, 0x61, 9, 0, 0, 0, 0, 0, 0, 0, 0, 0, 0, 0, 0, 0, 0, 0, 0, 0, 0, 0, 0,
+  3, 0, 1, 0, 3,
+};
+
+/* a G-PDU for place 0 in its first use, with four octets of payload */
+static const uint8_t packet[] = { 0x30, 0xFF, 0, 4, 0, 0, 1, 0x80, 0x45, 0, 0, 0 };
+
+int main(void) {
+  grugavorn_plan plan = { 0 };
+  plan.control = 0x0A000001;
+  plan.user = 0x0A000002;
+  plan.pool = 0x64400000;
+  plan.recovery = 7;
+  plan.resend = 3;
+  plan.sends = 2;
+  plan.interval = 60;
+  plan.count = 1;
+  memcpy(plan.points[0].name, "\4data", 5);
+  plan.points[0].size = 5;
+  plan.points[0].guarantee = 1;
+  plan.points[0].ceiling = 64;
+
+  grugavorn_left a = grugavorn_fresh(plan, records, GRUGAVORN_PLACES);
+  grugavorn_node node = a.node;
+  show("fresh", a.number, reply, a.size);
+
+  a = grugavorn_control(node, records, GRUGAVORN_PLACES, create, sizeof create, reply, sizeof reply);
+  node = a.node;
+  show("control", a.number, reply, a.size);
+
+  grugavorn_handed h = grugavorn_user(node, records, GRUGAVORN_PLACES, packet, sizeof packet, reply, sizeof reply);
+  show("user", h.number, packet + h.start, h.octets);
+
+  a = grugavorn_line(node, records, GRUGAVORN_PLACES, h.place, reply, sizeof reply);
+  printf("line %u %.*s\n", a.number, (int)a.size, (const char *)reply);
+
+  a = grugavorn_close(node, records, GRUGAVORN_PLACES, h.place);
+  node = a.node;
+  show("close", a.number, reply, a.size);
+
+  a = grugavorn_send(node, records, GRUGAVORN_PLACES, reply, sizeof reply);
+  node = a.node;
+  show("send", a.number, reply, a.size);
+
+  a = grugavorn_send(node, records, GRUGAVORN_PLACES, reply, sizeof reply);
+  node = a.node;
+  show("send", a.number, reply, a.size);
+
+  a = grugavorn_tick(node, records, GRUGAVORN_PLACES);
+  show("tick", a.number, reply, a.size);
+  return 0;
+}

@@ -1,0 +1,201 @@
+// The host of host.c in Rust: the same calls, the same print. The structs are those of include/grugavorn.h, field for field.
+#![allow(dead_code)]
+
+#[repr(C)]
+#[derive(Clone, Copy)]
+struct Point {
+    name: [u8; 63],
+    size: u8,
+    guarantee: u16,
+    ceiling: u16,
+}
+
+#[repr(C)]
+#[derive(Clone, Copy)]
+struct Plan {
+    control: u32,
+    user: u32,
+    pool: u32,
+    recovery: u8,
+    resend: u8,
+    sends: u8,
+    interval: u8,
+    count: u8,
+    points: [Point; 4],
+}
+
+#[repr(C)]
+#[derive(Clone, Copy)]
+struct Request {
+    timer: u8,
+    sends: u8,
+    number: u32,
+}
+
+#[repr(C)]
+#[derive(Clone, Copy)]
+struct Session {
+    imsi: u64,
+    usage: u32,
+    control: u32,
+    controladdr: u32,
+    user: u32,
+    useraddr: u32,
+    created: u32,
+    own: Request,
+    state: u8,
+    point: u8,
+    ebi: u8,
+}
+
+#[repr(C)]
+#[derive(Clone, Copy)]
+struct Node {
+    plan: Plan,
+    echo: Request,
+    next: u32,
+    heard: u8,
+    recovery: u8,
+}
+
+#[repr(C)]
+struct Left {
+    number: u8,
+    size: usize,
+    node: Node,
+}
+
+#[repr(C)]
+struct Handed {
+    number: u8,
+    place: usize,
+    size: usize,
+    start: usize,
+    octets: usize,
+}
+
+// the library's layout
+const _: () = {
+    use std::mem::{offset_of, size_of};
+    assert!(size_of::<Point>() == 68 && offset_of!(Point, size) == 63 && offset_of!(Point, guarantee) == 64 && offset_of!(Point, ceiling) == 66);
+    assert!(size_of::<Plan>() == 292 && offset_of!(Plan, recovery) == 12 && offset_of!(Plan, count) == 16 && offset_of!(Plan, points) == 18);
+    assert!(size_of::<Request>() == 8 && offset_of!(Request, sends) == 1 && offset_of!(Request, number) == 4);
+    assert!(size_of::<Session>() == 48 && offset_of!(Session, usage) == 8 && offset_of!(Session, own) == 32 && offset_of!(Session, state) == 40);
+    assert!(size_of::<Node>() == 308 && offset_of!(Node, echo) == 292 && offset_of!(Node, next) == 300 && offset_of!(Node, recovery) == 305);
+    assert!(size_of::<Left>() == 328 && offset_of!(Left, size) == 8 && offset_of!(Left, node) == 16);
+    assert!(size_of::<Handed>() == 40 && offset_of!(Handed, place) == 8 && offset_of!(Handed, octets) == 32);
+};
+
+extern "C" {
+    fn grugavorn_fresh(plan: Plan, records: *mut Session, count: usize) -> Left;
+    fn grugavorn_control(node: Node, records: *mut Session, count: usize, datagram: *const u8, length: usize, reply: *mut u8, room: usize) -> Left;
+    fn grugavorn_user(node: Node, records: *const Session, count: usize, datagram: *const u8, length: usize, reply: *mut u8, room: usize) -> Handed;
+    fn grugavorn_tick(node: Node, records: *mut Session, count: usize) -> Left;
+    fn grugavorn_send(node: Node, records: *mut Session, count: usize, reply: *mut u8, room: usize) -> Left;
+    fn grugavorn_line(node: Node, records: *const Session, count: usize, place: usize, reply: *mut u8, room: usize) -> Left;
+    fn grugavorn_close(node: Node, records: *mut Session, count: usize, place: usize) -> Left;
+}
+
+// The unit as a Rust host has it: records, node and reply buffer in one place. Each call's slices give the library pointer and count, so
+// that what it takes on trust of its caller always holds.
+struct Unit {
+    records: [Session; 64],
+    node: Node,
+    reply: [u8; 128],
+}
+
+const IDLE: Request = Request { timer: 0, sends: 0, number: 0 };
+const NOBODY: Session = Session { imsi: 0, usage: 0, control: 0, controladdr: 0, user: 0, useraddr: 0, created: 0, own: IDLE, state: 0, point: 0, ebi: 0 };
+
+impl Unit {
+    fn fresh(plan: Plan) -> (Self, u8) {
+        let mut records = [NOBODY; 64];
+        let a = unsafe { grugavorn_fresh(plan, records.as_mut_ptr(), records.len()) };
+        (Unit { records, node: a.node, reply: [0; 128] }, a.number)
+    }
+    fn keep(&mut self, a: Left) -> (u8, &[u8]) {
+        self.node = a.node;
+        (a.number, &self.reply[..a.size])
+    }
+    fn control(&mut self, d: &[u8]) -> (u8, &[u8]) {
+        let a = unsafe { grugavorn_control(self.node, self.records.as_mut_ptr(), 64, d.as_ptr(), d.len(), self.reply.as_mut_ptr(), 128) };
+        self.keep(a)
+    }
+    fn user<'a>(&mut self, d: &'a [u8]) -> (u8, usize, &'a [u8]) {
+        let h = unsafe { grugavorn_user(self.node, self.records.as_ptr(), 64, d.as_ptr(), d.len(), self.reply.as_mut_ptr(), 128) };
+        (h.number, h.place, &d[h.start..h.start + h.octets])
+    }
+    fn tick(&mut self) -> (u8, &[u8]) {
+        let a = unsafe { grugavorn_tick(self.node, self.records.as_mut_ptr(), 64) };
+        self.keep(a)
+    }
+    fn send(&mut self) -> (u8, &[u8]) {
+        let a = unsafe { grugavorn_send(self.node, self.records.as_mut_ptr(), 64, self.reply.as_mut_ptr(), 128) };
+        self.keep(a)
+    }
+    fn line(&mut self, place: usize) -> (u8, &[u8]) {
+        let a = unsafe { grugavorn_line(self.node, self.records.as_ptr(), 64, place, self.reply.as_mut_ptr(), 128) };
+        self.keep(a)
+    }
+    fn close(&mut self, place: usize) -> (u8, &[u8]) {
+        let a = unsafe { grugavorn_close(self.node, self.records.as_mut_ptr(), 64, place) };
+        self.keep(a)
+    }
+}
+
+fn show(call: &str, number: u8, octets: &[u8]) {
+    let hex: String = octets.iter().map(|o| format!("{o:02X}")).collect();
+    println!("{call} {number} {}", if hex.is_empty() { "-" } else { &hex });
+}
+
+// a Create of IMSI 440101234567890, EBI 5, for the access point "data"
+const CREATE: [u8; 113] = [
+    0x48, 0x20, 0x00, 0x6D, 0, 0, 0, 0, 0, 0, 1, 0,
+    1, 0, 8, 0, 0x44, 0x10, 0x10, 0x32, 0x54, 0x76, 0x98, 0xF0,
+    82, 0, 1, 0, 6,
+    87, 0, 9, 0, 0x86, 0, 0, 0x11, 0x11, 10, 1, 0, 8,
+    71, 0, 5, 0, 4, b'd', b'a', b't', b'a',
+    79, 0, 5, 0, 1, 0, 0, 0, 0,
+    93, 0, 44, 0,
+    73, 0, 1, 0, 5,
+    87, 0, 9, 2, 0x84, 0, 0, 0x22, 0x22, 10, 1, 0, 9,
+    80, 0, 22, 0, 0x61, 9, 0, 0, 0, 0, 0, 0, 0, 0, 0, 0, 0, 0, 0, 0, 0, 0, 0, 0, 0, 0,
+    3, 0, 1, 0, 3,
+];
+
+// a G-PDU for place 0 in its first use, with four octets of payload
+const PACKET: [u8; 12] = [0x30, 0xFF, 0, 4, 0, 0, 1, 0x80, 0x45, 0, 0, 0];
+
+fn main() {
+    let mut name = [0u8; 63];
+    name[..5].copy_from_slice(b"\x04data");
+    let data = Point { name, size: 5, guarantee: 1, ceiling: 64 };
+    let none = Point { name: [0; 63], size: 0, guarantee: 0, ceiling: 0 };
+    let plan = Plan {
+        control: 0x0A000001,
+        user: 0x0A000002,
+        pool: 0x64400000,
+        recovery: 7,
+        resend: 3,
+        sends: 2,
+        interval: 60,
+        count: 1,
+        points: [data, none, none, none],
+    };
+    let (mut unit, number) = Unit::fresh(plan);
+    show("fresh", number, &[]);
+    let (number, reply) = unit.control(&CREATE);
+    show("control", number, reply);
+    let (number, place, payload) = unit.user(&PACKET);
+    show("user", number, payload);
+    let (number, line) = unit.line(place);
+    println!("line {number} {}", String::from_utf8_lossy(line));
+    let (number, reply) = unit.close(place);
+    show("close", number, reply);
+    let (number, reply) = unit.send();
+    show("send", number, reply);
+    let (number, reply) = unit.send();
+    show("send", number, reply);
+    let (number, reply) = unit.tick();
+    show("tick", number, reply);
+}
