@@ -31,6 +31,16 @@ static const uint8_t create[] = {
 /* a G-PDU for place 0 in its first use, with four octets of payload */
 static const uint8_t packet[] = { 0x30, 0xFF, 0, 4, 0, 0, 1, 0x80, 0x45, 0, 0, 0 };
 
+/* the echo of document 01's whole case */
+static const uint8_t echo[] = { 0x40, 0x01, 0, 9, 0, 0, 1, 0, 3, 0, 1, 0, 5 };
+
+/* as the bench prints: number and reply parted by a tab */
+static void print_answer(uint8_t number, const uint8_t *octets, size_t size) {
+  printf("%u\t", number);
+  for (size_t i = 0; i < size; i++) printf("%02X", octets[i]);
+  puts(size == 0 ? "-" : "");
+}
+
 int main(void) {
   grugavorn_plan plan = { 0 };
   plan.control = 0x0A000001;
@@ -74,5 +84,15 @@ int main(void) {
 
   a = grugavorn_tick(node, records, GRUGAVORN_PLACES);
   show("tick", a.number, reply, a.size);
+
+  /* the whole case of document 01, on a fresh unit */
+  a = grugavorn_fresh(plan, records, GRUGAVORN_PLACES);
+  a = grugavorn_control(a.node, records, GRUGAVORN_PLACES, echo, sizeof echo, reply, sizeof reply);
+  print_answer(a.number, reply, a.size);
+  a = grugavorn_close(a.node, records, GRUGAVORN_PLACES, 0);
+  print_answer(a.number, reply, a.size);
+  unsigned live = 0;
+  for (size_t i = 0; i < GRUGAVORN_PLACES; i++) live += records[i].state != 0;
+  printf("L\t%u\n", live);
   return 0;
 }

@@ -166,6 +166,15 @@ const CREATE: [u8; 113] = [
 // a G-PDU for place 0 in its first use, with four octets of payload
 const PACKET: [u8; 12] = [0x30, 0xFF, 0, 4, 0, 0, 1, 0x80, 0x45, 0, 0, 0];
 
+// the echo of document 01's whole case
+const ECHO: [u8; 13] = [0x40, 0x01, 0, 9, 0, 0, 1, 0, 3, 0, 1, 0, 5];
+
+// as the bench prints: number and reply parted by a tab
+fn print_answer(number: u8, octets: &[u8]) {
+    let hex: String = octets.iter().map(|o| format!("{o:02X}")).collect();
+    println!("{number}\t{}", if hex.is_empty() { "-" } else { &hex });
+}
+
 fn main() {
     let mut name = [0u8; 63];
     name[..5].copy_from_slice(b"\x04data");
@@ -198,4 +207,12 @@ fn main() {
     show("send", number, reply);
     let (number, reply) = unit.tick();
     show("tick", number, reply);
+
+    // the whole case of document 01, on a fresh unit
+    let (mut unit, _) = Unit::fresh(plan);
+    let (number, reply) = unit.control(&ECHO);
+    print_answer(number, reply);
+    let (number, reply) = unit.close(0);
+    print_answer(number, reply);
+    println!("L\t{}", unit.records.iter().filter(|r| r.state != 0).count());
 }

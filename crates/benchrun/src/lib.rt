@@ -177,7 +177,7 @@ fn take_plan(b: Bench, out: &mut [u8]) -> Bench
     ensures { λ r. ⌜ ran r (now (out .exit)) ≡ planTaken b (now (out .entry)) ⌝ }
 {
     let node = b.node;
-    let a = timing::fresh(node.plan);
+    let a = lendclock::fresh(node.plan);
     if a.number == 0 {
         return kept_in(b, a, Bench::RUNS, b.made);
     }
@@ -195,7 +195,7 @@ fn send_one(b: Bench, out: &mut [u8]) -> Sent
     ensures { λ r. ⌜ (r .go ≡ isDue b) × (ran (r .bench) (now (out .exit)) ≡ sentOne b (now (out .entry))) ⌝ }
 {
     let mut reply = [0; 128];
-    let a = timing::send(b.node, b.table, &mut reply);
+    let a = lendclock::send(b.node, b.table, &mut reply);
     if a.number != 0 {
         return Sent {
             go: false,
@@ -231,7 +231,7 @@ fn run_control(b: Bench, d: &[u8], out: &mut [u8]) -> Bench
     ensures { λ r. ⌜ ran r (now (out .exit)) ≡ answered (b .phase) (controlTaken (b .node) (b .table) (now (d .entry)) (replicate 128 0)) b (now (out .entry)) ⌝ }
 {
     let mut reply = [0; 128];
-    let a = control::take_control(b.node, b.table, d, &mut reply);
+    let a = lendcontrol::take_control(b.node, b.table, d, &mut reply);
     answered(b, a, &reply, b.phase, out)
 }
 
@@ -243,7 +243,7 @@ fn run_user(b: Bench, d: &[u8], out: &mut [u8]) -> Bench
     let mut number: u8 = 0;
     let mut place: usize = 0;
     let mut size: usize = 0;
-    let payload = userside::take_user(
+    let payload = lenduser::take_user(
         b.node,
         b.table,
         d,
@@ -271,7 +271,7 @@ fn with_made(mut b: Bench, made: usize) -> Bench
 fn run_tick(b: Bench, out: &mut [u8]) -> Bench
     ensures { λ r. ⌜ ran r (now (out .exit)) ≡ thenSent (answered (b .phase) (outcome (tickOf (b .node) (b .table)) []) b (now (out .entry))) ⌝ }
 {
-    let a = timing::tick(b.node, b.table);
+    let a = lendclock::tick(b.node, b.table);
     let none = [0; 0];
     let next = answered(b, a, &none, b.phase, out);
     send_due(next, out)
@@ -280,7 +280,7 @@ fn run_tick(b: Bench, out: &mut [u8]) -> Bench
 fn run_close(b: Bench, place: u8, out: &mut [u8]) -> Bench
     ensures { λ r. ⌜ ran r (now (out .exit)) ≡ thenSent (answered (b .phase) (outcome (closeOf (b .node) (b .table) place) []) b (now (out .entry))) ⌝ }
 {
-    let a = timing::close(b.node, b.table, place as usize);
+    let a = lendclock::close(b.node, b.table, place as usize);
     let none = [0; 0];
     let next = answered(b, a, &none, b.phase, out);
     send_due(next, out)
@@ -420,7 +420,7 @@ fn print_place(b: Bench, place: usize, out: &mut [u8]) -> Bench
         return b;
     }
     let mut text = [0; 128];
-    let a = placeline::line(b.node, t, place, &mut text);
+    let a = lendline::line(b.node, t, place, &mut text);
     let shown = front(&text, a.size);
     let p = numerals::put_text(out, b.made, shown);
     let made = numerals::put(out, p, 10);
