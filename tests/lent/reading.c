@@ -1,4 +1,5 @@
-/* Document 01 read once more, by hand, in C. It goes by the paper's sentences and is slow on purpose. */
+/* Document 01 read once more, by hand, in C. It goes by the paper's sentences; its check of the table rules is slow on purpose, but for
+ * PLAIN_RULES, where tests/speed has a quick one. */
 #include "reading.h"
 #include <stdio.h>
 #include <string.h>
@@ -59,6 +60,9 @@ static unsigned shared(const session *t, const grugavorn_plan *p) {
   return s;
 }
 
+#ifdef PLAIN_RULES
+#include "../speed/rules.c"
+#else
 static int rules_kept(const node_t *n, const session *t, size_t count) {
   if (!plan_fits(&n->plan) || count != 64) return 0;
   for (int i = 0; i < 64; i++) if (!record_fits(&t[i], &n->plan)) return 0;
@@ -75,6 +79,7 @@ static int rules_kept(const node_t *n, const session *t, size_t count) {
   }
   return 1;
 }
+#endif
 
 /* ---- small things */
 static grugavorn_left answer(unsigned number, size_t size, node_t n) {

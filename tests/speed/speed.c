@@ -1,0 +1,134 @@
+/* One call again and again, on the proved library or on the plain implementation, for counting instructions; and a comparison of what
+ * the two answer. The same table, node and datagram go into every call: what a call changes is put back after it.
+ *   speed check                          every call with every number of sessions, both ways: answers, tables and buffers are equal
+ *   speed library|plain CALL LIVE COUNT  COUNT calls with so many live sessions */
+#include "../lent/reading.h"
+#include <stdio.h>
+#include <stdlib.h>
+#include <string.h>
+
+enum { PLACES = 64 };
+static grugavorn_session first[PLACES], records[PLACES];
+static grugavorn_node node;
+static uint8_t reply[128], datagram[256];
+static size_t size;
+
+static void octets(const char *hex) {
+  for (size = 0; hex[0]; hex += 2) {
+    unsigned v;
+    if (sscanf(hex, "%2x", &v) != 1) exit(2);
+    datagram[size++] = (uint8_t)v;
+  }
+}
+
+/* a Create with the IMSI of a person, for the access point "data" */
+static void create(unsigned person) {
+  octets("4820006800000000000100000100080044101000000000F05200010006570009008600001111" "0A010008" "47000500" "0464617461" "4F00050001"
+         "00000000" "5D002C00" "4900010005" "570009028400002222" "0A010009" "50001600" "61090000000000000000000000000000000000000000");
+  for (int digit = 14; digit > 5; digit--, person /= 10)
+    datagram[16 + digit / 2] = (uint8_t)(digit % 2 ? (datagram[16 + digit / 2] & 15) | person % 10 << 4 : (datagram[16 + digit / 2] & 240) | person % 10);
+}
+
+static void table(unsigned live, int closing, unsigned ceiling) {
+  grugavorn_plan p;
+  memset(&p, 0, sizeof p);
+  p.control = 0x0A000001, p.user = 0x0A000002, p.pool = 0x64400000, p.recovery = 7, p.resend = 200, p.sends = 2, p.interval = 200, p.count = 2;
+  memcpy(p.points[0].name, "\4data", 5), p.points[0].size = 5, p.points[0].guarantee = 0, p.points[0].ceiling = (uint16_t)ceiling;
+  memcpy(p.points[1].name, "\4grid", 5), p.points[1].size = 5, p.points[1].guarantee = 0, p.points[1].ceiling = 64;
+  node = reading_fresh(p, first, PLACES).node;
+  for (unsigned i = 0; i < live; i++) {
+    grugavorn_session *s = &first[i];
+    s->imsi = 440101000000000ull + 7919u * i, s->usage = 1, s->control = 0x1111, s->controladdr = 0x0A010008, s->user = 0x2222, s->useraddr = 0x0A010009;
+    s->created = 0x100 + i, s->ebi = 5, s->state = closing ? GRUGAVORN_CLOSING : GRUGAVORN_LIVE;
+    if (closing) s->own.timer = 100, s->own.sends = 1, s->own.number = i;
+  }
+  if (closing) node.next = live;
+  memcpy(records, first, sizeof records);
+}
+
+static const char *const calls[] = { "packet", "user-echo", "echo", "create", "repeat", "no-room", "modify", "delete", "tick", "tick-closing", "send", "close", "line" };
+
+/* the table and the datagram of a call; 0 where it makes no sense with so many sessions */
+static int prepare(const char *call, unsigned live) {
+  int closing = strcmp(call, "tick-closing") == 0;
+  int last = strcmp(call, "create") == 0 && live == PLACES;
+  table(last ? PLACES - 1 : live, closing, strcmp(call, "no-room") == 0 && live != 0 ? live : 64);
+  if (strcmp(call, "packet") == 0) octets("30FF000400000180" "45000000"), datagram[7] = (uint8_t)(live == 0 ? 128 : 127 + live);
+  else if (strcmp(call, "user-echo") == 0) octets("3201000400000000" "12340000");
+  else if (strcmp(call, "echo") == 0) octets("40010004" "00010000");
+  else if (strcmp(call, "create") == 0) create(1);
+  else if (strcmp(call, "no-room") == 0) create(1);
+  else if (strcmp(call, "repeat") == 0) create(7919 * (live - 1)), datagram[9] = (uint8_t)((0x100 + live - 1) >> 8), datagram[10] = (uint8_t)(0x100 + live - 1);
+  else if (strcmp(call, "modify") == 0) octets("4822001500000100" "00020000" "57000900" "8600003333" "0A010077"), datagram[7] = (uint8_t)(live - 1);
+  else if (strcmp(call, "delete") == 0) octets("4824000800000100" "00020000"), datagram[7] = (uint8_t)(live - 1);
+  else if (strcmp(call, "send") == 0 && live != 0) first[live - 1].state = GRUGAVORN_CLOSING, memcpy(records, first, sizeof records);
+  return live != 0 || (strcmp(call, "repeat") != 0 && strcmp(call, "no-room") != 0 && strcmp(call, "modify") != 0 && strcmp(call, "delete") != 0 && !closing);
+}
+
+static grugavorn_left answer;
+static grugavorn_handed handed;
+
+static void once(const char *call, int plain, unsigned live) {
+  size_t place = live == 0 ? 0 : live - 1;
+  switch (call[0] == 'p' || call[0] == 'u' ? 'u' : call[0] == 't' ? 't' : strcmp(call, "send") == 0 ? 's' : strcmp(call, "close") == 0 ? 'x' : strcmp(call, "line") == 0 ? 'l' : 'c') {
+    case 'u': handed = plain ? reading_user(node, records, PLACES, datagram, size, reply, sizeof reply) : grugavorn_user(node, records, PLACES, datagram, size, reply, sizeof reply); break;
+    case 't': answer = plain ? reading_tick(node, records, PLACES) : grugavorn_tick(node, records, PLACES); break;
+    case 's': answer = plain ? reading_send(node, records, PLACES, reply, sizeof reply) : grugavorn_send(node, records, PLACES, reply, sizeof reply); break;
+    case 'x': answer = plain ? reading_close(node, records, PLACES, place) : grugavorn_close(node, records, PLACES, place); break;
+    case 'l': answer = plain ? reading_line(node, records, PLACES, place, reply, sizeof reply) : grugavorn_line(node, records, PLACES, place, reply, sizeof reply); break;
+    default: answer = plain ? reading_control(node, records, PLACES, datagram, size, reply, sizeof reply) : grugavorn_control(node, records, PLACES, datagram, size, reply, sizeof reply);
+  }
+}
+
+static int check(void) {
+  static const unsigned numbers[] = { 0, 32, 64 };
+  int runs = 0;
+  for (size_t c = 0; c < sizeof calls / sizeof *calls; c++)
+    for (int k = 0; k < 3; k++) {
+      grugavorn_session seen[2][PLACES];
+      uint8_t said[2][128];
+      grugavorn_left left[2];
+      grugavorn_handed part[2];
+      if (!prepare(calls[c], numbers[k])) continue;
+      for (int plain = 0; plain < 2; plain++) {
+        memcpy(records, first, sizeof records), memset(reply, 0x5A, sizeof reply);
+        memset(&answer, 0, sizeof answer), memset(&handed, 0, sizeof handed);
+        once(calls[c], plain, numbers[k]);
+        memcpy(seen[plain], records, sizeof records), memcpy(said[plain], reply, sizeof reply);
+        left[plain] = answer, part[plain] = handed;
+      }
+      int same = left[0].number == left[1].number && left[0].size == left[1].size && left[0].node.next == left[1].node.next
+        && left[0].node.echo.timer == left[1].node.echo.timer && left[0].node.heard == left[1].node.heard && left[0].node.recovery == left[1].node.recovery
+        && part[0].number == part[1].number && part[0].place == part[1].place && part[0].size == part[1].size && part[0].start == part[1].start
+        && part[0].octets == part[1].octets && memcmp(said[0], said[1], 128) == 0;
+      for (int i = 0; i < PLACES; i++) {
+        const grugavorn_session *a = &seen[0][i], *b = &seen[1][i];
+        same = same && a->imsi == b->imsi && a->usage == b->usage && a->control == b->control && a->controladdr == b->controladdr && a->user == b->user
+          && a->useraddr == b->useraddr && a->created == b->created && a->own.timer == b->own.timer && a->own.sends == b->own.sends
+          && a->own.number == b->own.number && a->state == b->state && a->point == b->point && a->ebi == b->ebi;
+      }
+      if (!same) return printf("speed: %s with %u live: the two differ (%u and %u)\n", calls[c], numbers[k], left[0].number, left[1].number), 1;
+      printf("%s %u %u %zu\n", calls[c], numbers[k], calls[c][0] == 'p' || calls[c][0] == 'u' ? part[0].number : left[0].number, left[0].size + part[0].size);
+      runs++;
+    }
+  printf("speed: %d kinds of calls, the answers are equal\n", runs);
+  return 0;
+}
+
+int main(int argc, char **argv) {
+  if (argc == 2 && strcmp(argv[1], "check") == 0) return check();
+  if (argc != 5) return 2;
+  int plain = strcmp(argv[1], "plain") == 0;
+  unsigned live = (unsigned)atoi(argv[3]), sum = 0;
+  if (!prepare(argv[2], live)) return 3;
+  size_t last = live == 0 || strcmp(argv[2], "create") == 0 ? (live == PLACES ? PLACES - 1 : live) : live - 1;
+  int all = argv[2][0] == 't';
+  for (int i = atoi(argv[4]); i > 0; i--) {
+    once(argv[2], plain, live);
+    sum += answer.number + handed.number;
+    if (all) memcpy(records, first, sizeof records);
+    else records[last] = first[last];
+  }
+  printf("%u\n", sum);
+  return 0;
+}
