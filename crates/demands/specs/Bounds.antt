@@ -1,23 +1,20 @@
 -- After any run: the table keeps its rules, so that neither 2 nor 11 comes; no access point is over its ceiling and S is at most 64; and
 -- no two live sessions share a tunnel number, an address, or IMSI with EBI.
 -- Assumes nothing.
-use Prim.Native.Nat.{ℕ, _+_, _%_, _<_, _≤_}
-use mathlib.Core.Bool.{Bool, true, false, not, _&&_}
+use Prim.Native.Nat.{ℕ, _<_, _≤_}
+use mathlib.Core.Bool.{true, false}
 use mathlib.Core.List.{List}
 use mathlib.Core.Logic.{_≢_}
-use mathlib.Core.Path.{_≡_, refl, sym, _∙_}
+use mathlib.Core.Path.{_≡_, refl}
 use native.Mathlib.Omega.{arith}
-use lib.ListN.{length, getD}
-use lib.Dec.{eqb, leb}
-use borrow.Author.Tests.{eq-eqb, leb-true}
-use Rattle.octets.specs.Choice.{split, and-left, and-right}
+use lib.ListN.{getD}
+use borrow.Author.Tests.{eq-eqb}
 use Rattle.tunnel.specs.Numbering.{places, teids, lastUse, controlOffset, userOffset, control-fits, user-fits}
-use Rattle.tunnel.specs.Tunnel.{numberAt, controlNumber, userNumber, number-same, number-fits, kinds-apart}
+use Rattle.tunnel.specs.Tunnel.{controlNumber, userNumber, number-same, number-fits, kinds-apart}
 use Rattle.plan.specs.declared.Plan.{Plan}
 use Rattle.plan.specs.Address.{addressOf}
 use Rattle.plan.specs.Limits.{parties}
-use Rattle.plan.specs.Plan.{accepted}
-use Rattle.sharing.specs.Sharing.{Within, shareOf, guaranteeAt, ceilingAt}
+use Rattle.sharing.specs.Sharing.{shareOf, ceilingAt}
 use Rattle.session.specs.declared.Request.{Request}
 use Rattle.session.specs.declared.Session.{Session}
 use Rattle.session.specs.Session.{isFree, hasId}
@@ -25,7 +22,6 @@ use Rattle.session.specs.Keep.{ok-usage}
 use Rattle.table.specs.Rules.{liveOn, live, boundsOf, Rules, rules-of}
 use Rattle.table.specs.Change.{nobody, record-ok}
 use Rattle.table.specs.Find.{found-only}
-use Rattle.header.specs.Types.{among}
 use Rattle.gateway.specs.Numbers.{among-other, tickNumbers, closeNumbers, sendNumbers, controlNumbers, TickNumbers, CloseNumbers, SendNumbers, ControlNumbers, tick-numbers, close-numbers, send-numbers, control-numbers}
 use Rattle.gateway.specs.UserNumbers.{userNumbers, UserNumbers, user-numbers}
 use Rattle.demands.specs.Run.{State, Event, control, user, tick, send, close, answered, reached, Run, Kept, reached-keeps}

@@ -1,3 +1,5 @@
 pub mod Run
 pub mod Stays
 pub mod Bounds
+pub mod Creates
+pub mod Share

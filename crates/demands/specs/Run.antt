@@ -2,9 +2,9 @@
 -- chooses everything else: which call, which datagram, which place, how long a reply buffer.
 -- Assumes nothing.
 use Prim.Native.Nat.{ℕ}
-use mathlib.Core.Bool.{Bool, true, false}
+use mathlib.Core.Bool.{Bool, true}
 use mathlib.Core.List.{List, [], _∷_}
-use mathlib.Core.Path.{_≡_, refl}
+use mathlib.Core.Path.{_≡_}
 use Rattle.octets.specs.Choice.{and-left, and-right}
 use Rattle.octets.specs.Every.{every}
 use Rattle.octets.specs.BigEndian.{isOctet}

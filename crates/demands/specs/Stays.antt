@@ -1,12 +1,12 @@
 -- The plan stays: no call changes it, so that after any run the unit goes by the plan it was started with.
 -- Assumes nothing.
 use Prim.Native.Nat.{ℕ}
-use mathlib.Core.Bool.{Bool, true, false}
+use mathlib.Core.Bool.{true}
 use mathlib.Core.List.{List, [], _∷_}
-use mathlib.Core.Path.{_≡_, refl, sym, _∙_}
+use mathlib.Core.Path.{_≡_, refl, _∙_}
 use lib.ListN.{length, drop, getD}
 use lib.Dec.{eqb, ltb}
-use Rattle.octets.specs.Choice.{pick, split}
+use Rattle.octets.specs.Choice.{split}
 use Rattle.plan.specs.declared.Plan.{Plan}
 use Rattle.plan.specs.Plan.{accepted}
 use Rattle.sharing.specs.Sharing.{admits}

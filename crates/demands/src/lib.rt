@@ -1,5 +1,6 @@
 // The customer's demands over whole runs: each promise is a function with nothing in it, whose contract is the theorem.
 ghost use Rattle.demands.specs.Bounds.{RulesHold, NeitherTwoNorEleven, CeilingsKept, NoneShared};
+ghost use Rattle.demands.specs.Share.{RefusalsJust, GuaranteesKept, FreedIsRoom};
 
 // After any run the table keeps its rules.
 pub fn rules_hold_after_any_run()
@@ -19,4 +20,19 @@ pub fn ceilings_are_kept()
 // After any run two sessions that are live or closing share no control number, no user number, no address, and not IMSI with EBI.
 pub fn nothing_is_shared()
     ensures { λ _. ⌜ NoneShared ⌝ }
+{}
+
+// After any run a sound new Create gets 73 exactly when the sharing rule says so, and is accepted otherwise.
+pub fn refusals_are_just()
+    ensures { λ _. ⌜ RefusalsJust ⌝ }
+{}
+
+// After any run a sound new Create for an access point with fewer than its guaranteed number is accepted.
+pub fn guarantees_are_kept()
+    ensures { λ _. ⌜ GuaranteesKept ⌝ }
+{}
+
+// A freed place counts as room at once.
+pub fn freed_is_room_at_once()
+    ensures { λ _. ⌜ FreedIsRoom ⌝ }
 {}
