@@ -44,11 +44,11 @@ RefusalsJust = (p : Plan) (es : List Event) → Run p es → (d : List ℕ) (c :
     → (reply : List ℕ) → 128 ≤ length reply → Judged p (reached p es) d c reply
 
 module _ (p : Plan) (s : State) (kept : Kept s) (plan : s .node .plan ≡ p) (d : List ℕ) (c : C.Create) (n : NewCreate p s d c) (reply : List ℕ) (room : 128 ≤ length reply) where
-  number-yes : admits p (askedU c s) (c .point) ≡ true → answered (control d reply) s ≡ 0
+  pub number-yes : admits p (askedU c s) (c .point) ≡ true → answered (control d reply) s ≡ 0
   unfolding answered acceptedOf acceptedTaken
   number-yes e = ap (λ (o : Outcome). o .answer .number) (create-accepted p s kept plan d c n reply room e)
 
-  number-no : admits p (askedU c s) (c .point) ≡ false → answered (control d reply) s ≡ 73
+  pub number-no : admits p (askedU c s) (c .point) ≡ false → answered (control d reply) s ≡ 73
   unfolding answered refusedOf causeTaken noRoom
   number-no e = ap (λ (o : Outcome). o .answer .number) (create-refused p s kept plan d c n reply room e)
 

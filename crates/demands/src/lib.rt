@@ -1,6 +1,8 @@
 // The customer's demands over whole runs: each promise is a function with nothing in it, whose contract is the theorem.
 ghost use Rattle.demands.specs.Bounds.{RulesHold, NeitherTwoNorEleven, CeilingsKept, NoneShared};
 ghost use Rattle.demands.specs.Share.{RefusalsJust, GuaranteesKept, FreedIsRoom};
+ghost use Rattle.demands.specs.Impossible.{NotAllRefused, NotOneReply, CountedFromRecords};
+ghost use Rattle.demands.specs.Ticks.{EveryTickCounts};
 
 // After any run the table keeps its rules.
 pub fn rules_hold_after_any_run()
@@ -35,4 +37,24 @@ pub fn guarantees_are_kept()
 // A freed place counts as room at once.
 pub fn freed_is_room_at_once()
     ensures { λ _. ⌜ FreedIsRoom ⌝ }
+{}
+
+// A unit that refuses all is impossible.
+pub fn not_all_is_refused()
+    ensures { λ _. ⌜ NotAllRefused ⌝ }
+{}
+
+// A unit with one fixed reply, or none, is impossible.
+pub fn not_one_reply_for_all()
+    ensures { λ _. ⌜ NotOneReply ⌝ }
+{}
+
+// A tick that counts only in the first call is impossible.
+pub fn every_tick_counts()
+    ensures { λ _. ⌜ EveryTickCounts ⌝ }
+{}
+
+// A live count that is not taken from the records is impossible.
+pub fn live_is_counted_from_records()
+    ensures { λ _. ⌜ CountedFromRecords ⌝ }
 {}
