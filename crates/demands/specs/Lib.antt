@@ -6,3 +6,5 @@ pub mod Share
 pub mod Examples
 pub mod Impossible
 pub mod Ticks
+pub mod Place
+pub mod InTime

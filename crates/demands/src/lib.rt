@@ -3,6 +3,7 @@ ghost use Rattle.demands.specs.Bounds.{RulesHold, NeitherTwoNorEleven, C
 ghost use Rattle.demands.specs.Share.{RefusalsJust, GuaranteesKept, FreedIsRoom};
 ghost use Rattle.demands.specs.Impossible.{NotAllRefused, NotOneReply, CountedFromRecords};
 ghost use Rattle.demands.specs.Ticks.{EveryTickCounts};
+ghost use Rattle.demands.specs.InTime.{FreedInTime};
 
 // After any run the table keeps its rules.
 pub fn rules_hold_after_any_run()
@@ -57,4 +58,9 @@ pub fn every_tick_counts()
 // A live count that is not taken from the records is impossible.
 pub fn live_is_counted_from_records()
     ensures { λ _. ⌜ CountedFromRecords ⌝ }
+{}
+
+// If all due is sent before each tick, a place has been freed by the N × T-th tick after its close.
+pub fn closed_is_freed_in_time()
+    ensures { λ _. ⌜ FreedInTime ⌝ }
 {}
