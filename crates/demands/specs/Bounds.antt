@@ -22,9 +22,9 @@ use Rattle.session.specs.Keep.{ok-usage}
 use Rattle.table.specs.Rules.{liveOn, live, boundsOf, Rules, rules-of}
 use Rattle.table.specs.Change.{nobody, record-ok}
 use Rattle.table.specs.Find.{found-only}
-use Rattle.gateway.specs.Numbers.{among-other, tickNumbers, closeNumbers, sendNumbers, controlNumbers, TickNumbers, CloseNumbers, SendNumbers, ControlNumbers, tick-numbers, close-numbers, send-numbers, control-numbers}
+use Rattle.gateway.specs.Numbers.{among-other, tickNumbers, closeNumbers, sendNumbers, controlNumbers, lineNumbers, TickNumbers, CloseNumbers, SendNumbers, ControlNumbers, LineNumbers, tick-numbers, close-numbers, send-numbers, control-numbers, line-numbers}
 use Rattle.gateway.specs.UserNumbers.{userNumbers, UserNumbers, user-numbers}
-use Rattle.demands.specs.Run.{State, Event, control, user, tick, send, close, answered, reached, Run, Kept, reached-keeps}
+use Rattle.demands.specs.Run.{State, Event, control, user, tick, send, close, line, answered, reached, Run, Kept, reached-keeps}
 use Rattle.demands.specs.Stays.{reached-plan}
 
 -- the record of a place
@@ -56,7 +56,7 @@ unfolding RulesHold
 rules-hold = reached-keeps
 
 kept-neither : (s : State) → Kept s → (e : Event) → (answered e s ≢ 2) × (answered e s ≢ 11)
-unfolding answered tickNumbers closeNumbers sendNumbers controlNumbers userNumbers TickNumbers CloseNumbers SendNumbers ControlNumbers UserNumbers
+unfolding answered tickNumbers closeNumbers sendNumbers controlNumbers lineNumbers userNumbers TickNumbers CloseNumbers SendNumbers ControlNumbers LineNumbers UserNumbers
 kept-neither s k (control d reply) =
     let m = control-numbers (s .node) (s .table) d reply k in
     (among-other (answered (control d reply) s) 2 controlNumbers m refl, among-other (answered (control d reply) s) 11 controlNumbers m refl)
@@ -72,6 +72,9 @@ kept-neither s k (send reply) =
 kept-neither s k (close place) =
     let m = close-numbers (s .node) (s .table) place k in
     (among-other (answered (close place) s) 2 closeNumbers m refl, among-other (answered (close place) s) 11 closeNumbers m refl)
+kept-neither s k (line place reply) =
+    let m = line-numbers (s .node) (s .table) place reply k in
+    (among-other (answered (line place reply) s) 2 lineNumbers m refl, among-other (answered (line place reply) s) 11 lineNumbers m refl)
 
 pub neither-two-nor-eleven : NeitherTwoNorEleven
 unfolding NeitherTwoNorEleven

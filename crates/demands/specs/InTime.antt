@@ -8,11 +8,11 @@ use native.Mathlib.Nat.{mul-le-mul-right}
 use native.Mathlib.Omega.{arith}
 use lib.ListN.{length}
 use lib.Dec.{eqb, ltb}
-use borrow.Author.Tests.{eqb-true, eqb-false, eq-eqb, ne-eqb, ltb-true, lt-ltb, not-true}
+use borrow.Author.Tests.{eqb-true, eqb-false, eq-eqb, ne-eqb, ltb-true, ltb-false, lt-ltb, not-true}
 use mir.Val.{boolByte}
 use Rattle.octets.specs.Choice.{split, impossible, and-left, and-right, or-true, tests}
 use Rattle.octets.specs.Every.{every}
-use Rattle.octets.specs.Search.{firstOf, first-passes}
+use Rattle.octets.specs.Search.{firstOf, first-passes, first-before}
 use Rattle.octets.specs.Sums.{sumOf, countOf}
 use Rattle.tunnel.specs.Numbering.{places}
 use Rattle.plan.specs.declared.Plan.{Plan}
@@ -23,12 +23,14 @@ use Rattle.session.specs.declared.Session.{Session}
 use Rattle.session.specs.Request.{requestOk, spent, sentOnce, countedDown, InRange, range-of}
 use Rattle.session.specs.Session.{isFree, isClosing, isDue, closed, sent, ticked, turned, phaseOk, freed}
 use Rattle.session.specs.Keep.{own-ok, live-of}
-use Rattle.table.specs.Rules.{boundsOf, Rules, rules-of}
+use Rattle.table.specs.declared.Node.{Node}
+use Rattle.table.specs.declared.Table.{Table}
+use Rattle.table.specs.Rules.{keepsRules, boundsOf, Rules, rules-of}
 use Rattle.table.specs.Change.{nobody, record-ok, changed-here}
 use Rattle.table.specs.Number.{takenNumber}
-use Rattle.table.specs.Own.{duePlace}
+use Rattle.table.specs.Own.{duePlace, due-in}
 use Rattle.timing.specs.Timing.{leastReply, held, refused, closable, closeOf, echoSent, placeSent, dueSent, sendOf}
-use Rattle.demands.specs.Run.{State, left, Event, control, user, tick, send, close, step, reached, ofOctets, Run, Kept, step-keeps, reached-keeps}
+use Rattle.demands.specs.Run.{State, left, Event, control, user, tick, send, close, line, step, line-step, answered, reached, ofOctets, Run, Kept, step-keeps, reached-keeps}
 use Rattle.demands.specs.Stays.{step-plan, reached-plan}
 use Rattle.demands.specs.Bounds.{at}
 use Rattle.demands.specs.Ticks.{place-ticked, all-freed}
@@ -40,6 +42,7 @@ isTick (user d reply) = false
 isTick tick = true
 isTick (send reply) = false
 isTick (close place) = false
+isTick (line place reply) = false
 
 -- how many ticks there are among the calls
 unfoldable pub ticksIn : List Event → ℕ
@@ -61,6 +64,10 @@ FreedInTime = (p : Plan) (es : List Event) → Run p es → (i : ℕ) → i < 64
     → (later : List Event) → every ofOctets later ≡ true → prompt i later (step (close i) (reached p es)) ≡ true
     → p .sends * p .resend ≤ ticksIn later
     → everGone i (at (reached p es) i .usage) later (step (close i) (reached p es)) ≡ true
+
+-- and all due has been sent when send next due answers 17: then no place's request is due
+unfoldable pub NothingDue : Type 0
+NothingDue = (p : Plan) (es : List Event) → Run p es → (reply : List ℕ) → answered (send reply) (reached p es) ≡ 17 → (i : ℕ) → isDue (at (reached p es) i) ≡ false
 
 -- ---- a closing place through one call: closing still, and its timer and sends spend no less than the ticks
 pub record Spends (t ticks : ℕ) (s x : Session) : Type 0 where
@@ -184,6 +191,7 @@ module _ (p : Plan) (i : ℕ) (h : i < 64) where
   step-spends tick s g a c n f = tick-here s g c (not-true (isDue (at s i)) n) f
   step-spends (send reply) s g a c n f = rw (← g .plan) (send-here s g a reply c)
   step-spends (close j) s g a c n f = close-here s g j c
+  step-spends (line j reply) s g a c n f = rw (line-step j reply s) (same-here s c)
 
   -- what is gone now has been gone
   ever-now : (usage : ℕ) (es : List Event) (s : State) → gone usage (at s i) ≡ true → everGone i usage es s ≡ true
@@ -270,3 +278,23 @@ freed-in-time p es r i h c later o f m =
 
     q : (at (reached p es) i .own .sends ≡ 0) × (at (reached p es) i .own .timer ≡ 0)
     q = live-idle p i h (reached p es) good c
+
+none-due : (node : Node) (t : Table) → keepsRules node (t .recs) ≡ true → (reply : List ℕ) → sendOf node t reply .answer .number ≡ 17 → length (t .recs) ≤ firstOf isDue (t .recs)
+unfolding sendOf dueSent echoSent placeSent refused duePlace
+none-due node t k reply e =
+    split (ltb (length reply) leastReply) (λ a. let z : _≡_ {A = ℕ} 1 17 = rw a at e in absurd (omega arith))
+    (λ a. split (eqb (node .echo .timer) 0) (λ b. let z : _≡_ {A = ℕ} 0 17 = rw (a, k, b) at e in absurd (omega arith))
+    (λ b. split (ltb (firstOf isDue (t .recs)) (length (t .recs))) (λ c. let z : _≡_ {A = ℕ} 0 17 = rw (a, k, b, c) at e in absurd (omega arith))
+    (λ c. ltb-false (firstOf isDue (t .recs)) (length (t .recs)) c)))
+
+pub nothing-due : NothingDue
+unfolding NothingDue answered
+nothing-due p es r reply e i =
+    let k = reached-keeps p es r in
+    let n = none-due (reached p es .node) (reached p es .table) k reply e in
+    split (isDue (at (reached p es) i))
+    (λ d. let q = rules-of (reached p es .node) (reached p es .table .recs) k in
+    let h = due-in (reached p es .node .plan) (reached p es .node .echo) (reached p es .node .next) (reached p es .table .recs) q i d in
+    let m = first-before isDue (reached p es .table .recs) i nobody h d in
+    absurd (omega arith))
+    (λ d. d)

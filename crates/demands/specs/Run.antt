@@ -18,7 +18,9 @@ use Rattle.timing.specs.Timing.{freshOf, tickOf, closeOf, sendOf}
 use Rattle.timing.specs.Kept.{fresh-keeps, tick-keeps, close-keeps, send-keeps}
 use Rattle.control.specs.Control.{controlTaken}
 use Rattle.control.specs.Kept.{control-keeps}
+use Rattle.placeline.specs.Line.{lineOf}
 use Rattle.userside.specs.UserSide.{userTaken}
+use Rattle.gateway.specs.Kept.{LineLeaves, calls-keep}
 
 -- what the caller holds between two calls: the records, and what goes with them
 pub record State : Type 0 where
@@ -28,13 +30,15 @@ pub record State : Type 0 where
 unfoldable pub left : Answer → State
 left a = record { node = a .node; table = a .table }
 
--- a call: a control datagram or a user datagram with the reply buffer, a tick, send next due with the reply buffer, a place to close
+-- a call: a control datagram or a user datagram with the reply buffer, a tick, send next due with the reply buffer, a place to close, a place
+-- whose line is printed with the reply buffer
 pub data Event : Type 0 where
   control : List ℕ → List ℕ → Event
   user : List ℕ → List ℕ → Event
   tick : Event
   send : List ℕ → Event
   close : ℕ → Event
+  line : ℕ → List ℕ → Event
 
 -- what it leaves; a user datagram leaves all as it was
 unfoldable pub step : Event → State → State
@@ -43,6 +47,7 @@ step (user d reply) s = s
 step tick s = left (tickOf (s .node) (s .table))
 step (send reply) s = left (sendOf (s .node) (s .table) reply .answer)
 step (close place) s = left (closeOf (s .node) (s .table) place)
+step (line place reply) s = left (lineOf (s .node) (s .table) place reply .answer)
 
 -- the number that comes back
 unfoldable pub answered : Event → State → ℕ
@@ -51,6 +56,7 @@ answered (user d reply) s = userTaken (s .node) (s .table .recs) d reply .number
 answered tick s = tickOf (s .node) (s .table) .number
 answered (send reply) s = sendOf (s .node) (s .table) reply .answer .number
 answered (close place) s = closeOf (s .node) (s .table) place .number
+answered (line place reply) s = lineOf (s .node) (s .table) place reply .answer .number
 
 unfoldable pub run : List Event → State → State
 run [] s = s
@@ -70,6 +76,7 @@ ofOctets (user d reply) = true
 ofOctets tick = true
 ofOctets (send reply) = true
 ofOctets (close place) = true
+ofOctets (line place reply) = true
 
 -- a run as a caller can have it: under an accepted plan, every datagram of octets
 pub record Run (p : Plan) (es : List Event) : Type 0 where
@@ -80,6 +87,11 @@ pub record Run (p : Plan) (es : List Event) : Type 0 where
 abbrev pub Kept : State → Type 0
 Kept s = keepsRules (s .node) (s .table .recs) ≡ true
 
+-- the line of a place changes nothing
+pub line-step : (place : ℕ) (reply : List ℕ) (s : State) → step (line place reply) s ≡ s
+unfolding step left LineLeaves
+line-step place reply s = let e = calls-keep .line (s .node) (s .table) place reply in rw (e .0, e .1)
+
 pub step-keeps : (e : Event) (s : State) → ofOctets e ≡ true → Kept s → Kept (step e s)
 unfolding step left ofOctets
 step-keeps (control d reply) s o k = control-keeps (s .node) (s .table) k reply d o
@@ -87,6 +99,7 @@ step-keeps (user d reply) s o k = k
 step-keeps tick s o k = tick-keeps (s .node) (s .table) k
 step-keeps (send reply) s o k = send-keeps (s .node) (s .table) k reply
 step-keeps (close place) s o k = close-keeps (s .node) (s .table) k place
+step-keeps (line place reply) s o k = rw (line-step place reply s) k
 
 pub run-keeps : (es : List Event) (s : State) → every ofOctets es ≡ true → Kept s → Kept (run es s)
 unfolding run every

@@ -43,7 +43,7 @@ use Rattle.echoes.specs.Echoes.{heardBy, echoTaken, echoEnded, echoReplyTaken, 
 use Rattle.amends.specs.Amends.{causeTaken, modifyDone, modifyBy, modifyFor, modifyTaken, deleteDone, deleteBy, deleteFor, deleteTaken}
 use Rattle.creates.specs.Creates.{acceptedTaken, openedAt, shared, isRepeat, settledAt, heardCreate, createBy, createTaken}
 use Rattle.control.specs.Control.{kindTaken, gateTaken, controlTaken}
-use Rattle.demands.specs.Run.{State, left, Event, control, user, tick, send, close, step, run, start, reached}
+use Rattle.demands.specs.Run.{State, left, Event, control, user, tick, send, close, line, step, run, line-step, start, reached}
 
 pub heard-plan : (r : Recovery) (node : Node) (t : Table) → heardBy r node t .node .plan ≡ node .plan
 unfolding heardBy refused hearing
@@ -163,6 +163,7 @@ step-plan (user d reply) s = refl
 step-plan tick s = tick-plan (s .node) (s .table)
 step-plan (send reply) s = send-plan (s .node) (s .table) reply
 step-plan (close place) s = close-plan (s .node) (s .table) place
+step-plan (line place reply) s = rw (line-step place reply s)
 
 pub run-plan : (es : List Event) (s : State) → run es s .node .plan ≡ s .node .plan
 unfolding run

@@ -3,7 +3,7 @@ ghost use Rattle.demands.specs.Bounds.{RulesHold, NeitherTwoNorEleven, C
 ghost use Rattle.demands.specs.Share.{RefusalsJust, GuaranteesKept, FreedIsRoom};
 ghost use Rattle.demands.specs.Impossible.{NotAllRefused, NotOneReply, CountedFromRecords};
 ghost use Rattle.demands.specs.Ticks.{EveryTickCounts};
-ghost use Rattle.demands.specs.InTime.{FreedInTime};
+ghost use Rattle.demands.specs.InTime.{FreedInTime, NothingDue};
 
 // After any run the table keeps its rules.
 pub fn rules_hold_after_any_run()
@@ -63,4 +63,9 @@ pub fn live_is_counted_from_records()
 // If all due is sent before each tick, a place has been freed by the N × T-th tick after its close.
 pub fn closed_is_freed_in_time()
     ensures { λ _. ⌜ FreedInTime ⌝ }
+{}
+
+// When send next due answers 17, no place's request is due.
+pub fn nothing_is_due_after_seventeen()
+    ensures { λ _. ⌜ NothingDue ⌝ }
 {}
