@@ -8,3 +8,4 @@ pub mod Impossible
 pub mod Ticks
 pub mod Place
 pub mod InTime
+pub mod Packets

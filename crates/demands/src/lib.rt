@@ -4,6 +4,7 @@ ghost use Rattle.demands.specs.Share.{RefusalsJust, GuaranteesKept, Free
 ghost use Rattle.demands.specs.Impossible.{NotAllRefused, NotOneReply, CountedFromRecords};
 ghost use Rattle.demands.specs.Ticks.{EveryTickCounts};
 ghost use Rattle.demands.specs.InTime.{FreedInTime, NothingDue};
+ghost use Rattle.demands.specs.Packets.{LiveOnly, AllCarried};
 
 // After any run the table keeps its rules.
 pub fn rules_hold_after_any_run()
@@ -68,4 +69,14 @@ pub fn closed_is_freed_in_time()
 // When send next due answers 17, no place's request is due.
 pub fn nothing_is_due_after_seventeen()
     ensures { λ _. ⌜ NothingDue ⌝ }
+{}
+
+// After any run a user packet is handed up only under a live user number, and nothing is where there is a refusal or a reply.
+pub fn packets_go_up_under_live_numbers_alone()
+    ensures { λ _. ⌜ LiveOnly ⌝ }
+{}
+
+// After any run what a plain G-PDU to a live user number carries is what is handed up.
+pub fn packets_go_up_as_carried()
+    ensures { λ _. ⌜ AllCarried ⌝ }
 {}
