@@ -9,7 +9,7 @@ use mathlib.Core.Path.{_≡_, refl, sym, _∙_, ap}
 use native.Mathlib.Omega.{arith}
 use lib.ListN.{length, getD, List·getD-eq-default}
 use lib.Dec.{eqb, ltb}
-use borrow.Author.Tests.{eqb-true, ltb-true, ltb-false, ne-eqb}
+use borrow.Author.Tests.{eqb-true, eqb-false, ltb-true, ltb-false, ne-eqb}
 use mir.Val.{boolByte}
 use Rattle.octets.specs.Choice.{split, impossible}
 use Rattle.octets.specs.Sums.{sum-set}
@@ -103,6 +103,11 @@ pub record FreedIsRoom : Type 0 where
   pub room : (p : Plan) (es : List Event) → Run p es → (e : Event) → ofOctets e ≡ true
       → (d : List ℕ) (c : C.Create) → Fewer (c .point) (reached p es) (step e (reached p es)) → NewCreate p (step e (reached p es)) d c
       → (reply : List ℕ) → 128 ≤ length reply → answered (control d reply) (step e (reached p es)) ≡ 0
+  -- so it is where the call freed a place of the access point and left every other record as it was
+  pub place : (p : Plan) (es : List Event) → Run p es → (e : Event) → ofOctets e ≡ true
+      → (d : List ℕ) (c : C.Create) (i : ℕ) → isOn (c .point) (at (reached p es) i) ≡ true
+      → step e (reached p es) .table .recs ≡ changedAt freed i (reached p es .table .recs) → NewCreate p (step e (reached p es)) d c
+      → (reply : List ℕ) → 128 ≤ length reply → answered (control d reply) (step e (reached p es)) ≡ 0
 
 -- the counts: u < g, or S has become less
 fewer-admitted : (n : ℕ) (g c w v : ℕ → ℕ) (a : ℕ) → a < n → g a ≤ c a → Within n g c w → v a < w a → ((b : ℕ) → v b ≤ w b) → admitted n g c v a ≡ true
@@ -168,5 +173,19 @@ freed-room p es r e o d c f n reply room =
     h : c .point < parties p
     h = create-point p (step e (reached p es)) k q d c n reply room
 
+one-fewer : (a i : ℕ) (before after : State) → isOn a (at before i) ≡ true → after .table .recs ≡ changedAt freed i (before .table .recs) → Fewer a before after
+one-fewer a i before after h e =
+    let o = one-less a i (before .table .recs) h in
+    record {
+      less = let l = o .less in rw e (omega arith);
+      others = λ b. split (eqb a b)
+          (λ q. let f = eqb-true a b q in let l = o .less in rw (e, ← f) (omega arith))
+          (λ q. let l = o .others b (eqb-false a b q) in rw e (omega arith));
+    }
+
 pub freed-is-room : FreedIsRoom
-freed-is-room = record { counts = one-less; room = freed-room }
+freed-is-room = record {
+  counts = one-less;
+  room = freed-room;
+  place = λ p es r e o d c i h q. freed-room p es r e o d c (one-fewer (c .point) i (reached p es) (step e (reached p es)) h q);
+}
