@@ -3,6 +3,7 @@ pub mod Stays
 pub mod Bounds
 pub mod Creates
 pub mod Share
+pub mod Repeats
 pub mod Examples
 pub mod Impossible
 pub mod Ticks

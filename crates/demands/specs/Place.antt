@@ -50,6 +50,7 @@ use Rattle.amends.specs.Amends.{peersOf, causeTaken, modifyDone, modifyBy, modi
 use Rattle.creates.specs.Creates.{openingOf, acceptedTaken, openedAt, shared, isRepeat, settledAt, heardCreate, createBy, createTaken}
 use Rattle.control.specs.Control.{kindTaken, gateTaken, controlTaken}
 
+-- the session that a place had in a use is gone
 unfoldable pub gone : ℕ → Session → Bool
 gone usage s = isFree s || not (eqb (s .usage) usage)
 

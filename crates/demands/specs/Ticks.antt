@@ -32,6 +32,7 @@ pub record TickCounts (p : Plan) (s : State) : Type 0 where
   pub place : (i : ℕ) → i < 64 → 0 < at s i .own .timer → spent (p .sends) (s .node .echo) ≡ false → spent (p .sends) (at s i .own) ≡ false
       → at (step tick s) i .own .timer + 1 ≡ at s i .own .timer
   pub givenUp : (i : ℕ) → i < 64 → spent (p .sends) (at s i .own) ≡ true → isFree (at (step tick s) i) ≡ true
+  pub echoLost : (i : ℕ) → i < 64 → spent (p .sends) (s .node .echo) ≡ true → isFree (at (step tick s) i) ≡ true
 
 pub record EveryTickCounts : Type 0 where
   pub any : (p : Plan) (es : List Event) → Run p es → TickCounts p (reached p es)
@@ -75,6 +76,10 @@ module _ (p : Plan) (s : State) (k : Kept s) (plan : s .node .plan ≡ p) (size 
   unfolding ticked freed blankAt isFree
   place-up i h m = split (spent (p .sends) (s .node .echo)) (λ n. rw (all-freed i h n)) (λ n. rw (place-ticked i h n, m))
 
+  lost-up : (i : ℕ) → i < 64 → spent (p .sends) (s .node .echo) ≡ true → isFree (at (step tick s) i) ≡ true
+  unfolding freed blankAt isFree
+  lost-up i h n = rw (all-freed i h n)
+
 -- nothing is given up before it is sent
 unsent : (n : ℕ) (r : Request) → r .sends ≡ 0 → 1 ≤ n → spent n r ≡ false
 unfolding spent
@@ -106,6 +111,7 @@ every-tick-counts = record {
     echo = echo-down p (reached p es) (reached-keeps p es r) (reached-plan p es (r .plan)) (reached-rules p es r .size);
     place = place-down p (reached p es) (reached-keeps p es r) (reached-plan p es (r .plan)) (reached-rules p es r .size);
     givenUp = place-up p (reached p es) (reached-keeps p es r) (reached-plan p es (r .plan)) (reached-rules p es r .size);
+    echoLost = lost-up p (reached p es) (reached-keeps p es r) (reached-plan p es (r .plan)) (reached-rules p es r .size);
   };
   down = λ p a k h.
       let e = ap (λ (x : Request). x .timer) (start-echo p a) in

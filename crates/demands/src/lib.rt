@@ -1,6 +1,7 @@
 // The customer's demands over whole runs: each promise is a function with nothing in it, whose contract is the theorem.
 ghost use Rattle.demands.specs.Bounds.{RulesHold, NeitherTwoNorEleven, CeilingsKept, NoneShared};
 ghost use Rattle.demands.specs.Share.{RefusalsJust, GuaranteesKept, FreedIsRoom};
+ghost use Rattle.demands.specs.Repeats.{RepeatsAnswered};
 ghost use Rattle.demands.specs.Impossible.{NotAllRefused, NotOneReply, CountedFromRecords};
 ghost use Rattle.demands.specs.Ticks.{EveryTickCounts};
 ghost use Rattle.demands.specs.InTime.{FreedInTime, NothingDue};
@@ -79,4 +80,9 @@ pub fn packets_go_up_under_live_numbers_alone()
 // After any run what a plain G-PDU to a live user number carries is what is handed up.
 pub fn packets_go_up_as_carried()
     ensures { λ _. ⌜ AllCarried ⌝ }
+{}
+
+// After any run a Create that repeats a live session is answered from its record, and nothing else changes.
+pub fn repeats_are_answered_from_the_record()
+    ensures { λ _. ⌜ RepeatsAnswered ⌝ }
 {}
