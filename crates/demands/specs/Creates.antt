@@ -136,6 +136,11 @@ module _ (p : Plan) (s : State) (kept : Kept s) (plan : s .node .plan ≡ p) (d 
       rw (lt-ltb (firstOf isFree (asked c s)) (length (asked c s))
       (place-free (heard c s .node .plan) (heard c s .node .echo) (heard c s .node .next) (asked c s) asked-rules (c .point) f))
 
+  pub place-in : admits p (askedU c s) (c .point) ≡ true → freePlace (asked c s) < length (asked c s)
+  place-in e =
+      let f : admits (heard c s .node .plan) (live (asked c s)) (c .point) ≡ true = rw asked-plan e in
+      place-free (heard c s .node .plan) (heard c s .node .echo) (heard c s .node .next) (asked c s) asked-rules (c .point) f
+
   pub create-accepted : admits p (askedU c s) (c .point) ≡ true → controlTaken (s .node) (s .table) d reply ≡ acceptedOf seq c s reply
   unfolding shared openedAt acceptedOf held
   create-accepted e =
