@@ -1,0 +1,12 @@
+pub mod Run
+pub mod Stays
+pub mod Bounds
+pub mod Creates
+pub mod Share
+pub mod Repeats
+pub mod Examples
+pub mod Impossible
+pub mod Ticks
+pub mod Place
+pub mod InTime
+pub mod Packets

@@ -1,0 +1,225 @@
+-- One place followed through the calls: what each call makes of its record. A session is gone when its place is free, or taken again in another
+-- use: one call may free a place and take it again.
+-- Assumes nothing.
+use Prim.Native.Nat.{ℕ, _<_}
+use mathlib.Core.Bool.{Bool, true, false, not, _||_}
+use mathlib.Core.List.{List}
+use mathlib.Core.Logic.{_≢_}
+use mathlib.Core.Path.{_≡_, refl, sym, _∙_}
+use native.Mathlib.Omega.{arith}
+use lib.ListN.{length, drop, getD, length-map}
+use lib.Dec.{eqb, ltb}
+use borrow.Author.Tests.{eqb-true, eqb-false, ne-eqb}
+use Rattle.octets.specs.Choice.{split, impossible, tests}
+use Rattle.octets.specs.Places.{map-at}
+use Rattle.tunnel.specs.Numbering.{controlOffset, lastUse}
+use Rattle.tunnel.specs.Tunnel.{nextUse}
+use Rattle.sharing.specs.Sharing.{admits}
+use Rattle.session.specs.declared.Session.{Session}
+use Rattle.session.specs.declared.Opening.{Opening}
+use Rattle.session.specs.declared.Peers.{Peers}
+use Rattle.session.specs.Request.{awaits}
+use Rattle.session.specs.Session.{isFree, hasId, waitsFor, blankAt, freed, opened, moved}
+use Rattle.table.specs.declared.Node.{Node}
+use Rattle.table.specs.declared.Table.{Table}
+use Rattle.table.specs.declared.Found.{Found}
+use Rattle.table.specs.declared.Found.the-variants as F
+use Rattle.table.specs.Rules.{keepsRules, live}
+use Rattle.table.specs.Change.{nobody, changedAt, length-changed, changed-here, changed-other}
+use Rattle.table.specs.Find.{foundIn, ownerOf}
+use Rattle.table.specs.Own.{restarted, keptAfter}
+use Rattle.header.specs.declared.HeaderCursor.{HeaderCursor}
+use Rattle.header.specs.Header.{headerOf}
+use Rattle.header.specs.Gate.{gateOf}
+use Rattle.readers.specs.declared.Recovery.{Recovery}
+use Rattle.readers.specs.declared.Recovery.the-variants as R
+use Rattle.carried.specs.Carried as carried
+use Rattle.carried.specs.declared.EchoReply.{EchoReply}
+use Rattle.carried.specs.declared.EchoReply.the-variants as E
+use Rattle.carried.specs.declared.BearerReply.{BearerReply}
+use Rattle.carried.specs.declared.BearerReply.the-variants as B
+use Rattle.requests.specs.declared.Create as C
+use Rattle.requests.specs.declared.Decoded.{Decoded}
+use Rattle.requests.specs.declared.Decoded.the-variants as D
+use Rattle.requests.specs.declared.Request.the-variants as Q
+use Rattle.requests.specs.Create.{createOf, replyTo}
+use Rattle.changes.specs.Change.{modifyOf, deleteOf}
+use Rattle.timing.specs.Timing.{leastReply, held, refused}
+use Rattle.echoes.specs.Echoes.{heardBy, echoTaken, echoEnded, echoReplyTaken, sameFound, freedFound, bearerReplyTaken}
+use Rattle.amends.specs.Amends.{peersOf, causeTaken, modifyDone, modifyBy, modifyFor, modifyTaken, deleteDone, deleteBy, deleteFor, deleteTaken}
+use Rattle.creates.specs.Creates.{openingOf, acceptedTaken, openedAt, shared, isRepeat, settledAt, heardCreate, createBy, createTaken}
+use Rattle.control.specs.Control.{kindTaken, gateTaken, controlTaken}
+
+-- the session that a place had in a use is gone
+unfoldable pub gone : ℕ → Session → Bool
+gone usage s = isFree s || not (eqb (s .usage) usage)
+
+-- still the same session: its state and its own request as they were
+pub record Same (s x : Session) : Type 0 where
+  pub state : x .state ≡ s .state
+  pub own : x .own ≡ s .own
+
+-- the session is gone, or the same
+abbrev pub After : Session → Session → Type 0
+After s x = gone (s .usage) x ≡ false → Same s x
+
+-- and, so far, no new one has come
+record Left (s x : Session) : Type 0 where
+  usage : x .usage ≡ s .usage
+  after : After s x
+
+left-same : (s : Session) → Left s s
+left-same s = record { usage = refl; after = λ g. record { state = refl; own = refl } }
+
+pub freed-gone : (usage : ℕ) (x : Session) → gone usage (freed x) ≡ true
+unfolding gone freed blankAt isFree
+freed-gone usage x = refl
+
+freed-after : (s x : Session) → After s (freed x)
+freed-after s x g = impossible (sym g ∙ freed-gone (s .usage) x)
+
+left-freed : (s x : Session) → x .usage ≡ s .usage → Left s (freed x)
+unfolding freed blankAt
+left-freed s x e = record { usage = e; after = freed-after s x }
+
+moved-after : (s x : Session) (q : Peers) → Left s x → After s (moved q x)
+unfolding moved gone isFree
+moved-after s x q l g = let m = l .after g in record { state = m .state; own = m .own }
+
+-- taking a place steps its use, so that it is never the same
+next-other : (usage : ℕ) → nextUse usage ≢ usage
+unfolding nextUse lastUse
+next-other usage e = split (ltb usage 16777215) (λ t. let f = rw t at e in omega arith) (λ t. let f = rw t at e in omega (arith, tests))
+
+opened-after : (s x : Session) (o : Opening) → x .usage ≡ s .usage → After s (opened o x)
+unfolding gone opened isFree
+opened-after s x o e g = let f : eqb (nextUse (x .usage)) (s .usage) ≡ false = ne-eqb (nextUse (x .usage)) (s .usage) (λ z. next-other (x .usage) (z ∙ sym e)) in impossible (sym (rw f at g))
+
+-- ---- one record changed: what is at place i is as it was, or changed if it is that one
+pub at-changed : (P : Session → Type 0) (f : Session → Session) (l : List Session) (i j : ℕ) → i < length l
+    → P (getD l i nobody) → (i ≡ j → P (f (getD l i nobody))) → P (getD (changedAt f j l) i nobody)
+at-changed P f l i j h a b =
+    split (eqb i j)
+    (λ t. let e = eqb-true i j t in
+    let q : getD (changedAt f j l) i nobody ≡ f (getD l i nobody) = rw (← e) (changed-here f i l nobody h) in
+    rw q (b e))
+    (λ t. rw (changed-other f j l i nobody (eqb-false i j t)) a)
+
+module _ (i : ℕ) (l₀ : List Session) where
+  abbrev s₀ : Session
+  s₀ = getD l₀ i nobody
+
+  freed-at : (l : List Session) (j : ℕ) → i < length l → Left s₀ (getD l i nobody) → Left s₀ (getD (changedAt freed j l) i nobody)
+  freed-at l j h q = at-changed (Left s₀) freed l i j h q (λ e. left-freed s₀ (getD l i nobody) (q .usage))
+
+  -- Recovery
+  heard-at : (r : Recovery) (node : Node) (t : Table) → t .recs ≡ l₀ → i < length l₀ → Left s₀ (getD (heardBy r node t .table .recs) i nobody)
+  unfolding heardBy refused held keptAfter
+  heard-at R.None node t e h = rw e (left-same s₀)
+  heard-at (R.Value value) node t e h =
+      split (restarted node value)
+      (λ q. rw (q, e, map-at freed l₀ i nobody nobody h) (left-freed s₀ s₀ refl))
+      (λ q. rw (q, e) (left-same s₀))
+
+heard-length : (r : Recovery) (node : Node) (t : Table) → length (heardBy r node t .table .recs) ≡ length (t .recs)
+unfolding heardBy refused held keptAfter
+heard-length R.None node t = refl
+heard-length (R.Value value) node t = split (restarted node value) (λ q. rw (q, length-map (t .recs) freed)) (λ q. rw q)
+
+-- ---- each type of control datagram
+module _ (i : ℕ) (node : Node) (t : Table) (h : i < length (t .recs)) where
+  abbrev here : Session
+  here = getD (t .recs) i nobody
+
+  freed-found : (f : Found) → After here (getD (freedFound f node t .table .recs) i nobody)
+  unfolding freedFound refused held
+  freed-found (F.At j) = freed-at i (t .recs) (t .recs) j h (left-same here) .after
+  freed-found F.Nothing = left-same here .after
+
+  echo-reply-at : (seq : ℕ) (r : EchoReply) → After here (getD (echoReplyTaken node t seq r .table .recs) i nobody)
+  unfolding echoReplyTaken echoEnded refused
+  echo-reply-at seq E.Unreadable = left-same here .after
+  echo-reply-at seq (E.Carries r) = split (awaits seq (node .echo)) (λ a. rw a (heard-at i (t .recs) r node t refl h .after)) (λ a. rw a (left-same here .after))
+
+  bearer-at : (teid seq : ℕ) (b : BearerReply) → After here (getD (bearerReplyTaken node t teid seq b .table .recs) i nobody)
+  unfolding bearerReplyTaken refused
+  bearer-at teid seq B.Unreadable = left-same here .after
+  bearer-at teid seq (B.Cause c) = freed-found (sameFound (foundIn (waitsFor seq) (t .recs)) (ownerOf controlOffset teid (t .recs)))
+
+  modify-at : (teid seq : ℕ) (rest reply : List ℕ) → After here (getD (modifyTaken node t teid seq rest reply .answer .table .recs) i nobody)
+  unfolding modifyTaken modifyFor modifyBy modifyDone causeTaken held
+  modify-at teid seq rest reply = found (ownerOf controlOffset teid (t .recs))
+    where
+      by : (j : ℕ) (s : Session) (d : Decoded) → After here (getD (modifyBy d seq j s node t reply .answer .table .recs) i nobody)
+      by j s (D.Refused w) = left-same here .after
+      by j s (D.Sound (Q.Modify m)) =
+          at-changed (After here) (moved (peersOf m s)) (t .recs) i j h (left-same here .after) (λ e. moved-after here here (peersOf m s) (left-same here))
+      by j s (D.Sound (Q.Create c)) = left-same here .after
+      by j s (D.Sound (Q.Delete d)) = left-same here .after
+
+      found : (f : Found) → After here (getD (modifyFor f seq rest node t reply .answer .table .recs) i nobody)
+      found F.Nothing = left-same here .after
+      found (F.At j) = by j (getD (t .recs) j nobody) (modifyOf (getD (t .recs) j nobody .ebi) rest)
+
+  delete-at : (teid seq : ℕ) (rest reply : List ℕ) → After here (getD (deleteTaken node t teid seq rest reply .answer .table .recs) i nobody)
+  unfolding deleteTaken deleteFor deleteBy deleteDone causeTaken held
+  delete-at teid seq rest reply = found (ownerOf controlOffset teid (t .recs))
+    where
+      by : (j : ℕ) (s : Session) (d : Decoded) → After here (getD (deleteBy d seq j s node t reply .answer .table .recs) i nobody)
+      by j s (D.Refused w) = left-same here .after
+      by j s (D.Sound q) = freed-at i (t .recs) (t .recs) j h (left-same here) .after
+
+      found : (f : Found) → After here (getD (deleteFor f seq rest node t reply .answer .table .recs) i nobody)
+      found F.Nothing = left-same here .after
+      found (F.At j) = by j (getD (t .recs) j nobody) (deleteOf (getD (t .recs) j nobody .ebi) rest)
+
+  -- Create: what Recovery and the replaced session left, and the place that is taken
+  module _ (c : C.Create) (seq : ℕ) (reply : List ℕ) where
+    shared-at : (n : Node) (m : List Session) → i < length m → Left here (getD m i nobody)
+        → After here (getD (shared c seq n (held m) node t reply .answer .table .recs) i nobody)
+    unfolding shared openedAt acceptedTaken causeTaken refused held
+    shared-at n m k q = split (admits (n .plan) (live m) (c .point)) (λ a. rw a (place (foundIn isFree m))) (λ a. rw a (q .after))
+      where
+        place : (f : Found) → After here (getD (openedAt f c seq n (held m) node t reply .answer .table .recs) i nobody)
+        place F.Nothing = left-same here .after
+        place (F.At j) = at-changed (After here) (opened (openingOf c seq)) m i j k (q .after) (λ e. opened-after here (getD m i nobody) (openingOf c seq) (q .usage))
+
+    settled-at : (n : Node) (b : Table) → i < length (b .recs) → Left here (getD (b .recs) i nobody) → (f : Found)
+        → After here (getD (settledAt f c seq n b node t reply .answer .table .recs) i nobody)
+    unfolding settledAt acceptedTaken held
+    settled-at n b k q F.Nothing = shared-at n (b .recs) k q
+    settled-at n b k q (F.At j) =
+        split (isRepeat c seq (getD (b .recs) j nobody)) (λ x. rw x (q .after))
+        (λ x. rw x (shared-at n (changedAt freed j (b .recs)) (let z = length-changed freed j (b .recs) in omega arith) (freed-at i (t .recs) (b .recs) j k q)))
+
+  create-at : (seq : ℕ) (rest reply : List ℕ) → After here (getD (createTaken node t seq rest reply .answer .table .recs) i nobody)
+  unfolding createTaken createBy heardCreate causeTaken
+  create-at seq rest reply = by (createOf (node .plan) rest)
+    where
+      by : (d : Decoded) → After here (getD (createBy d seq (replyTo rest) node t reply .answer .table .recs) i nobody)
+      by (D.Refused w) = left-same here .after
+      by (D.Sound (Q.Create c)) =
+          settled-at c seq reply (heardBy (c .recovery) node t .node) (heardBy (c .recovery) node t .table) (let z = heard-length (c .recovery) node t in omega arith)
+          (heard-at i (t .recs) (c .recovery) node t refl h) (foundIn (hasId (c .imsi) (c .ebi)) (heardBy (c .recovery) node t .table .recs))
+      by (D.Sound (Q.Modify m)) = left-same here .after
+      by (D.Sound (Q.Delete d)) = left-same here .after
+
+  kind-at : (x : HeaderCursor) (rest reply : List ℕ) → After here (getD (kindTaken x rest node t reply .answer .table .recs) i nobody)
+  unfolding kindTaken echoTaken refused
+  kind-at x rest reply =
+      split (eqb (x .kind) 1) (λ a. rw a (heard-at i (t .recs) (carried.echoOf rest) node t refl h .after))
+      (λ a. split (eqb (x .kind) 2) (λ b. rw (a, b) (echo-reply-at (x .sequence) (carried.echoReplyOf rest)))
+      (λ b. split (eqb (x .kind) 32) (λ c. rw (a, b, c) (create-at (x .sequence) rest reply))
+      (λ c. split (eqb (x .kind) 34) (λ d. rw (a, b, c, d) (modify-at (x .teid) (x .sequence) rest reply))
+      (λ d. split (eqb (x .kind) 36) (λ f. rw (a, b, c, d, f) (delete-at (x .teid) (x .sequence) rest reply))
+      (λ f. split (eqb (x .kind) 100) (λ g. rw (a, b, c, d, f, g) (bearer-at (x .teid) (x .sequence) (carried.bearerReplyOf rest)))
+      (λ g. rw (a, b, c, d, f, g) (left-same here .after)))))))
+
+  pub control-at : (d reply : List ℕ) → After here (getD (controlTaken node t d reply .answer .table .recs) i nobody)
+  unfolding controlTaken gateTaken refused
+  control-at d reply =
+      split (ltb (length reply) leastReply) (λ a. rw a (left-same here .after))
+      (λ a. split (keepsRules node (t .recs))
+      (λ e. split (eqb (gateOf d) 0) (λ b. rw (a, e, b) (kind-at (headerOf d) (drop (headerOf d .fields) d) reply))
+      (λ b. split (eqb (gateOf d) 5) (λ c. rw (a, e, b, c) (left-same here .after)) (λ c. rw (a, e, b, c) (left-same here .after))))
+      (λ e. rw (a, e) (left-same here .after)))

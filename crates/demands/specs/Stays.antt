@@ -1,0 +1,179 @@
+-- The plan stays: no call changes it, so that after any run the unit goes by the plan it was started with.
+-- Assumes nothing.
+use Prim.Native.Nat.{ℕ}
+use mathlib.Core.Bool.{true}
+use mathlib.Core.List.{List, [], _∷_}
+use mathlib.Core.Path.{_≡_, refl, _∙_}
+use lib.ListN.{length, drop, getD}
+use lib.Dec.{eqb, ltb}
+use Rattle.octets.specs.Choice.{split}
+use Rattle.plan.specs.declared.Plan.{Plan}
+use Rattle.plan.specs.Plan.{accepted}
+use Rattle.sharing.specs.Sharing.{admits}
+use Rattle.session.specs.declared.Session.{Session}
+use Rattle.session.specs.Request.{awaits}
+use Rattle.session.specs.Session.{isFree, hasId, freed, waitsFor}
+use Rattle.tunnel.specs.Numbering.{controlOffset}
+use Rattle.table.specs.declared.Node.{Node}
+use Rattle.table.specs.declared.Table.{Table}
+use Rattle.table.specs.declared.Found.{Found}
+use Rattle.table.specs.declared.Found.the-variants as F
+use Rattle.table.specs.Rules.{keepsRules, live}
+use Rattle.table.specs.Change.{nobody, changedAt}
+use Rattle.table.specs.Find.{foundIn, ownerOf}
+use Rattle.table.specs.Own.{hearing, freshNode, duePlace}
+use Rattle.header.specs.declared.HeaderCursor.{HeaderCursor}
+use Rattle.header.specs.Header.{headerOf}
+use Rattle.header.specs.Gate.{gateOf}
+use Rattle.readers.specs.declared.Recovery.{Recovery}
+use Rattle.readers.specs.declared.Recovery.the-variants as R
+use Rattle.carried.specs.Carried as carried
+use Rattle.carried.specs.declared.EchoReply.{EchoReply}
+use Rattle.carried.specs.declared.EchoReply.the-variants as E
+use Rattle.carried.specs.declared.BearerReply.{BearerReply}
+use Rattle.carried.specs.declared.BearerReply.the-variants as B
+use Rattle.requests.specs.declared.Create as C
+use Rattle.requests.specs.declared.Decoded.{Decoded}
+use Rattle.requests.specs.declared.Decoded.the-variants as D
+use Rattle.requests.specs.declared.Request.the-variants as Q
+use Rattle.requests.specs.Create.{createOf, replyTo}
+use Rattle.changes.specs.Change.{modifyOf, deleteOf}
+use Rattle.timing.specs.Timing.{leastReply, timed, held, refused, freshOf, tickOf, closable, closeOf, echoSent, placeSent, dueSent, sendOf}
+use Rattle.echoes.specs.Echoes.{heardBy, echoTaken, echoEnded, echoReplyTaken, sameFound, freedFound, bearerReplyTaken}
+use Rattle.amends.specs.Amends.{causeTaken, modifyDone, modifyBy, modifyFor, modifyTaken, deleteDone, deleteBy, deleteFor, deleteTaken}
+use Rattle.creates.specs.Creates.{acceptedTaken, openedAt, shared, isRepeat, settledAt, heardCreate, createBy, createTaken}
+use Rattle.control.specs.Control.{kindTaken, gateTaken, controlTaken}
+use Rattle.demands.specs.Run.{State, left, Event, control, user, tick, send, close, line, step, run, line-step, start, reached}
+
+pub heard-plan : (r : Recovery) (node : Node) (t : Table) → heardBy r node t .node .plan ≡ node .plan
+unfolding heardBy refused hearing
+heard-plan R.None node t = refl
+heard-plan (R.Value value) node t = refl
+
+echo-reply-plan : (node : Node) (t : Table) (seq : ℕ) (r : EchoReply) → echoReplyTaken node t seq r .node .plan ≡ node .plan
+unfolding echoReplyTaken echoEnded timed refused
+echo-reply-plan node t seq E.Unreadable = refl
+echo-reply-plan node t seq (E.Carries r) = split (awaits seq (node .echo)) (λ a. rw a (heard-plan r node t)) (λ a. rw a)
+
+freed-plan : (f : Found) (node : Node) (t : Table) → freedFound f node t .node .plan ≡ node .plan
+unfolding freedFound refused
+freed-plan (F.At i) node t = refl
+freed-plan F.Nothing node t = refl
+
+bearer-plan : (node : Node) (t : Table) (teid seq : ℕ) (b : BearerReply) → bearerReplyTaken node t teid seq b .node .plan ≡ node .plan
+unfolding bearerReplyTaken refused
+bearer-plan node t teid seq B.Unreadable = refl
+bearer-plan node t teid seq (B.Cause c) = freed-plan (sameFound (foundIn (waitsFor seq) (t .recs)) (ownerOf controlOffset teid (t .recs))) node t
+
+modify-plan : (node : Node) (t : Table) (teid seq : ℕ) (rest reply : List ℕ) → modifyTaken node t teid seq rest reply .answer .node .plan ≡ node .plan
+unfolding modifyTaken modifyFor modifyBy modifyDone causeTaken
+modify-plan node t teid seq rest reply = found (ownerOf controlOffset teid (t .recs))
+  where
+    by : (i : ℕ) (s : Session) (d : Decoded) → modifyBy d seq i s node t reply .answer .node .plan ≡ node .plan
+    by i s (D.Refused w) = refl
+    by i s (D.Sound (Q.Modify m)) = refl
+    by i s (D.Sound (Q.Create c)) = refl
+    by i s (D.Sound (Q.Delete d)) = refl
+
+    found : (f : Found) → modifyFor f seq rest node t reply .answer .node .plan ≡ node .plan
+    found F.Nothing = refl
+    found (F.At i) = by i (getD (t .recs) i nobody) (modifyOf (getD (t .recs) i nobody .ebi) rest)
+
+delete-plan : (node : Node) (t : Table) (teid seq : ℕ) (rest reply : List ℕ) → deleteTaken node t teid seq rest reply .answer .node .plan ≡ node .plan
+unfolding deleteTaken deleteFor deleteBy deleteDone causeTaken
+delete-plan node t teid seq rest reply = found (ownerOf controlOffset teid (t .recs))
+  where
+    by : (i : ℕ) (s : Session) (d : Decoded) → deleteBy d seq i s node t reply .answer .node .plan ≡ node .plan
+    by i s (D.Refused w) = refl
+    by i s (D.Sound q) = refl
+
+    found : (f : Found) → deleteFor f seq rest node t reply .answer .node .plan ≡ node .plan
+    found F.Nothing = refl
+    found (F.At i) = by i (getD (t .recs) i nobody) (deleteOf (getD (t .recs) i nobody .ebi) rest)
+
+module _ (c : C.Create) (seq : ℕ) (node₀ : Node) (t₀ : Table) (reply : List ℕ) where
+  shared-plan : (node : Node) (t : Table) → node .plan ≡ node₀ .plan → shared c seq node t node₀ t₀ reply .answer .node .plan ≡ node₀ .plan
+  unfolding shared openedAt acceptedTaken causeTaken refused
+  shared-plan node t e = split (admits (node .plan) (live (t .recs)) (c .point)) (λ q. rw q (place (foundIn isFree (t .recs)))) (λ q. rw q e)
+    where
+      place : (f : Found) → openedAt f c seq node t node₀ t₀ reply .answer .node .plan ≡ node₀ .plan
+      place F.Nothing = refl
+      place (F.At i) = e
+
+  settled-plan : (node : Node) (t : Table) → node .plan ≡ node₀ .plan → (f : Found) → settledAt f c seq node t node₀ t₀ reply .answer .node .plan ≡ node₀ .plan
+  unfolding settledAt acceptedTaken
+  settled-plan node t e F.Nothing = shared-plan node t e
+  settled-plan node t e (F.At i) =
+      split (isRepeat c seq (getD (t .recs) i nobody)) (λ x. rw x e) (λ x. rw x (shared-plan node (held (changedAt freed i (t .recs))) e))
+
+create-plan : (node : Node) (t : Table) (seq : ℕ) (rest reply : List ℕ) → createTaken node t seq rest reply .answer .node .plan ≡ node .plan
+unfolding createTaken createBy heardCreate causeTaken
+create-plan node t seq rest reply = by (createOf (node .plan) rest)
+  where
+    by : (d : Decoded) → createBy d seq (replyTo rest) node t reply .answer .node .plan ≡ node .plan
+    by (D.Refused w) = refl
+    by (D.Sound (Q.Create c)) =
+        settled-plan c seq node t reply (heardBy (c .recovery) node t .node) (heardBy (c .recovery) node t .table) (heard-plan (c .recovery) node t)
+        (foundIn (hasId (c .imsi) (c .ebi)) (heardBy (c .recovery) node t .table .recs))
+    by (D.Sound (Q.Modify m)) = refl
+    by (D.Sound (Q.Delete d)) = refl
+
+module _ (node : Node) (t : Table) where
+  kind-plan : (h : HeaderCursor) (rest reply : List ℕ) → kindTaken h rest node t reply .answer .node .plan ≡ node .plan
+  unfolding kindTaken echoTaken refused
+  kind-plan h rest reply =
+      split (eqb (h .kind) 1) (λ a. rw a (heard-plan (carried.echoOf rest) node t))
+      (λ a. split (eqb (h .kind) 2) (λ b. rw (a, b) (echo-reply-plan node t (h .sequence) (carried.echoReplyOf rest)))
+      (λ b. split (eqb (h .kind) 32) (λ c. rw (a, b, c) (create-plan node t (h .sequence) rest reply))
+      (λ c. split (eqb (h .kind) 34) (λ d. rw (a, b, c, d) (modify-plan node t (h .teid) (h .sequence) rest reply))
+      (λ d. split (eqb (h .kind) 36) (λ f. rw (a, b, c, d, f) (delete-plan node t (h .teid) (h .sequence) rest reply))
+      (λ f. split (eqb (h .kind) 100) (λ g. rw (a, b, c, d, f, g) (bearer-plan node t (h .teid) (h .sequence) (carried.bearerReplyOf rest)))
+      (λ g. rw (a, b, c, d, f, g)))))))
+
+  control-plan : (d reply : List ℕ) → controlTaken node t d reply .answer .node .plan ≡ node .plan
+  unfolding controlTaken gateTaken refused
+  control-plan d reply =
+      split (ltb (length reply) leastReply) (λ a. rw a)
+      (λ a. split (keepsRules node (t .recs))
+      (λ e. split (eqb (gateOf d) 0) (λ b. rw (a, e, b) (kind-plan (headerOf d) (drop (headerOf d .fields) d) reply))
+      (λ b. split (eqb (gateOf d) 5) (λ c. rw (a, e, b, c)) (λ c. rw (a, e, b, c))))
+      (λ e. rw (a, e)))
+
+  tick-plan : tickOf node t .node .plan ≡ node .plan
+  unfolding tickOf timed refused
+  tick-plan = split (keepsRules node (t .recs)) (λ e. rw e) (λ e. rw e)
+
+  close-plan : (i : ℕ) → closeOf node t i .node .plan ≡ node .plan
+  unfolding closeOf refused
+  close-plan i = split (keepsRules node (t .recs)) (λ e. split (closable i (t .recs)) (λ q. rw (e, q)) (λ q. rw (e, q))) (λ e. rw e)
+
+  send-plan : (reply : List ℕ) → sendOf node t reply .answer .node .plan ≡ node .plan
+  unfolding sendOf dueSent echoSent placeSent timed refused
+  send-plan reply =
+      split (ltb (length reply) leastReply) (λ a. rw a)
+      (λ a. split (keepsRules node (t .recs))
+      (λ e. split (eqb (node .echo .timer) 0) (λ z. rw (a, e, z))
+      (λ z. split (ltb (duePlace (t .recs)) (length (t .recs))) (λ d. rw (a, e, z, d)) (λ d. rw (a, e, z, d))))
+      (λ e. rw (a, e)))
+
+pub step-plan : (e : Event) (s : State) → step e s .node .plan ≡ s .node .plan
+unfolding step left
+step-plan (control d reply) s = control-plan (s .node) (s .table) d reply
+step-plan (user d reply) s = refl
+step-plan tick s = tick-plan (s .node) (s .table)
+step-plan (send reply) s = send-plan (s .node) (s .table) reply
+step-plan (close place) s = close-plan (s .node) (s .table) place
+step-plan (line place reply) s = rw (line-step place reply s)
+
+pub run-plan : (es : List Event) (s : State) → run es s .node .plan ≡ s .node .plan
+unfolding run
+run-plan [] s = refl
+run-plan (e ∷ es) s = run-plan es (step e s) ∙ step-plan e s
+
+pub start-plan : (p : Plan) → accepted p ≡ true → start p .node .plan ≡ p
+unfolding start left freshOf freshNode
+start-plan p a = rw a
+
+pub reached-plan : (p : Plan) (es : List Event) → accepted p ≡ true → reached p es .node .plan ≡ p
+unfolding reached
+reached-plan p es a = run-plan es (start p) ∙ start-plan p a

@@ -1,0 +1,196 @@
+-- Reading what is written gives back what was meant: every message of the control side, read with the readers of this house, has the type, TEID,
+-- sequence number and fields that it was written with.
+-- Assumes nothing.
+use Prim.Native.Nat.{ℕ, _+_, _%_, _<_, _≤_}
+use mathlib.Core.Bool.{true, false}
+use mathlib.Core.List.{List, [], _∷_, _++_}
+use mathlib.Core.Path.{_≡_, refl}
+use native.Mathlib.Omega.{arith}
+use lib.ListN.{length, drop}
+use lib.Dec.{eqb, leb, ltb}
+use borrow.Author.Tests.{lt-ltb, le-ltb}
+use Rattle.octets.specs.Choice.{pick}
+use Rattle.octets.specs.BigEndian.{numberOf, numberFrom, octetsOf, number-back}
+use Rattle.messages.specs.Messages as messages
+use Rattle.messages.specs.Messages.{headerTo, versionNotSupported, causeField, faultField, tunnelField, ebiField, causeReply, faultReply, createAccepted, modifyBearer, deleteBearer}
+use Rattle.header.specs.Types.{bareTypes, tunnelTypes, notTaken, flagOf}
+use Rattle.header.specs.Header.{versionOf, flagP, flagT, kindOf, lengthOf, withTeid, teidOctets, teidOf, sequenceOf, sequenceBehind, sequenceBare, headerSize, headerOf}
+use Rattle.header.specs.Gate.{gateOf, controlVersion, createType}
+use Rattle.fields.specs.declared.Found.the-variants as F
+use Rattle.fields.specs.Walk.{part, fieldsFrom, overFrom, fieldsOf, overruns}
+use Rattle.fields.specs.Search.{find, firstIn}
+use Rattle.fields.specs.Overrun.{overIn, overWithin}
+use Rattle.values.specs.declared.Tunnel.{Tunnel}
+use Rattle.values.specs.declared.Tunnel.the-variants as T
+use Rattle.values.specs.Tunnel.{tunnelSize, wordAt, tunnelGood, tunnelOf}
+use Rattle.readers.specs.declared.Octet.the-variants as O
+use Rattle.readers.specs.declared.Recovery.the-variants as R
+use Rattle.readers.specs.Kinds.{causeKind, paaKind, bearerKind, tunnelKind}
+use Rattle.readers.specs.Readers.{octetAt, octetIn, paaIn, ebiIn, tunnelAt, tunnelIn, recoveryOf, recoveryIn}
+use Rattle.carried.specs.Carried as carried
+use Rattle.carried.specs.declared.EchoReply.the-variants as E
+use Rattle.carried.specs.declared.BearerReply.the-variants as B
+
+-- ---- the header: version 2, the type, the length that is the size less 4, the TEID (0 where there is none), the sequence number, and where the
+-- fields begin
+pub record HeaderRead (d : List ℕ) (kind teid sequence fields : ℕ) : Type 0 where
+  pub version : versionOf d ≡ 2
+  pub whole : lengthOf d + 4 ≡ length d
+  pub header : headerOf d ≡ record { kind = kind; teid = teid; sequence = sequence; fields = fields }
+
+-- a sequence number has 24 bits, a TEID and an address 32
+abbrev pub Seq : ℕ → Type 0
+Seq n = n < 16777216
+
+abbrev pub Word : ℕ → Type 0
+Word n = n < 4294967296
+
+-- ---- Echo Request and Echo Response
+pub record EchoRead (seq recovery : ℕ) : Type 0 where
+  pub asks : HeaderRead (messages.echoOf 1 seq recovery) 1 0 seq 8
+  pub answers : HeaderRead (messages.echoOf 2 seq recovery) 2 0 seq 8
+  pub asksTaken : gateOf (messages.echoOf 1 seq recovery) ≡ 0
+  pub answersTaken : gateOf (messages.echoOf 2 seq recovery) ≡ 0
+  pub asksCarries : carried.echoOf (drop 8 (messages.echoOf 1 seq recovery)) ≡ R.Value recovery
+  pub answersCarries : carried.echoReplyOf (drop 8 (messages.echoOf 2 seq recovery)) ≡ E.Carries (R.Value recovery)
+
+-- ---- a reply with a cause, alone or with the field at fault
+pub record CauseRead (type teid seq cause field instance : ℕ) : Type 0 where
+  pub bare : HeaderRead (causeReply type teid seq cause) type teid seq 12
+  pub named : HeaderRead (faultReply type teid seq cause field instance) type teid seq 12
+  pub bareCause : carried.bearerReplyOf (drop 12 (causeReply type teid seq cause)) ≡ B.Cause cause
+  pub namedCause : carried.bearerReplyOf (drop 12 (faultReply type teid seq cause field instance)) ≡ B.Cause cause
+
+-- ---- the accepted reply to a Create: the places of its PAA and its Bearer Context, and every field
+pub record CreateRead (d : List ℕ) (teid seq control controladdr address ebi user useraddr recovery : ℕ) : Type 0 where
+  pub header : HeaderRead d 33 teid seq 12
+  pub runs : overIn (drop 12 d) ≡ false
+  pub cause : octetIn (drop 12 d) causeKind 2 ≡ O.Value 16
+  pub controlTunnel : tunnelIn (drop 12 d) 1 7 ≡ T.Value control controladdr
+  pub paa : paaIn (drop 12 d) ≡ O.Value 1
+  pub paaAt : find (drop 12 d) paaKind 0 ≡ F.At 23 5
+  pub pdnAddress : wordAt (part (drop 12 d) 23 5) 1 ≡ address
+  pub bearerAt : find (drop 12 d) bearerKind 0 ≡ F.At 37 24
+  pub bearerEbi : ebiIn (part (drop 12 d) 37 24) ≡ O.Value ebi
+  pub bearerCause : octetIn (part (drop 12 d) 37 24) causeKind 2 ≡ O.Value 16
+  pub userTunnel : tunnelIn (part (drop 12 d) 37 24) 2 5 ≡ T.Value user useraddr
+  pub recoveryValue : recoveryIn (drop 12 d) ≡ R.Value recovery
+
+-- ---- the accepted reply to a Modify with a Bearer Context, and the unit's own Delete Bearer
+pub record ModifyRead (teid seq ebi : ℕ) : Type 0 where
+  pub header : HeaderRead (modifyBearer teid seq ebi) 35 teid seq 12
+  pub cause : octetIn (drop 12 (modifyBearer teid seq ebi)) causeKind 2 ≡ O.Value 16
+  pub bearerAt : find (drop 12 (modifyBearer teid seq ebi)) bearerKind 0 ≡ F.At 10 11
+  pub bearerEbi : ebiIn (part (drop 12 (modifyBearer teid seq ebi)) 10 11) ≡ O.Value ebi
+
+pub record DeleteBearerRead (teid seq ebi : ℕ) : Type 0 where
+  pub header : HeaderRead (deleteBearer teid seq ebi) 99 teid seq 12
+  pub bearerEbi : ebiIn (drop 12 (deleteBearer teid seq ebi)) ≡ O.Value ebi
+
+pub record WrittenIsRead : Type 0 where
+  pub version : HeaderRead versionNotSupported 3 0 0 8 × (gateOf versionNotSupported ≡ 0)
+  pub echo : (seq recovery : ℕ) → Seq seq → EchoRead seq recovery
+  pub cause : (type teid seq cause field instance : ℕ) → Word teid → Seq seq → CauseRead type teid seq cause field instance
+  pub create : (teid seq control controladdr address ebi user useraddr recovery : ℕ) → Word teid → Seq seq → Word control → 0 < control → Word controladdr → Word address
+      → 5 ≤ ebi → ebi ≤ 15 → Word user → 0 < user → Word useraddr
+      → CreateRead (createAccepted teid seq control controladdr address ebi user useraddr recovery) teid seq control controladdr address ebi user useraddr recovery
+  pub modify : (teid seq ebi : ℕ) → Word teid → Seq seq → 5 ≤ ebi → ebi ≤ 15 → ModifyRead teid seq ebi
+  pub deleteBearer : (teid seq ebi : ℕ) → Word teid → Seq seq → 5 ≤ ebi → ebi ≤ 15 → DeleteBearerRead teid seq ebi
+
+-- ---- laws
+-- a header with a TEID, whatever follows
+header-back : (type teid seq : ℕ) (size : ℕ) (l : List ℕ) → Word teid → Seq seq → headerOf (headerTo type size teid seq ++ l) ≡ record { kind = type; teid = teid; sequence = seq; fields = 12 }
+unfolding headerTo headerOf kindOf teidOf teidOctets sequenceOf sequenceBehind headerSize withTeid flagT octetsOf numberOf numberFrom
+header-back type teid seq size l h k = rw (number-back 4 teid h, number-back 3 seq k)
+
+bare-back : (type seq recovery : ℕ) → Seq seq → headerOf (messages.echoOf type seq recovery) ≡ record { kind = type; teid = 0; sequence = seq; fields = 8 }
+unfolding messages.echoOf headerOf kindOf teidOf sequenceOf sequenceBare headerSize withTeid flagT octetsOf numberOf numberFrom
+bare-back type seq recovery k = rw (number-back 3 seq k)
+
+tunnel-back : (flags interface teid addr : ℕ) → leb 128 flags ≡ true → eqb (flags % 64) interface ≡ true → 0 < teid → Word teid → Word addr
+    → tunnelOf (flags ∷ octetsOf 4 teid ++ octetsOf 4 addr) interface ≡ T.Value teid addr
+unfolding tunnelOf tunnelSize tunnelGood wordAt octetsOf numberOf numberFrom
+tunnel-back flags interface teid addr f i z h k = rw (f, i, number-back 4 teid h, number-back 4 addr k, lt-ltb 0 teid z)
+
+tunnel-found : (s : List ℕ) (instance interface start size : ℕ) (v : List ℕ) (r : Tunnel) → find s tunnelKind instance ≡ F.At start size → part s start size ≡ v → tunnelOf v interface ≡ r
+    → tunnelIn s instance interface ≡ r
+unfolding tunnelIn tunnelAt
+tunnel-found s instance interface start size v r e f g = rw (e, f) g
+
+ebi-back : (ebi : ℕ) → 5 ≤ ebi → ebi ≤ 15 → pick (ltb (ebi % 16) 5) O.Wrong (O.Value (ebi % 16)) ≡ O.Value ebi
+ebi-back ebi a b = let m : ebi % 16 ≡ ebi = omega arith in rw (m, le-ltb ebi 5 a)
+
+echo-read : (seq recovery : ℕ) → Seq seq → EchoRead seq recovery
+unfolding messages.echoOf gateOf versionOf lengthOf flagP flagT kindOf flagOf bareTypes tunnelTypes notTaken teidOf withTeid headerSize controlVersion createType octetsOf numberOf numberFrom carried.echoOf carried.echoReplyOf overruns overFrom recoveryIn recoveryOf octetIn octetAt find firstIn fieldsOf fieldsFrom
+echo-read seq recovery h = record {
+  asks = record { version = refl; whole = refl; header = bare-back 1 seq recovery h };
+  answers = record { version = refl; whole = refl; header = bare-back 2 seq recovery h };
+  asksTaken = refl;
+  answersTaken = refl;
+  asksCarries = refl;
+  answersCarries = refl;
+}
+
+cause-read : (type teid seq cause field instance : ℕ) → Word teid → Seq seq → CauseRead type teid seq cause field instance
+unfolding causeReply faultReply causeField faultField headerTo versionOf lengthOf octetsOf numberOf numberFrom carried.bearerReplyOf carried.causeOf overruns overFrom octetIn octetAt find firstIn fieldsOf fieldsFrom
+cause-read type teid seq cause field instance h k = record {
+  bare = record { version = refl; whole = refl; header = header-back type teid seq 14 (causeField cause) h k };
+  named = record { version = refl; whole = refl; header = header-back type teid seq 18 (faultField cause field instance) h k };
+  bareCause = refl;
+  namedCause = refl;
+}
+
+modify-read : (teid seq ebi : ℕ) → Word teid → Seq seq → 5 ≤ ebi → ebi ≤ 15 → ModifyRead teid seq ebi
+unfolding modifyBearer causeField ebiField headerTo versionOf lengthOf octetsOf numberOf numberFrom ebiIn octetIn octetAt find firstIn fieldsOf fieldsFrom
+modify-read teid seq ebi h k a b = record {
+  header = record { version = refl; whole = refl; header = header-back 35 teid seq 29 (causeField 16 ++ (0x5D ∷ 0 ∷ 11 ∷ 0 ∷ []) ++ ebiField ebi ++ causeField 16) h k };
+  cause = refl;
+  bearerAt = refl;
+  bearerEbi = ebi-back ebi a b;
+}
+
+delete-bearer-read : (teid seq ebi : ℕ) → Word teid → Seq seq → 5 ≤ ebi → ebi ≤ 15 → DeleteBearerRead teid seq ebi
+unfolding deleteBearer ebiField headerTo versionOf lengthOf octetsOf numberOf numberFrom ebiIn octetIn octetAt find firstIn fieldsOf fieldsFrom
+delete-bearer-read teid seq ebi h k a b = record {
+  header = record { version = refl; whole = refl; header = header-back 99 teid seq 13 (ebiField ebi) h k };
+  bearerEbi = ebi-back ebi a b;
+}
+
+create-read : (teid seq control controladdr address ebi user useraddr recovery : ℕ) → Word teid → Seq seq → Word control → 0 < control → Word controladdr → Word address
+    → 5 ≤ ebi → ebi ≤ 15 → Word user → 0 < user → Word useraddr
+    → CreateRead (createAccepted teid seq control controladdr address ebi user useraddr recovery) teid seq control controladdr address ebi user useraddr recovery
+unfolding createAccepted causeField tunnelField ebiField headerTo versionOf lengthOf octetsOf numberOf numberFrom overIn overWithin overruns overFrom paaIn ebiIn recoveryIn recoveryOf octetIn octetAt find firstIn fieldsOf fieldsFrom wordAt
+create-read teid seq control controladdr address ebi user useraddr recovery h k hc zc ha hd a b hu zu hv = record {
+  header = record { version = refl; whole = refl; header = head };
+  runs = refl;
+  cause = refl;
+  controlTunnel = tunnel-found rest 1 7 10 9 (0x87 ∷ octetsOf 4 control ++ octetsOf 4 controladdr) (T.Value control controladdr) refl refl (tunnel-back 0x87 7 control controladdr refl refl zc hc ha);
+  paa = refl;
+  paaAt = refl;
+  pdnAddress = number-back 4 address hd;
+  bearerAt = refl;
+  bearerEbi = ebi-back ebi a b;
+  bearerCause = refl;
+  userTunnel = tunnel-found (part rest 37 24) 2 5 15 9 (0x85 ∷ octetsOf 4 user ++ octetsOf 4 useraddr) (T.Value user useraddr) refl refl (tunnel-back 0x85 5 user useraddr refl refl zu hu hv);
+  recoveryValue = refl;
+}
+  where
+    rest : List ℕ
+    rest = drop 12 (createAccepted teid seq control controladdr address ebi user useraddr recovery)
+
+    head : headerOf (createAccepted teid seq control controladdr address ebi user useraddr recovery) ≡ record { kind = 33; teid = teid; sequence = seq; fields = 12 }
+    head = header-back 33 teid seq 74 (drop 12 (createAccepted teid seq control controladdr address ebi user useraddr recovery)) h k
+
+version-read : HeaderRead versionNotSupported 3 0 0 8 × (gateOf versionNotSupported ≡ 0)
+unfolding versionNotSupported gateOf headerOf versionOf lengthOf flagP flagT kindOf flagOf bareTypes tunnelTypes notTaken teidOf sequenceOf sequenceBare withTeid headerSize controlVersion createType numberOf numberFrom
+version-read = (record { version = refl; whole = refl; header = refl }, refl)
+
+pub written-is-read : WrittenIsRead
+written-is-read = record {
+  version = version-read;
+  echo = echo-read;
+  cause = cause-read;
+  create = create-read;
+  modify = modify-read;
+  deleteBearer = delete-bearer-read;
+}
