@@ -20,14 +20,10 @@ fn lacks(keys: &[u64], x: u64, from: usize) -> bool
     true
 }
 
-// Whether x clashes with no key from a place on; where its mark is 0 it was not met there.
-fn fresh(keys: &[u64], x: u64, from: usize, mark: u8) -> bool
-    requires { ⌜ (mark ≡ 0 → lacks x (drop from (now keys)) ≡ true) ⌝ }
+// Whether x clashes with no key from a place on.
+fn fresh(keys: &[u64], x: u64, from: usize) -> bool
     ensures { λ r. ⌜ r ≡ noneClash sameKey x (drop from (now (keys .entry))) ⌝ }
 {
-    if mark == 0 {
-        return true;
-    }
     if x == 0 {
         return true;
     }
@@ -60,10 +56,11 @@ pub fn distinct(keys: &[u64]) -> bool
     while 0 < i {
         let x = keys[i - 1];
         let h = slot(x);
-        let mark = marks[h];
-        let ok = fresh(keys, x, i, mark);
-        if !ok {
-            return false;
+        if marks[h] != 0 {
+            let ok = fresh(keys, x, i);
+            if !ok {
+                return false;
+            }
         }
         marks[h] = 1;
         i -= 1;

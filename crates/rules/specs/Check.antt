@@ -216,6 +216,11 @@ checked-is node l a n = split (every (recordOk (boundsOf (node .plan))) l) good 
               (λ b h. let f = parties-four (node .plan) a in unpacked-at l size b (omega arith)),
         )
 
+pub checked-bad : (node : Node) (l : List Session) → accepted (node .plan) ≡ true → length l ≡ places
+    → surveyOf (boundsOf (node .plan)) l .good ≡ false → keepsRules node l ≡ false
+unfolding checked
+checked-bad node l a n g = sym (checked-is node l a n) ∙ rw g
+
 -- a quiet survey leaves nothing to compare: either every record is good and none awaits, or the check fails anyway
 pub checked-quiet : (node : Node) (l : List Session) → accepted (node .plan) ≡ true → length l ≡ places
     → surveyOf (boundsOf (node .plan)) l .quiet ≡ true → checked node (surveyOf (boundsOf (node .plan)) l) ≡ keepsRules node l

@@ -1,7 +1,7 @@
 -- One pass over the records: each held to its rules, its key (IMSI and EBI), whether it awaits a number, and its share of four counts
 -- that are packed into one number. Where nobody awaits one, the whole check needs no more of the records.
 -- Assumes nothing.
-use Prim.Native.Nat.{ℕ, zero, suc, _+_, _-_, _*_, _/_, _%_, _<_, _≤_}
+use Prim.Native.Nat.{ℕ, zero, suc, _+_, _-_, _*_, _/_, _%_, _^_, _<_, _≤_}
 use mathlib.Core.Bool.{Bool, true, false, not, _&&_}
 use mathlib.Core.List.{List, [], _∷_, map}
 use mathlib.Core.Path.{_≡_, refl, sym, _∙_, ap}
@@ -9,6 +9,7 @@ use native.Mathlib.Omega.{arith}
 use lib.ListN.{length, take, drop, getD, set, replicate, length-set, length-replicate}
 use lib.Dec.{eqb, leb, ltb}
 use mir.Val.{boolByte}
+use borrow.Author.Tests.{ne-eqb}
 use Rattle.octets.specs.Choice.{pick, split, and-left, and-right, tests}
 use Rattle.octets.specs.Every.{every, every-stop, every-on, every-end}
 use Rattle.octets.specs.Sums.{sumOf, countOf, sum-step, sum-end, count-most}
@@ -31,6 +32,19 @@ waitOf r = pick {A = ℕ} (eqb (r .sends) 0) 0 (r .number + 1)
 -- one in the count of its access point, of four counts of 16 bits each
 unfoldable pub unit : ℕ → ℕ
 unit a = pick {A = ℕ} (eqb a 0) 1 (pick {A = ℕ} (eqb a 1) 65536 (pick {A = ℕ} (eqb a 2) 4294967296 (pick {A = ℕ} (eqb a 3) 281474976710656 0)))
+
+-- the same as a shift
+pub unit-shift : (a : ℕ) → a < 4 → 1 * 2 ^ (a * 16) % 18446744073709551616 ≡ unit a
+unfolding unit
+unit-shift zero h = refl
+unit-shift (suc zero) h = refl
+unit-shift (suc (suc zero)) h = refl
+unit-shift (suc (suc (suc zero))) h = refl
+unit-shift (suc (suc (suc (suc a)))) h = absurd (omega arith)
+
+pub unit-none : (a : ℕ) → 4 ≤ a → 0 ≡ unit a
+unfolding unit
+unit-none a h = rw (ne-eqb a 0 (λ e. omega arith), ne-eqb a 1 (λ e. omega arith), ne-eqb a 2 (λ e. omega arith), ne-eqb a 3 (λ e. omega arith))
 
 unfoldable pub weightOf : Session → ℕ
 weightOf s = pick {A = ℕ} (isFree s) 0 (unit (s .point))

@@ -41,17 +41,8 @@ pub fn wait(r: Request) -> u64
 fn unit(point: u8) -> u64
     ensures { λ r. ⌜ r ≡ unit point ⌝ }
 {
-    if point == 0 {
-        return 1;
-    }
-    if point == 1 {
-        return 65536;
-    }
-    if point == 2 {
-        return 4294967296;
-    }
-    if point == 3 {
-        return 281474976710656;
+    if point < 4 {
+        return 1u64 << (point * 16);
     }
     0
 }
@@ -166,6 +157,9 @@ pub fn keeps_rules(node: Node, t: Table) -> bool
     }
     let b = bounds(plan);
     let v = look(b, t);
+    if !v.good {
+        return false;
+    }
     let ids = distinct::distinct(&v.keys);
     let live = unpacked(v.counts);
     let shared = sharing::within(plan, live);
