@@ -1,7 +1,7 @@
 -- Marks by which a key that was not met before is known at once. They need only be complete: a key without its mark was not met;
 -- a mark may stand for another key, and then the keys are searched.
 -- Assumes nothing.
-use Prim.Native.Nat.{ℕ, zero, suc, _+_, _-_, _<_, _≤_}
+use Prim.Native.Nat.{ℕ, zero, suc, _+_, _-_, _*_, _/_, _%_, _<_, _≤_}
 use mathlib.Core.Bool.{Bool, true, false, not, _&&_}
 use mathlib.Core.List.{List, [], _∷_}
 use mathlib.Core.Path.{_≡_, refl, sym, _∙_, ap}
@@ -43,6 +43,18 @@ pub none-zero : (l : List ℕ) → noneClash sameKey 0 l ≡ true
 unfolding noneClash sameKey every
 none-zero [] = refl
 none-zero (y ∷ l) = none-zero l
+
+-- not there, it clashes with none, 0 or not
+pub none-lacks : (x : ℕ) (l : List ℕ) → lacks x l ≡ true → noneClash sameKey x l ≡ true
+none-lacks x l h = split (eqb x 0) (λ e. rw (eqb-true x 0 e) (none-zero l)) (λ e. none-same x l (eqb-false x 0 e) ∙ h)
+
+-- ---- the place of a key's mark among 1,024: ten bits of a product, by which near keys and evenly spaced ones come apart
+unfoldable pub slotOf : ℕ → ℕ
+slotOf x = x % 4294967296 * 2654435769 / 4194304 % 1024
+
+pub slot-small : (x : ℕ) → slotOf x < 1024
+unfolding slotOf
+slot-small x = omega arith
 
 -- ---- a set of marks, complete for l
 pub record Marked (slot : ℕ → ℕ) (marks l : List ℕ) : Type 0 where

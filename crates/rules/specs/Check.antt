@@ -27,7 +27,7 @@ use Rattle.session.specs.Keep.{live-of}
 use Rattle.table.specs.declared.Node.{Node}
 use Rattle.table.specs.Rules.{liveOn, live, boundsOf, sameId, sameWait, requests, keepsRules}
 use Rattle.rules.specs.declared.Survey.{Survey}
-use Rattle.rules.specs.Survey.{keyOf, waitOf, unit, weightOf, noSurvey, surveyOf}
+use Rattle.rules.specs.Survey.{keyOf, waitOf, unit, weightOf, silent, waitsOf, noSurvey, surveyOf, and-yes}
 
 -- four counts out of one number
 unfoldable pub unpackedOf : ℕ → List ℕ
@@ -143,8 +143,8 @@ all-any (x ∷ l) = all-any l
 
 -- the awaited numbers of echo and places differ where their keys do
 pub waits-keys : (echo : Request) (l : List Session)
-    → (noneClash sameKey (waitOf echo) (map (λ s. waitOf (s .own)) l) && pairwise sameKey (map (λ s. waitOf (s .own)) l)) ≡ pairwise sameWait (requests echo l)
-unfolding requests pairwise everyRest
+    → (noneClash sameKey (waitOf echo) (waitsOf l) && pairwise sameKey (waitsOf l)) ≡ pairwise sameWait (requests echo l)
+unfolding requests pairwise everyRest waitsOf
 waits-keys echo l =
     rw (
       ← waits-are l,
@@ -153,7 +153,24 @@ waits-keys echo l =
     (ap (λ (t : Bool). noneClash sameWait echo (map (λ s. s .own) l) && t)
     (pairwise-keys sameWait waitOf (λ r. true) (λ r q e f. same-wait-key r q) (map (λ s. s .own) l) (all-any (map (λ s. s .own) l))))
 
--- what the check computes, from the survey on
+-- ---- where no place awaits a number none is awaited twice, whatever the echo does
+silent-none : (r : Request) (l : List Session) → every silent l ≡ true → noneClash sameWait r (map (λ s. s .own) l) ≡ true
+unfolding noneClash every silent sameWait awaits
+silent-none r [] e = refl
+silent-none r (s ∷ l) e =
+    let q : eqb (s .own .sends) 0 ≡ true = and-left (silent s) (every silent l) e in
+    rw (q, and-no (not (eqb (r .sends) 0))) (silent-none r l (and-right (silent s) (every silent l) e))
+
+silent-places : (l : List Session) → every silent l ≡ true → pairwise sameWait (map (λ s. s .own) l) ≡ true
+unfolding pairwise everyRest every
+silent-places [] e = refl
+silent-places (s ∷ l) e = let r = and-right (silent s) (every silent l) e in rw (silent-none (s .own) l r) (silent-places l r)
+
+pub silent-waits : (echo : Request) (l : List Session) → every silent l ≡ true → pairwise sameWait (requests echo l) ≡ true
+unfolding requests pairwise everyRest
+silent-waits echo l e = rw (silent-none echo l e) (silent-places l e)
+
+-- what the check computes, from the survey on, but for the awaited numbers
 unfoldable pub checked : Node → Survey → Bool
 checked node v =
     v .good
@@ -161,7 +178,6 @@ checked node v =
     && withinOk (node .plan) (λ a. getD (unpackedOf (v .counts)) a 0)
     && requestOk (node .plan .interval) (node .plan .resend) (node .plan .sends) (node .echo)
     && leb (node .next) lastNumber
-    && (noneClash sameKey (waitOf (node .echo)) (v .waits) && pairwise sameKey (v .waits))
 
 pub refused-plan : (node : Node) (l : List Session) → accepted (node .plan) ≡ false → keepsRules node l ≡ false
 unfolding keepsRules
@@ -175,17 +191,21 @@ no-good : noSurvey .good ≡ false
 unfolding noSurvey
 no-good = refl
 
-pub checked-is : (node : Node) (l : List Session) → accepted (node .plan) ≡ true → length l ≡ places → checked node (surveyOf (boundsOf (node .plan)) l) ≡ keepsRules node l
+-- the rules are what is checked and that the awaited numbers differ
+pub checked-is : (node : Node) (l : List Session) → accepted (node .plan) ≡ true → length l ≡ places
+    → (checked node (surveyOf (boundsOf (node .plan)) l) && pairwise sameWait (requests (node .echo) l)) ≡ keepsRules node l
 unfolding checked keepsRules surveyOf
 checked-is node l a n = split (every (recordOk (boundsOf (node .plan))) l) good bad
   where
-    bad : every (recordOk (boundsOf (node .plan))) l ≡ false → checked node (surveyOf (boundsOf (node .plan)) l) ≡ keepsRules node l
+    bad : every (recordOk (boundsOf (node .plan))) l ≡ false
+        → (checked node (surveyOf (boundsOf (node .plan)) l) && pairwise sameWait (requests (node .echo) l)) ≡ keepsRules node l
     bad e = rw (e, no-good, a, eq-eqb (length l) places n)
 
     size : length l ≤ 65535
     size = let m = places-few in omega arith
 
-    good : every (recordOk (boundsOf (node .plan))) l ≡ true → checked node (surveyOf (boundsOf (node .plan)) l) ≡ keepsRules node l
+    good : every (recordOk (boundsOf (node .plan))) l ≡ true
+        → (checked node (surveyOf (boundsOf (node .plan)) l) && pairwise sameWait (requests (node .echo) l)) ≡ keepsRules node l
     good e =
         rw (
           e,
@@ -194,5 +214,23 @@ checked-is node l a n = split (every (recordOk (boundsOf (node .plan))) l) good 
           pairwise-keys sameId keyOf (recordOk (boundsOf (node .plan))) (same-key (boundsOf (node .plan))) l e,
           within-agree (node .plan) (λ b. getD (unpackedOf (sumOf weightOf l)) b 0) (live l)
               (λ b h. let f = parties-four (node .plan) a in unpacked-at l size b (omega arith)),
-          waits-keys (node .echo) l,
         )
+
+pub checked-bad : (node : Node) (l : List Session) → accepted (node .plan) ≡ true → length l ≡ places
+    → surveyOf (boundsOf (node .plan)) l .good ≡ false → keepsRules node l ≡ false
+unfolding checked
+checked-bad node l a n g = sym (checked-is node l a n) ∙ rw g
+
+-- a quiet survey leaves nothing to compare: either every record is good and none awaits, or the check fails anyway
+pub checked-quiet : (node : Node) (l : List Session) → accepted (node .plan) ≡ true → length l ≡ places
+    → surveyOf (boundsOf (node .plan)) l .quiet ≡ true → checked node (surveyOf (boundsOf (node .plan)) l) ≡ keepsRules node l
+unfolding checked surveyOf
+checked-quiet node l a n q = sym (split (every (recordOk (boundsOf (node .plan))) l) good bad) ∙ checked-is node l a n
+  where
+    bad : every (recordOk (boundsOf (node .plan))) l ≡ false
+        → (checked node (surveyOf (boundsOf (node .plan)) l) && pairwise sameWait (requests (node .echo) l)) ≡ checked node (surveyOf (boundsOf (node .plan)) l)
+    bad e = rw (e, no-good)
+
+    good : every (recordOk (boundsOf (node .plan))) l ≡ true
+        → (checked node (surveyOf (boundsOf (node .plan)) l) && pairwise sameWait (requests (node .echo) l)) ≡ checked node (surveyOf (boundsOf (node .plan)) l)
+    good e = rw (silent-waits (node .echo) l (rw e at q)) (and-yes (checked node (surveyOf (boundsOf (node .plan)) l)))

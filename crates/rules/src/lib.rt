@@ -1,4 +1,5 @@
-// Whether a table keeps its rules (number 2 otherwise): one pass over the records, then keys and awaited numbers that must differ.
+// Whether a table keeps its rules (number 2 otherwise): one pass over the records, then keys that must differ; the awaited numbers
+// take a second pass where a place awaits one.
 use plan::Plan;
 use session::Bounds;
 use session::Request;
@@ -6,16 +7,17 @@ use session::Session;
 use table::Node;
 use table::Table;
 ghost use mathlib.Core.Path.{_≡_};
-ghost use Rattle.table.specs.Rules.{boundsOf, keepsRules};
+ghost use Rattle.table.specs.Rules.{boundsOf, sameWait, requests, keepsRules};
+ghost use Rattle.distinct.specs.Apart.{pairwise};
 ghost use Rattle.rules.specs.Check.{unpackedOf};
-ghost use Rattle.rules.specs.Survey.{keyOf, waitOf, unit, weightOf, noSurvey, surveyOf};
+ghost use Rattle.rules.specs.Survey.{keyOf, waitOf, unit, weightOf, waitsOf, noSurvey, surveyOf};
 
-// What one pass finds: every record good, their counts packed, keys and awaited numbers by place.
+// What one pass finds: every record good, no number awaited, their counts packed, keys by place.
 pub struct Survey {
     pub good: bool,
+    pub quiet: bool,
     pub counts: u64,
     pub keys: [u64; 64],
-    pub waits: [u64; 64],
 }
 
 fn key(s: Session) -> u64
@@ -39,17 +41,8 @@ pub fn wait(r: Request) -> u64
 fn unit(point: u8) -> u64
     ensures { λ r. ⌜ r ≡ unit point ⌝ }
 {
-    if point == 0 {
-        return 1;
-    }
-    if point == 1 {
-        return 65536;
-    }
-    if point == 2 {
-        return 4294967296;
-    }
-    if point == 3 {
-        return 281474976710656;
+    if point < 4 {
+        return 1u64 << (point * 16);
     }
     0
 }
@@ -68,9 +61,9 @@ fn none() -> Survey
 {
     Survey {
         good: false,
+        quiet: true,
         counts: 0,
         keys: [0; 64],
-        waits: [0; 64],
     }
 }
 
@@ -79,7 +72,7 @@ pub fn look(b: Bounds, t: Table) -> Survey
     ensures { λ r. ⌜ r ≡ surveyOf b (t .recs) ⌝ }
 {
     let mut keys = [0u64; 64];
-    let mut waits = [0u64; 64];
+    let mut quiet = true;
     let mut counts: u64 = 0;
     let mut i: usize = 0;
     while i < 64 {
@@ -89,18 +82,17 @@ pub fn look(b: Bounds, t: Table) -> Survey
             return none();
         }
         let k = key(s);
-        let w = wait(s.own);
         let n = weight(s);
         keys[i] = k;
-        waits[i] = w;
+        quiet = quiet & (s.own.sends == 0);
         counts += n;
         i += 1;
     }
     Survey {
         good: true,
+        quiet,
         counts,
         keys,
-        waits,
     }
 }
 
@@ -114,6 +106,32 @@ pub fn unpacked(counts: u64) -> [u16; 4]
         (counts / 65536 / 65536 % 65536) as u16,
         (counts / 65536 / 65536 / 65536 % 65536) as u16,
     ]
+}
+
+// The awaited numbers by place, as keys.
+fn waits(t: Table) -> [u64; 64]
+    ensures { λ r. ⌜ r ≡ waitsOf (t .recs) ⌝ }
+{
+    let mut keys = [0u64; 64];
+    let mut i: usize = 0;
+    while i < Table::PLACES {
+        let s = t.recs[i];
+        let w = wait(s.own);
+        keys[i] = w;
+        i += 1;
+    }
+    keys
+}
+
+// Whether no number is awaited twice, by the echo and the places.
+fn waits_differ(echo: Request, t: Table) -> bool
+    ensures { λ r. ⌜ r ≡ pairwise sameWait (requests echo (t .recs)) ⌝ }
+{
+    let keys = waits(t);
+    let w = wait(echo);
+    let apart = distinct::absent(&keys, w);
+    let each = distinct::distinct(&keys);
+    apart & each
 }
 
 // What a record is held to of the plan.
@@ -139,13 +157,18 @@ pub fn keeps_rules(node: Node, t: Table) -> bool
     }
     let b = bounds(plan);
     let v = look(b, t);
+    if !v.good {
+        return false;
+    }
     let ids = distinct::distinct(&v.keys);
     let live = unpacked(v.counts);
     let shared = sharing::within(plan, live);
     let echo = node.echo;
     let echoes = echo.fits(plan.interval, plan.resend, plan.sends);
-    let w = wait(echo);
-    let apart = distinct::absent(&v.waits, w);
-    let each = distinct::distinct(&v.waits);
-    v.good & ids & shared & echoes & (node.next <= Request::LAST_NUMBER) & (apart & each)
+    let kept = v.good & ids & shared & echoes & (node.next <= Request::LAST_NUMBER);
+    if v.quiet {
+        return kept;
+    }
+    let each = waits_differ(echo, t);
+    kept & each
 }

@@ -99,7 +99,7 @@ fn next_imsi(imsi: u64, kind: u8) -> u64 {
         return imsi % 1000000007 * 777777 + 12345;
     }
     if kind == b'm' {
-        return std::num::wrapping_add_u64(imsi, 1021);
+        return std::num::wrapping_add_u64(imsi, 16777216);
     }
     std::num::wrapping_add_u64(imsi, 1)
 }

@@ -1,3 +1,4 @@
 pub mod Request
 pub mod Session
 pub mod Keep
+pub mod Phase

@@ -221,8 +221,11 @@ impl Session {
         ensures { λ r. ⌜ r ≡ phaseOk b self ⌝ }
     {
         let own = self.own;
+        if self.state == Self::LIVE {
+            return (own.number <= Request::LAST_NUMBER) & (own.sends == 0) & (own.timer == 0);
+        }
         let fits = own.fits(0, b.resend, b.sends);
-        fits & ((self.state == Self::CLOSING) | (self.state == Self::LIVE) & (own.sends == 0))
+        fits & (self.state == Self::CLOSING)
     }
 
     // The rules of one record.
@@ -234,8 +237,10 @@ impl Session {
             return counted & self.blank();
         }
         let held = self.held(b);
-        let phase = self.phase(b);
-        counted & (held & phase)
+        if !(counted & held) {
+            return false;
+        }
+        self.phase(b)
     }
 
     // Zero but for its use.

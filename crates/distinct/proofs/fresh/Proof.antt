@@ -9,14 +9,11 @@ use Rattle.distinct.proofs.fresh.Tie as tie
 returns : tie.Need-returns
 returns c = let a = c .before .before .args in rw (c .if1 .taken) (sym (none-zero (drop (a .from) (now (a .keys)))))
 
-returns-2 : tie.Need-returns-2
-returns-2 c = let a = c .before .before .before .args in sym (none-same (a .x) (drop (a .from) (now (a .keys))) (c .before .if1 .left) ∙ c .before .before .before .pre (c .if2 .taken))
-
 lacks-requires : tie.Need-lacks-requires
 lacks-requires c κs = search needs
 
-returns-3 : tie.Need-returns-3
-returns-3 c = let a = c .before .before .before .before .args in c .lacks .ensures ∙ sym (none-same (a .x) (drop (a .from) (now (a .keys))) (c .before .before .if1 .left))
+returns-2 : tie.Need-returns-2
+returns-2 c = let a = c .before .before .before .args in c .lacks .ensures ∙ sym (none-same (a .x) (drop (a .from) (now (a .keys))) (c .before .if1 .left))
 
 pub fresh-spec : {M : Type 1} → statement M
-fresh-spec = tie.close (tie.spec returns returns-2 lacks-requires returns-3)
+fresh-spec = tie.close (tie.spec returns lacks-requires returns-2)

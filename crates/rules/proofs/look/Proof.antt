@@ -4,19 +4,19 @@ use native.Mathlib.Omega.{arith}
 use borrow.Author.Needs.{needs}
 use borrow.Author.Tests.{not-true, not-false}
 use lib.ListN.{length, length-map, length-set}
-use Rattle.rules.specs.Survey.{Seen, seen-none, seen-bad, seen-more, seen-all, weightOf, weight-most}
+use Rattle.rules.specs.Survey.{Seen, seen-none, seen-bad, seen-more, seen-all, silent, weightOf, weight-most}
 use Rattle.rules.proofs.look.Statement.{statement}
 use Rattle.rules.proofs.look.Tie as tie
 
 abbrev Inv-loop : tie.InvT-loop
-Inv-loop b t keys₀ waits₀ counts₀ i₀ keys waits counts i = (length (t .recs) ≡ 64) × ((length keys ≡ 64) × ((length waits ≡ 64) × ((i ≤ 64) × Seen b (t .recs) i keys waits counts)))
+Inv-loop b t keys₀ quiet₀ counts₀ i₀ keys quiet counts i = (length (t .recs) ≡ 64) × ((length keys ≡ 64) × ((i ≤ 64) × Seen b (t .recs) i keys quiet counts))
 
 abbrev μ-loop : tie.MeasureT-loop
-μ-loop b t keys₀ waits₀ counts₀ i₀ keys waits counts i = 64 - i
+μ-loop b t keys₀ quiet₀ counts₀ i₀ keys quiet counts i = 64 - i
 
 loop-holds : tie.Need-loop-holds Inv-loop μ-loop
 loop-holds c = let l : length (c .args .t2 .recs) ≡ 64 = simp length-map at (c .good .1 .0 .1 .1 .0 .1 .0 .1) in
-    (l, (refl, (refl, (omega arith, seen-none (c .args .b) (c .args .t2 .recs) l))))
+    (l, (refl, (omega arith, seen-none (c .args .b) (c .args .t2 .recs) l)))
 
 mul-s : tie.Need-mul-s Inv-loop μ-loop
 mul-s c = search needs
@@ -32,13 +32,10 @@ none-requires c κs = search needs
 
 returns : tie.Need-returns Inv-loop μ-loop
 returns c = let a = c .before .before .before .before .before .before .args in let k = c .before .before .before .before .before .loop in let n = k .inv .0 in
-    c .none .ensures ∙ sym (seen-bad (a .b) (a .t2 .recs) (k .i) (k .keys) (k .waits) (k .counts) (k .inv .1 .1 .1 .1) _ (omega arith) (sym (c .before .before .fits2 .ensures) ∙ not-true _ (c .before .if1 .taken)))
+    c .none .ensures ∙ sym (seen-bad (a .b) (a .t2 .recs) (k .i) (k .keys) (k .quiet) (k .counts) (k .inv .1 .1 .1) _ (omega arith) (sym (c .before .before .fits2 .ensures) ∙ not-true _ (c .before .if1 .taken)))
 
 key-requires : tie.Need-key-requires Inv-loop μ-loop
 key-requires c κs = search needs
-
-wait-requires : tie.Need-wait-requires Inv-loop μ-loop
-wait-requires c κs = search needs
 
 weight-requires : tie.Need-weight-requires Inv-loop μ-loop
 weight-requires c κs = search needs
@@ -49,15 +46,9 @@ mul-keys c = search needs
 array-write-keys : tie.Need-array-write-keys Inv-loop μ-loop
 array-write-keys c = search needs
 
-mul-waits : tie.Need-mul-waits Inv-loop μ-loop
-mul-waits c = search needs
-
-array-write-waits : tie.Need-array-write-waits Inv-loop μ-loop
-array-write-waits c = search needs
-
 add-counts : tie.Need-add-counts Inv-loop μ-loop
-add-counts c = let k = c .before .before .before .before .before .before .before .loop in let f = k .inv .1 .1 .1 .1 .few in
-    let w : c .weight .result ≤ 281474976710656 = rw (c .weight .ensures) (weight-most _) in
+add-counts c = let k = c .before .before .before .before .before .before .before .loop in let f = k .inv .1 .1 .1 .few in
+    let w : c .before .weight .result ≤ 281474976710656 = rw (c .before .weight .ensures) (weight-most _) in
     omega arith
 
 add-i : tie.Need-add-i Inv-loop μ-loop
@@ -67,24 +58,22 @@ loop-less : tie.Need-loop-less Inv-loop μ-loop
 loop-less c = search needs
 
 loop-again : tie.Need-loop-again Inv-loop μ-loop
-loop-again c = let a = c .before .before .before .before .before .before .before .before .args in let k = c .before .before .before .before .before .before .before .loop in let n = k .inv .0 in let kn = k .inv .1 .0 in let wn = k .inv .1 .1 .0 in (
+unfolding silent
+loop-again c = let a = c .before .before .before .before .before .before .before .before .args in let k = c .before .before .before .before .before .before .before .loop in let n = k .inv .0 in let kn = k .inv .1 .0 in (
   n,
   (
     simp length-set kn,
     (
-      simp length-set wn,
-      (
-        omega arith,
-        rw (c .before .before .key .ensures, c .before .wait .ensures, c .weight .ensures)
-            (seen-more (a .b) (a .t2 .recs) (k .i) (k .keys) (k .waits) (k .counts) (k .inv .1 .1 .1 .1) _ (omega arith) (sym (c .before .before .before .before .fits2 .ensures) ∙ not-false _ (c .before .before .before .if1 .left))),
-      ),
+      omega arith,
+      rw (c .before .before .key .ensures, c .before .weight .ensures)
+          (seen-more (a .b) (a .t2 .recs) (k .i) (k .keys) (k .quiet) (k .counts) (k .inv .1 .1 .1) _ (omega arith) (sym (c .before .before .before .before .fits2 .ensures) ∙ not-false _ (c .before .before .before .if1 .left))),
     ),
   ),
 )
 
 returns-2 : tie.Need-returns-2 Inv-loop μ-loop
 returns-2 c = let a = c .before .before .args in let k = c .before .loop in let n = k .inv .0 in
-    sym (seen-all (a .b) (a .t2 .recs) (k .i) (k .keys) (k .waits) (k .counts) (k .inv .1 .1 .1 .1) (omega arith))
+    sym (seen-all (a .b) (a .t2 .recs) (k .i) (k .keys) (k .quiet) (k .counts) (k .inv .1 .1 .1) (omega arith))
 
 pub look-spec : {M : Type 1} → statement M
 look-spec =
@@ -99,12 +88,9 @@ look-spec =
     none-requires
     returns
     key-requires
-    wait-requires
     weight-requires
     mul-keys
     array-write-keys
-    mul-waits
-    array-write-waits
     add-counts
     add-i
     loop-less

@@ -1,0 +1,58 @@
+-- The rules of one record, test by test: what is left to ask of a live record, of a closing one, and after a first test.
+-- Assumes nothing.
+use Prim.Native.Nat.{ℕ}
+use mathlib.Core.Bool.{Bool, true, false, not, _&&_, _||_}
+use mathlib.Core.Path.{_≡_, refl, sym, _∙_}
+use native.Mathlib.Omega.{arith}
+use lib.Dec.{eqb, leb}
+use borrow.Author.Tests.{eqb-true, eqb-false, eq-eqb, ne-eqb, le-leb, leb-true, not-true, not-false}
+use Rattle.octets.specs.Choice.{pick, split, tests, impossible}
+use Rattle.tunnel.specs.Numbering.{lastUse}
+use Rattle.session.specs.declared.Request.{Request}
+use Rattle.session.specs.declared.Session.{Session}
+use Rattle.session.specs.declared.Bounds.{Bounds}
+use Rattle.session.specs.Request.{lastNumber, requestOk}
+use Rattle.session.specs.Session.{isFree, isClosing, heldOk, phaseOk, recordOk}
+
+zero-most : (x : ℕ) → leb x 0 ≡ eqb x 0
+zero-most x =
+    split (leb x 0)
+    (λ e. let z = leb-true x 0 e in e ∙ sym (eq-eqb x 0 (omega arith)))
+    (λ e. e ∙ sym (ne-eqb x 0 (λ z. impossible (sym e ∙ le-leb x 0 (omega arith)))))
+
+-- a live place has sent nothing and waits for nothing
+pub live-phase : (b : Bounds) (s : Session) → s .state ≡ 1 → phaseOk b s ≡ (leb (s .own .number) lastNumber && eqb (s .own .sends) 0 && eqb (s .own .timer) 0)
+unfolding phaseOk requestOk isClosing
+live-phase b s h =
+    rw (h, zero-most (s .own .timer))
+    (split (leb (s .own .number) lastNumber)
+    (λ n. split (eqb (s .own .sends) 0)
+    (λ e. split (eqb (s .own .timer) 0) (λ f. rw (n, e, f)) (λ f. rw (n, e, f)))
+    (λ e. rw (n, e) (shut (leb (s .own .timer) (b .resend) && leb (s .own .sends) (b .sends) && not (eqb (s .own .sends) (b .sends) && eqb (s .own .timer) 0)))))
+    (λ n. rw n))
+  where
+    shut : (a : Bool) → (a && false) ≡ false
+    shut true = refl
+    shut false = refl
+
+pub other-phase : (b : Bounds) (s : Session) → (s .state ≡ 1 → ⊥) → phaseOk b s ≡ (requestOk 0 (b .resend) (b .sends) (s .own) && isClosing s)
+unfolding phaseOk
+other-phase b s h = rw (ne-eqb (s .state) 1 h) (split (isClosing s) (λ e. rw e) (λ e. rw e))
+
+-- ---- a record that is not free: use and holding asked first, then only where it stands with its request
+module _ (b : Bounds) (s : Session) (held : Bool) (taken : s .state ≡ 0 → ⊥) (is : held ≡ heldOk b s) where
+  pub record-fails : not (leb (s .usage) lastUse && held) ≡ true → recordOk b s ≡ false
+  unfolding recordOk isFree
+  record-fails e = rw (ne-eqb (s .state) 0 taken, ← is) (first (leb (s .usage) lastUse) held (not-true (leb (s .usage) lastUse && held) e))
+    where
+      first : (a h : Bool) → (a && h) ≡ false → (a && (h && phaseOk b s)) ≡ false
+      first true h f = rw f
+      first false h f = refl
+
+  pub record-on : not (leb (s .usage) lastUse && held) ≡ false → recordOk b s ≡ phaseOk b s
+  unfolding recordOk isFree
+  record-on e = rw (ne-eqb (s .state) 0 taken, ← is) (first (leb (s .usage) lastUse) held (not-false (leb (s .usage) lastUse && held) e))
+    where
+      first : (a h : Bool) → (a && h) ≡ true → (a && (h && phaseOk b s)) ≡ phaseOk b s
+      first true h f = rw f
+      first false h f = impossible f
