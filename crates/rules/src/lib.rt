@@ -109,7 +109,7 @@ pub fn unpacked(counts: u64) -> [u16; 4]
 }
 
 // The awaited numbers by place, as keys.
-fn waits(t: Table) -> [u64; 64]
+pub fn waits(t: Table) -> [u64; 64]
     ensures { λ r. ⌜ r ≡ waitsOf (t .recs) ⌝ }
 {
     let mut keys = [0u64; 64];

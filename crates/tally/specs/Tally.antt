@@ -21,7 +21,7 @@ use Rattle.session.specs.Request.{awaits}
 use Rattle.session.specs.Session.{isFree, waitsFor}
 use Rattle.table.specs.Rules.{liveOn}
 use Rattle.table.specs.Number.{awaited, after, freeFrom}
-use Rattle.rules.specs.Survey.{waitOf, weightOf}
+use Rattle.rules.specs.Survey.{waitOf, waitsOf, weightOf}
 use Rattle.rules.specs.Check.{unpackedOf, unpacked-at}
 
 -- one for a session, none for a free place
@@ -31,10 +31,6 @@ oneOf s = boolByte (not (isFree s))
 -- u of each of the four access points
 unfoldable pub countsOf : List Session → List ℕ
 countsOf l = liveOn 0 l ∷ liveOn 1 l ∷ liveOn 2 l ∷ liveOn 3 l ∷ []
-
--- the awaited numbers as keys: by place
-unfoldable pub waitsOf : List Session → List ℕ
-waitsOf l = map (λ s. waitOf (s .own)) l
 
 -- nobody awaits k: it is neither the echo's key nor that of a place
 unfoldable pub unclaimed : ℕ → ℕ → List ℕ → Bool

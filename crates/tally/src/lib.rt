@@ -9,7 +9,7 @@ ghost use mathlib.Core.Path.{_≡_};
 ghost use Rattle.tunnel.specs.Numbering.{places};
 ghost use Rattle.table.specs.Room.{sessions};
 ghost use Rattle.table.specs.Number.{after, takenNumber};
-ghost use Rattle.tally.specs.Tally.{oneOf, countsOf, waitsOf, unclaimed, freeAmong};
+ghost use Rattle.tally.specs.Tally.{oneOf, countsOf, unclaimed, freeAmong};
 
 // u of each access point, counted from the records.
 pub fn counts(t: Table) -> [u16; 4]
@@ -48,21 +48,6 @@ pub fn sessions(t: Table) -> usize
     n
 }
 
-// The awaited numbers by place, as keys.
-fn waits(t: Table) -> [u64; 64]
-    ensures { λ r. ⌜ r ≡ waitsOf (t .recs) ⌝ }
-{
-    let mut keys = [0u64; 64];
-    let mut i: usize = 0;
-    while i < Table::PLACES {
-        let s = t.recs[i];
-        let w = rules::wait(s.own);
-        keys[i] = w;
-        i += 1;
-    }
-    keys
-}
-
 // The sequence number after another.
 pub fn after(k: u32) -> u32
     ensures { λ r. ⌜ r ≡ after k ⌝ }
@@ -99,7 +84,7 @@ fn free_among(next: u32, echo: u64, keys: &[u64]) -> u32
 pub fn taken_number(node: Node, t: Table) -> u32
     ensures { λ r. ⌜ r ≡ takenNumber (node .next) (node .echo) (t .recs) ⌝ }
 {
-    let keys = waits(t);
+    let keys = rules::waits(t);
     let echo = rules::wait(node.echo);
     free_among(node.next, echo, &keys)
 }
