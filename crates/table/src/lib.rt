@@ -128,7 +128,7 @@ fn meets(s: Session, q: Query) -> bool
 }
 
 // The record with the change made.
-fn changed(s: Session, c: Change) -> Session
+pub fn changed(s: Session, c: Change) -> Session
     ensures { λ r. ⌜ r ≡ changedBy c s ⌝ }
 {
     match c {
