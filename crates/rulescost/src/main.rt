@@ -3,7 +3,7 @@
 //
 // The table: 64 sessions on the four access points in turn, the first eight closing with an awaited number each. The figures of its
 // plan are read, so that nothing of a check is known to the compiler. The first octet of standard input says how the IMSIs lie: `s`
-// strewn about, `m` so that all keys meet one mark and have to be searched for, any other one after the other. The next seven, each
+// strewn about, `m` so that all keys share one slot and are compared pair by pair, any other one after the other. The next seven, each
 // less a multiple of 64, are T, N, E, the size of the names, guarantee and ceiling of each access point, and how often the echo was
 // sent. Each octet after them is a check, with so many access points as it says less a multiple of 64: the rules are kept with 4.
 //

@@ -1,11 +1,11 @@
-use Prim.Native.Nat.{ℕ, _-_, _<_, _≤_}
+use Prim.Native.Nat.{_<_}
 use mathlib.Core.Logic.{⊎-elim}
-use mathlib.Core.Path.{_≡_, sym, _∙_}
+use mathlib.Core.Path.{sym, _∙_}
 use native.Mathlib.Omega.{arith}
 use borrow.Author.Needs.{needs}
 use borrow.Author.Tests.{not-true, not-false}
 use denote.Ref.{now}
-use lib.ListN.{length, getD}
+use lib.ListN.{length}
 use Rattle.distinct.specs.Chains.{fewSlot, few-slot-small}
 use Rattle.distinct.specs.Passed.{Passed, passed-none, passed-all, passed-skip, passed-search, passed-clash, passed-linked, passed-alone}
 use Rattle.distinct.proofs.few_differ.Statement.{statement}
