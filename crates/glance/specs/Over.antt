@@ -16,7 +16,7 @@ use Rattle.octets.specs.Every.{every, everyRest, rest-fails}
 use Rattle.octets.specs.Places.{next-of, map-at}
 use Rattle.octets.specs.Sums.{sumOf}
 use Rattle.distinct.specs.Apart.{noneClash, pairwise, sameKey}
-use Rattle.distinct.specs.Marks.{lacks, lacks-hit, lacks-on, lacks-end, none-same, none-zero}
+use Rattle.distinct.specs.Lacks.{lacks, lacks-hit, lacks-on, lacks-end, none-same, none-zero}
 use Rattle.rules.specs.Survey.{unit, unit-most}
 use Rattle.glance.specs.declared.Glance.{Glance}
 use Rattle.glance.specs.Digest.{keyIn, weightIn, quietIn, goodIn, markOf, mark-small}

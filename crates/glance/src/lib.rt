@@ -10,7 +10,7 @@ ghost use mathlib.Core.Path.{_≡_};
 ghost use lib.ListN.{drop, length};
 ghost use Rattle.table.specs.Rules.{boundsOf};
 ghost use Rattle.rules.specs.Survey.{waitOf};
-ghost use Rattle.distinct.specs.Marks.{lacks};
+ghost use Rattle.distinct.specs.Lacks.{lacks};
 ghost use Rattle.glance.specs.Digest.{digestOf, keyIn, weightIn, markOf};
 ghost use Rattle.glance.specs.Glance.{noGlance, glanceOf, keptOf, waitingOf};
 ghost use Rattle.glance.specs.Over.{entersOf, marksOf};

@@ -5,7 +5,7 @@ use native.Mathlib.Omega.{arith}
 use borrow.Author.Needs.{needs}
 use denote.Ref.{now}
 use lib.ListN.{length, drop}
-use Rattle.distinct.specs.Marks.{lacks}
+use Rattle.distinct.specs.Lacks.{lacks}
 use Rattle.glance.specs.Digest.{keyIn}
 use Rattle.glance.specs.Over.{key-hit, key-on, key-end}
 use Rattle.glance.proofs.lacks.Statement.{statement}
