@@ -1,7 +1,9 @@
-"""table.py PROGRAM PICTURE: counts the instructions of each call under callgrind, prints the table and draws the picture.
+"""table.py PROGRAM PICTURE: counts the instructions of each call, prints the table and draws the picture. On x86-64 callgrind counts,
+elsewhere QEMU's user mode with the plugin that `run` has built from count.c.
 
 The count of a call is that of 100 calls less that of none, by 100: what the host does to put the table back is in both columns.
 """
+import platform
 import subprocess
 import sys
 
@@ -13,13 +15,15 @@ TIMES = 100
 
 
 def counted(program, way, call, live, times):
-    done = subprocess.run(["valgrind", "--tool=callgrind", "--callgrind-out-file=/dev/null", program, way, call, str(live), str(times)],
-                          capture_output=True, text=True)
+    native = platform.machine() == "x86_64"
+    counter = (["valgrind", "--tool=callgrind", "--callgrind-out-file=/dev/null"] if native
+               else ["qemu-x86_64", "-cpu", "max", "-plugin", "target/tests/count.so"])
+    done = subprocess.run(counter + [program, way, call, str(live), str(times)], capture_output=True, text=True)
     if done.returncode == 3:
         return None
     if done.returncode != 0:
         sys.exit("speed: %s %s with %d live failed: %s" % (way, call, live, done.stderr[-300:]))
-    return int(done.stderr.split("Collected :")[1].split()[0])
+    return int(done.stderr.split("Collected :" if native else "instructions")[1].split()[0])
 
 
 def instructions(program, way, call, live):
