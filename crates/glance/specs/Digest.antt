@@ -5,15 +5,19 @@ use Prim.Native.Nat.{ℕ, zero, suc, _+_, _*_, _/_, _%_, _^_, _<_, _≤_}
 use mathlib.Core.Bool.{Bool, true, false, not, _&&_}
 use mathlib.Core.Path.{_≡_, refl, sym, _∙_, ap}
 use native.Mathlib.Omega.{arith}
+use lib.Bits.{bitOr}
 use lib.Dec.{eqb, leb, ltb}
 use borrow.Author.Tests.{eqb-true, eqb-false, eq-eqb, ne-eqb, ltb-true, leb-true, le-ltb}
 use Rattle.octets.specs.Choice.{pick, split, and-left, and-right, tests}
 use Rattle.tunnel.specs.Numbering.{lastUse}
+use Rattle.session.specs.declared.Request.{Request}
 use Rattle.session.specs.declared.Session.{Session}
 use Rattle.session.specs.declared.Bounds.{Bounds}
+use Rattle.session.specs.Request.{lastNumber}
 use Rattle.session.specs.Session.{isFree, blank, recordOk, heldOk, phaseOk, readOk, imsis}
 use Rattle.session.specs.Keep.{live-of}
-use Rattle.session.specs.Phase.{record-fails, record-on}
+use Rattle.session.specs.Phase.{live-phase, record-fails, record-on}
+use Rattle.session.specs.Wide.{or-none}
 use Rattle.rules.specs.Survey.{keyOf, unit, unit-shift, weightOf, silent}
 
 -- what is behind the key: the access point and whether a number is awaited
@@ -22,6 +26,14 @@ restOf s = s .point % 4 * 16 + pick {A = ℕ} (silent s) 0 1
 
 unfoldable pub digestOf : Bounds → Session → ℕ
 digestOf b s = pick {A = ℕ} (recordOk b s) (pick {A = ℕ} (isFree s) 0 (keyOf s % 288230376151711744 * 64 + restOf s)) 2
+
+-- a live record's request: none is under way
+unfoldable pub restsOk : Request → Bool
+restsOk r = leb (r .number) lastNumber && eqb (r .sends) 0 && eqb (r .timer) 0
+
+pub rests-bits : (r : Request) → (leb (r .number) lastNumber && eqb (bitOr (r .sends) (r .timer)) 0) ≡ restsOk r
+unfolding restsOk
+rests-bits r = rw (or-none (r .sends) (r .timer)) (split (leb (r .number) lastNumber) (λ e. rw e) (λ e. rw e))
 
 -- ---- what is read off a digest
 abbrev pub keyIn : ℕ → ℕ
@@ -150,18 +162,29 @@ module _ (b : Bounds) (s : Session) where
     digest-unheld e = bad-two b s (record-fails b s held taken is e)
 
     module _ (on : not (leb (s .usage) lastUse && held) ≡ false) where
+      made : phaseOk b s ≡ true → digestOf b s ≡ keyOf s % 288230376151711744 * 64 + restOf s
+      unfolding digestOf isFree
+      made fits = rw (record-on b s held taken is on ∙ fits, ne-eqb (s .state) 0 taken)
+
+      pub digest-still : phaseOk b s ≡ true → s .own .sends ≡ 0 → digestOf b s ≡ keyOf s % 288230376151711744 * 64 + s .point % 4 * 16
+      unfolding silent
+      digest-still fits e = made fits ∙ rw (quiet-rest s (eq-eqb (s .own .sends) 0 e))
+
+      pub digest-loud : phaseOk b s ≡ true → (s .own .sends ≡ 0 → ⊥) → digestOf b s ≡ keyOf s % 288230376151711744 * 64 + s .point % 4 * 16 + 1
+      unfolding silent
+      digest-loud fits e = made fits ∙ rw (loud-rest s (ne-eqb (s .own .sends) 0 e)) (omega arith)
+
+      -- of a live record
+      module _ (live : s .state ≡ 1) where
+        pub digest-unrest : restsOk (s .own) ≡ false → digestOf b s ≡ 2
+        unfolding restsOk
+        digest-unrest e = bad-two b s (record-on b s held taken is on ∙ live-phase b s live ∙ e)
+
+        pub digest-rests : restsOk (s .own) ≡ true → digestOf b s ≡ keyOf s % 288230376151711744 * 64 + s .point % 4 * 16
+        unfolding restsOk
+        digest-rests e =
+            let z : eqb (s .own .sends) 0 ≡ true = search (and-left, and-right) in
+            digest-still (live-phase b s live ∙ e) (eqb-true (s .own .sends) 0 z)
+
       pub digest-unfit : phaseOk b s ≡ false → digestOf b s ≡ 2
       digest-unfit e = bad-two b s (record-on b s held taken is on ∙ e)
-
-      module _ (fits : phaseOk b s ≡ true) where
-        made : digestOf b s ≡ keyOf s % 288230376151711744 * 64 + restOf s
-        unfolding digestOf isFree
-        made = rw (record-on b s held taken is on ∙ fits, ne-eqb (s .state) 0 taken)
-
-        pub digest-quiet : s .own .sends ≡ 0 → digestOf b s ≡ keyOf s % 288230376151711744 * 64 + s .point % 4 * 16
-        unfolding silent
-        digest-quiet e = made ∙ rw (quiet-rest s (eq-eqb (s .own .sends) 0 e))
-
-        pub digest-loud : (s .own .sends ≡ 0 → ⊥) → digestOf b s ≡ keyOf s % 288230376151711744 * 64 + s .point % 4 * 16 + 1
-        unfolding silent
-        digest-loud e = made ∙ rw (loud-rest s (ne-eqb (s .own .sends) 0 e)) (omega arith)

@@ -10,7 +10,7 @@ use lib.ListN.{length, getD, drop, set, length-map, length-set}
 use lib.Seq.{getD-set-same, getD-set-other}
 use lib.Dec.{eqb, ltb}
 use lib.Bits.{bitOr}
-use borrow.Author.Tests.{eqb-true, eqb-false, ne-eqb}
+use borrow.Author.Tests.{eqb-true, eqb-false, ne-eqb, lt-ltb}
 use Rattle.octets.specs.Choice.{pick, split, impossible}
 use Rattle.octets.specs.Every.{every, everyRest, rest-fails}
 use Rattle.octets.specs.Places.{next-of, map-at}
@@ -145,3 +145,24 @@ module _ (x : ℕ) (ds : List ℕ) (i : ℕ) (inside : i < length ds) where
 
 pub key-end : (x : ℕ) (ds : List ℕ) (i : ℕ) → length ds ≤ i → lacks x (drop i (map keyIn ds)) ≡ true
 key-end x ds i h = lacks-end x (map keyIn ds) i (simp length-map h)
+
+-- ---- a digest without a key: nothing is marked, nothing counted
+module _ (d : ℕ) (small : d < 64) where
+  no-key : keyIn d ≡ 0
+  no-key = omega arith
+
+  pub enters-none : (l marks : List ℕ) → entersOf (keyIn d) l marks ≡ true
+  unfolding entersOf
+  enters-none l marks = rw no-key
+
+  pub marks-none : (marks : List ℕ) → marksOf (keyIn d) marks ≡ marks
+  unfolding marksOf
+  marks-none marks = rw no-key
+
+-- the counts with a digest
+unfoldable pub countedIn : ℕ → ℕ → ℕ
+countedIn d n = pick {A = ℕ} (ltb d 64) n ((n + weightIn d) % 18446744073709551616)
+
+pub counted-in : (d n : ℕ) → n + weightIn d < 18446744073709551616 → countedIn d n ≡ n + weightIn d
+unfolding countedIn weightIn
+counted-in d n h = split (ltb d 64) (λ e. rw e (omega arith)) (λ e. let g = rw e at h in rw e (omega arith))

@@ -11,9 +11,9 @@ ghost use lib.ListN.{drop, length};
 ghost use Rattle.table.specs.Rules.{boundsOf};
 ghost use Rattle.rules.specs.Survey.{waitOf};
 ghost use Rattle.distinct.specs.Lacks.{lacks};
-ghost use Rattle.glance.specs.Digest.{digestOf, keyIn, weightIn, markOf};
+ghost use Rattle.glance.specs.Digest.{restsOk, digestOf, keyIn, weightIn, markOf};
 ghost use Rattle.glance.specs.Glance.{noGlance, glanceOf, keptOf, waitingOf};
-ghost use Rattle.glance.specs.Over.{entersOf, marksOf};
+ghost use Rattle.glance.specs.Over.{entersOf, marksOf, countedIn};
 
 // What the digests of a table say: every record good and no key twice, no number awaited, the counts packed.
 pub struct Glance {
@@ -30,7 +30,15 @@ pub fn bounds_of(node: Node) -> Bounds
     rules::bounds(plan)
 }
 
-// The digest of a record: 0 for a free one, 2 for one that is not as the rules want it.
+// Whether a live record has no request of its own under way.
+fn rests(own: Request) -> bool
+    ensures { λ r. ⌜ r ≡ restsOk own ⌝ }
+{
+    (own.number <= Request::LAST_NUMBER) & (own.sends | own.timer == 0)
+}
+
+// The digest of a record: 0 for a free one, 2 for one that is not as the rules want it. Most records are live: they have a way of
+// their own.
 pub fn digest(b: Bounds, s: Session) -> u64
     ensures { λ r. ⌜ r ≡ digestOf b s ⌝ }
 {
@@ -46,17 +54,25 @@ pub fn digest(b: Bounds, s: Session) -> u64
     if !(counted & held) {
         return 2;
     }
+    let own = s.own;
+    let k = rules::key(s);
+    let point = (s.point % 4) as u64;
+    let quiet = k % 288230376151711744 * 64 + point * 16;
+    if s.state == Session::LIVE {
+        let rests = rests(own);
+        if rests {
+            return quiet;
+        }
+        return 2;
+    }
     let fits = s.phase(b);
     if !fits {
         return 2;
     }
-    let k = rules::key(s);
-    let point = (s.point % 4) as u64;
-    let own = s.own;
     if own.sends == 0 {
-        return k % 288230376151711744 * 64 + point * 16;
+        return quiet;
     }
-    k % 288230376151711744 * 64 + point * 16 + 1
+    quiet + 1
 }
 
 // What a record's own request awaits, as a key.
@@ -114,6 +130,20 @@ fn weight(d: u64) -> u64
     1u64 << (d / 16 % 4 * 16)
 }
 
+// A digest entered: its access point counted, its key marked. The answer is whether the key is none of those from a place on.
+fn note(ds: &[u64], d: u64, from: usize, marks: &mut [u8], counts: &mut u64) -> bool
+    requires { ⌜ length (now marks) ≡ 1024 ⌝ }
+    ensures { λ r. ⌜ (r ≡ entersOf (keyIn d) (drop from (map keyIn (now (ds .entry)))) (now (marks .entry)))
+        × ((now (marks .exit) ≡ marksOf (keyIn d) (now (marks .entry))) × (now (counts .exit) ≡ countedIn d (now (counts .entry)))) ⌝ }
+{
+    if d < 64 {
+        return true;
+    }
+    let w = weight(d);
+    *counts = std::num::wrapping_add_u64(*counts, w);
+    enters(ds, d / 64, from, marks)
+}
+
 fn none() -> Glance
     ensures { λ r. ⌜ r ≡ noGlance ⌝ }
 {
@@ -134,12 +164,10 @@ pub fn glance_of(ds: [u64; 64]) -> Glance
     let mut i: usize = 64;
     while 0 < i {
         let d = ds[i - 1];
-        let new = enters(&ds, d / 64, i, &mut marks);
+        let new = note(&ds, d, i, &mut marks, &mut counts);
         if !new {
             return none();
         }
-        let w = weight(d);
-        counts += w;
         flags = d | flags;
         i -= 1;
     }
