@@ -9,7 +9,7 @@ use lib.ListN.{length, getD}
 use lib.Dec.{eqb, leb}
 use lib.Bits.{bitOr, or-mod, or-shr}
 use borrow.Author.Tests.{eqb-true, eq-eqb}
-use Rattle.octets.specs.Choice.{pick, split, and-left, and-right, and-no}
+use Rattle.octets.specs.Choice.{pick, split, impossible, and-left, and-right, and-no}
 use Rattle.octets.specs.Every.{every}
 use Rattle.octets.specs.Sums.{sumOf, sum-of-map, sum-agree}
 use Rattle.tunnel.specs.Numbering.{places}
@@ -22,7 +22,7 @@ use Rattle.session.specs.Request.{lastNumber, requestOk}
 use Rattle.session.specs.Session.{recordOk}
 use Rattle.session.specs.Wide.{or-none}
 use Rattle.table.specs.declared.Node.{Node}
-use Rattle.table.specs.Rules.{boundsOf, sameWait, requests, keepsRules}
+use Rattle.table.specs.Rules.{boundsOf, keepsRules, rules-of}
 use Rattle.rules.specs.declared.Survey.{Survey}
 use Rattle.rules.specs.Survey.{keyOf, waitOf, weightOf, silent, waitsOf, noSurvey, surveyOf}
 use Rattle.rules.specs.Check.{unpackedOf, parties-four, waits-keys, checked, checked-is, checked-bad, checked-quiet}
@@ -53,6 +53,21 @@ keptOf count node g waits =
     pick (accepted (node .plan) && eqb count places && g .good)
     (pick (g .quiet) (fromCounts node (g .counts)) (fromCounts node (g .counts) && (noneClash sameKey (waitOf (node .echo)) waits && pairwise sameKey waits)))
     false
+
+-- 0: a rule is broken; 1: all are kept, and no place awaits a number; 2: all are kept
+unfoldable pub standingOf : ℕ → Node → Glance → List ℕ → ℕ
+standingOf count node g waits = pick {A = ℕ} (keptOf count node g waits) (pick {A = ℕ} (g .quiet) 1 2) 0
+
+-- the same of a list of records
+unfoldable pub standsOf : Node → List Session → ℕ
+standsOf node l = pick {A = ℕ} (keepsRules node l) (pick {A = ℕ} (every silent l) 1 2) 0
+
+unfoldable pub standsBy : ℕ → Bool
+standsBy how = not (eqb how 0)
+
+pub stands-kept : (node : Node) (l : List Session) → standsBy (standsOf node l) ≡ keepsRules node l
+unfolding standsBy standsOf
+stands-kept node l = split (keepsRules node l) (λ k. split (every silent l) (λ q. rw (k, q)) (λ q. rw (k, q))) (λ k. rw k)
 
 -- ---- bits of all digests together
 pub quiet-both : (d f : ℕ) → quietIn (bitOr d f) ≡ (quietIn d && quietIn f)
@@ -139,6 +154,12 @@ module _ (node : Node) (l : List Session) (waits : List ℕ) (planned : accepted
           rw (planned, eq-eqb (length l) places size, g, q)
           (split (every silent l) (λ e. rw e (quiet-rules e)) (λ e. rw e (loud-rules (f (rw (g, q, e))))))
 
+  -- where the rules are kept, quiet is said of every record
+  quiet-seen : keepsRules node l ≡ true → seen .quiet ≡ every silent l
+  quiet-seen k = split (every (recordOk b) l)
+      (λ e. split (pairwise sameKey (map keyOf l)) (λ p. rw (apart-seen e p)) (λ p. impossible (sym (twice-rules e p) ∙ k)))
+      (λ e. impossible (sym (bad-rules e) ∙ k))
+
   kept-none : seen .good ≡ false → keepsRules node l ≡ false → keptOf (length l) node seen waits ≡ keepsRules node l
   unfolding keptOf
   kept-none g r = rw (g, r, and-no (accepted (node .plan) && eqb (length l) places))
@@ -165,3 +186,12 @@ kept-is node l ds waits d w = split (accepted (node .plan))
 
     kept-refused : accepted (node .plan) ≡ false → keptOf (length l) node (glanceOf ds) waits ≡ keepsRules node l
     kept-refused a = rw a
+
+pub standing-is : (node : Node) (l : List Session) (ds waits : List ℕ)
+    → (length l ≡ places → ds ≡ map (digestOf (boundsOf (node .plan))) l)
+    → (length l ≡ places → waitingOf (glanceOf ds) ≡ true → waits ≡ waitsOf l)
+    → standingOf (length l) node (glanceOf ds) waits ≡ standsOf node l
+unfolding standingOf standsOf
+standing-is node l ds waits d w = rw (kept-is node l ds waits d w) (split (keepsRules node l)
+    (λ k. let r = rules-of node l k in rw (k, d (r .size), quiet-seen node l waits (r .planned) (r .size) k))
+    (λ k. rw k))

@@ -12,7 +12,7 @@ ghost use Rattle.table.specs.Rules.{boundsOf};
 ghost use Rattle.rules.specs.Survey.{waitOf};
 ghost use Rattle.distinct.specs.Lacks.{lacks};
 ghost use Rattle.glance.specs.Digest.{restsOk, digestOf, keyIn, weightIn, markOf};
-ghost use Rattle.glance.specs.Glance.{noGlance, glanceOf, keptOf, waitingOf};
+ghost use Rattle.glance.specs.Glance.{noGlance, glanceOf, keptOf, standingOf, standsBy, waitingOf};
 ghost use Rattle.glance.specs.Over.{entersOf, marksOf, countedIn};
 
 // What the digests of a table say: every record good and no key twice, no number awaited, the counts packed.
@@ -206,4 +206,25 @@ pub fn kept(count: usize, node: Node, g: Glance, waits: [u64; 64]) -> bool
     let apart = distinct::absent(&waits, w);
     let each = distinct::distinct(&waits);
     kept & (apart & each)
+}
+
+// How a table stands: 0 where a rule is broken, 1 where all are kept and no place awaits a number, else 2.
+pub fn standing(count: usize, node: Node, g: Glance, waits: [u64; 64]) -> u8
+    ensures { λ r. ⌜ r ≡ standingOf count node g waits ⌝ }
+{
+    let ok = kept(count, node, g, waits);
+    if !ok {
+        return 0;
+    }
+    if g.quiet {
+        return 1;
+    }
+    2
+}
+
+// Whether it stands by every rule.
+pub fn stands(how: u8) -> bool
+    ensures { λ r. ⌜ r ≡ standsBy how ⌝ }
+{
+    how != 0
 }

@@ -9,6 +9,7 @@ ghost use lib.ListN.{replicate};
 ghost use Rattle.table.specs.Rules.{keepsRules};
 ghost use Rattle.rules.specs.Survey.{waitOf};
 ghost use Rattle.glance.specs.Digest.{digestOf};
+ghost use Rattle.glance.specs.Glance.{standsOf};
 ghost use Rattle.lentrules.specs.Read.{boundOf, readOf};
 
 // How many of a count of lent records are read: all where there are as many as places and they are wanted, else none.
@@ -64,9 +65,9 @@ pub fn awaited(recs: &[Session], wanted: bool) -> [u64; 64]
     t
 }
 
-// Whether the records keep every rule.
-pub fn kept(node: Node, recs: &[Session]) -> bool
-    ensures { λ r. ⌜ r ≡ keepsRules node (now (recs .entry)) ⌝ }
+// How the records stand: 0 where a rule is broken, 1 where all are kept and no place awaits one, else 2.
+pub fn standing(node: Node, recs: &[Session]) -> u8
+    ensures { λ r. ⌜ r ≡ standsOf node (now (recs .entry)) ⌝ }
 {
     let count = recs.len();
     let b = glance::bounds_of(node);
@@ -74,5 +75,13 @@ pub fn kept(node: Node, recs: &[Session]) -> bool
     let g = glance::glance_of(ds);
     let wanted = glance::waiting(g);
     let waits = awaited(recs, wanted);
-    glance::kept(count, node, g, waits)
+    glance::standing(count, node, g, waits)
+}
+
+// Whether the records keep every rule.
+pub fn kept(node: Node, recs: &[Session]) -> bool
+    ensures { λ r. ⌜ r ≡ keepsRules node (now (recs .entry)) ⌝ }
+{
+    let how = standing(node, recs);
+    glance::stands(how)
 }
