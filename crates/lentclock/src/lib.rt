@@ -11,12 +11,11 @@ ghost use Rattle.lentcore.specs.Lent.{left};
 pub extern "C" fn grugavorn_tick(node: Node, recs: &mut [Session]) -> Left
     ensures { λ r. ⌜ left r (now (recs .exit)) ≡ tickOf node (held (now (recs .entry))) ⌝ }
 {
-    let count = recs.len();
-    let table = lentkit::load(recs);
-    let answer = lentcore::tick_on(count, node, table);
-    let records = lentcore::records_of(answer);
-    lentkit::store(recs, records);
-    lentcore::left_of(answer)
+    let kept = lentrules::kept(node, recs);
+    let c = lentstep::tick_change(node);
+    let n = lentstep::tick_count(kept);
+    lentedit::change_each(recs, c, n);
+    lentstep::tick_left(kept, node)
 }
 
 // Close a place.
@@ -24,12 +23,11 @@ pub extern "C" fn grugavorn_tick(node: Node, recs: &mut [Session]) -> Left
 pub extern "C" fn grugavorn_close(node: Node, recs: &mut [Session], place: usize) -> Left
     ensures { λ r. ⌜ left r (now (recs .exit)) ≡ closeOf node (held (now (recs .entry))) place ⌝ }
 {
-    let count = recs.len();
-    let table = lentkit::load(recs);
-    let answer = lentcore::close_on(count, node, table, place);
-    let records = lentcore::records_of(answer);
-    lentkit::store(recs, records);
-    lentcore::left_of(answer)
+    let kept = lentrules::kept(node, recs);
+    let s = lentedit::read(recs, place);
+    let c = lentstep::closed_by(kept, s);
+    lentedit::put(recs, place, c);
+    lentstep::close_left(kept, node, s)
 }
 
 // Send next due.
