@@ -49,8 +49,7 @@ closeLeft kept node s = pick kept (pick (isFree s) (refusal 10 node) (refusal 0 
 
 -- ---- laws
 -- the rules count the records
-pub kept-long : (node : Node) (l : List Session) → keepsRules node l ≡ true → length l ≡ 64
-unfolding places
+pub kept-long : (node : Node) (l : List Session) → keepsRules node l ≡ true → length l ≡ places
 kept-long node l e = split (eqb (length l) places) (λ t. eqb-true (length l) places t) (λ t. impossible (sym (rules-other node l t) ∙ e))
 
 -- a place that there is not reads as free
@@ -62,7 +61,7 @@ closable-is i l = split (ltb i (length l)) (λ t. rw t) (λ t. rw (t, List·getD
 pub lent-tick : (node : Node) (l zs : List Session) (kept : Bool) (c : Change) (n : ℕ) (r : Left)
     → kept ≡ keepsRules node l → c ≡ tickChange node → n ≡ tickCount kept → zs ≡ mapFirst (changedBy c) n l → r ≡ tickLeft kept node
     → left r zs ≡ tickOf node (held l)
-unfolding tickChange tickCount tickLeft refusal left held refused tickOf allTicked changedBy
+unfolding tickChange tickCount tickLeft refusal left held refused tickOf allTicked changedBy places
 lent-tick node l zs kept c n r e-k e-c e-n e-z e-r = split (keepsRules node l)
     (λ t. let m = kept-long node l t in
     split (spent (node .plan .sends) (node .echo))
