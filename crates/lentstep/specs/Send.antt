@@ -1,9 +1,9 @@
 -- Send next due on lent records, in the steps that are taken, and that these steps are the call's own definition on the lent list.
 -- Assumes nothing.
-use Prim.Native.Nat.{ℕ, _+_, _*_, _/_, _%_, _<_, _≤_}
+use Prim.Native.Nat.{ℕ, _+_, _*_, _/_, _%_, _≤_}
 use mathlib.Core.Bool.{Bool, true, false, not, _&&_}
 use mathlib.Core.List.{List, [], _∷_, map}
-use mathlib.Core.Path.{_≡_, refl, sym, ap, _∙_}
+use mathlib.Core.Path.{_≡_, refl, ap, _∙_}
 use native.Mathlib.Omega.{arith}
 use lib.ListN.{length, getD, set}
 use lib.Seq.{set-getD}
@@ -25,7 +25,7 @@ use Rattle.table.specs.Own.{duePlace}
 use Rattle.rules.specs.Survey.{waitOf, waitsOf}
 use Rattle.tally.specs.Tally.{freeAmong, free-among}
 use Rattle.messages.specs.Messages.{echoOf, deleteBearer}
-use Rattle.timing.specs.Timing.{Outcome, outcome, leastReply, timed, held, refused, stepped, echoSent, placeSent, dueSent, sendOf}
+use Rattle.timing.specs.Timing.{outcome, leastReply, timed, held, refused, stepped, echoSent, placeSent, dueSent, sendOf}
 use Rattle.lentrules.specs.Read.{readOf, read-all}
 use Rattle.lentcore.specs.declared.Left.{Left}
 use Rattle.lentcore.specs.Lent.{left}

@@ -1,7 +1,6 @@
 use Prim.Native.Nat.{_<_}
 use native.Mathlib.Omega.{arith}
 use borrow.Author.Tests.{eq-eqb, ne-eqb}
-use Rattle.session.specs.Session.{isDue}
 use Rattle.rules.specs.Survey.{waitOf}
 use Rattle.octets.specs.Choice.{bit-most}
 use Rattle.lentstep.specs.Send.{sendingOf}
