@@ -13,11 +13,11 @@ ghost use Rattle.lentstep.specs.Send.{sendingOf};
 pub extern "C" fn grugavorn_tick(node: Node, recs: &mut [Session]) -> Left
     ensures { λ r. ⌜ left r (now (recs .exit)) ≡ tickOf node (held (now (recs .entry))) ⌝ }
 {
-    let kept = lentrules::kept(node, recs);
+    let how = lentrules::standing(node, recs);
     let c = lentstep::tick_change(node);
-    let n = lentstep::tick_count(kept);
+    let n = lentstep::tick_count(how, node);
     lentedit::change_each(recs, c, n);
-    lentstep::tick_left(kept, node)
+    lentstep::tick_left(how, node)
 }
 
 // Close a place.

@@ -44,20 +44,25 @@ pub fn tick_change(node: Node) -> Change
     Change::Tick(plan.sends)
 }
 
-// Of how many records.
-pub fn tick_count(kept: bool) -> usize
-    ensures { λ r. ⌜ r ≡ tickCount kept ⌝ }
+// How many records a tick changes, by how they stand: none where a rule is broken, and none where no place awaits a number, since then no
+// timer runs; unless the echo is given up, which frees all.
+pub fn tick_count(how: u8, node: Node) -> usize
+    ensures { λ r. ⌜ r ≡ tickCount how node ⌝ }
 {
-    if kept {
-        return Table::PLACES;
+    let plan = node.plan;
+    let echo = node.echo;
+    let over = echo.spent(plan.sends);
+    if (how == 0) | (how == 1) & !over {
+        return 0;
     }
-    0
+    Table::PLACES
 }
 
-pub fn tick_left(kept: bool, mut node: Node) -> Left
-    ensures { λ r. ⌜ r ≡ tickLeft kept node ⌝ }
+// What goes back of a tick by value.
+pub fn tick_left(how: u8, mut node: Node) -> Left
+    ensures { λ r. ⌜ r ≡ tickLeft how node ⌝ }
 {
-    if !kept {
+    if how == 0 {
         return refusal(2, node);
     }
     let next = node.echo_ticked();
