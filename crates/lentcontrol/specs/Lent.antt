@@ -15,20 +15,20 @@ use Rattle.control.specs.Control.{controlTaken}
 use Rattle.lentcore.specs.declared.Left.{Left}
 use Rattle.lentcore.specs.Lent.{left}
 use Rattle.single.specs.declared.Single.{Single}
-use Rattle.single.specs.Single.{placeIn, quickOf, singled, singleOf}
+use Rattle.single.specs.Single.{placeIn, quickOf, singled, nodeAfter, singleOf}
 use Rattle.single.specs.Same.{placed, control-same}
 
 -- what of an answer goes back by value
-unfoldable pub leftSingle : Single → Left
-leftSingle q = record { number = q .number; size = q .size; node = q .node }
+unfoldable pub leftSingle : Node → Single → Left
+leftSingle node q = record { number = q .number; size = q .size; node = nodeAfter q node }
 
 unfoldable pub singleTaken : Node → List Session → List ℕ → List ℕ → Outcome
-singleTaken node l d reply = placed (placeIn d) l (singleOf (keepsRules node l) node (getD l (placeIn d) nobody) d reply)
+singleTaken node l d reply = placed node (placeIn d) l (singleOf (keepsRules node l) node (getD l (placeIn d) nobody) d reply)
 
 -- in the words of the code: what was read, called and put back
 pub single-lent : (node : Node) (l zs : List Session) (d reply after : List ℕ) (kept : Bool) (at : ℕ) (s t : Session) (q : Single) (r : Left)
     → kept ≡ keepsRules node l → at ≡ placeIn d → s ≡ getD l at nobody → singled q after ≡ singleOf kept node s d reply
-    → t ≡ q .session → zs ≡ set l at t → r ≡ leftSingle q → outcome (left r zs) after ≡ singleTaken node l d reply
+    → t ≡ q .session → zs ≡ set l at t → r ≡ leftSingle node q → outcome (left r zs) after ≡ singleTaken node l d reply
 unfolding singleTaken placed left leftSingle
 single-lent node l zs d reply after kept at s t q r e-kept e-at e-s e-q e-t e-zs e-r =
     rw (e-r, e-zs, e-t, ← e-kept, ← e-at, ← e-s, ← e-q)

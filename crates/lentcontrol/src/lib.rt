@@ -10,14 +10,16 @@ ghost use Rattle.control.specs.Control.{controlTaken};
 ghost use Rattle.lentcore.specs.Lent.{left};
 ghost use Rattle.lentcontrol.specs.Lent.{leftSingle, singleTaken};
 
-fn left_single(q: Single) -> Left
-    ensures { λ r. ⌜ r ≡ leftSingle q ⌝ }
+fn left_single(node: Node, q: Single) -> Left
+    ensures { λ r. ⌜ r ≡ leftSingle node q ⌝ }
 {
-    let node = q.node;
+    let mut after = node;
+    after.heard = q.heard;
+    after.recovery = q.recovery;
     Left {
         number: q.number,
         size: q.size,
-        node,
+        node: after,
     }
 }
 
@@ -31,7 +33,7 @@ fn single_lent(node: Node, recs: &mut [Session], d: &[u8], reply: &mut [u8]) -> 
     let q = single::take_single(kept, node, s, d, reply);
     let record = single::session_of(q);
     lentedit::put(recs, at, record);
-    left_single(q)
+    left_single(node, q)
 }
 
 // On all records, by value.

@@ -61,17 +61,24 @@ pub record Singled : Type 0 where
 abbrev pub singled : Single → List ℕ → Singled
 singled a reply = record { answer = a; reply = reply }
 
+-- of the node only the stored Recovery is answered: nothing else of it changes
+abbrev pub answered : ℕ → ℕ → Node → Session → Single
+answered number size node s = record { number = number; size = size; heard = node .heard; recovery = node .recovery; session = s }
+
+unfoldable pub nodeAfter : Single → Node → Node
+nodeAfter q node = record { plan = node .plan; echo = node .echo; next = node .next; heard = q .heard; recovery = q .recovery }
+
 unfoldable pub silent : ℕ → Node → Session → Single
-silent number node s = record { number = number; size = 0; node = node; session = s }
+silent number node s = answered number 0 node s
 
 unfoldable pub causeOn : ℕ → ℕ → ℕ → Refusal → Node → Session → List ℕ → Singled
 causeOn type teid seq w node s reply = singled
-    (record { number = w .cause; size = causeSize w; node = node; session = s })
+    (answered (w .cause) (causeSize w) node s)
     (overlay (causeOctets type teid seq w) reply)
 
 unfoldable pub echoOn : Node → Session → ℕ → Recovery → List ℕ → Singled
 echoOn node s seq recovery reply = singled
-    (record { number = 0; size = 13; node = heardNode recovery node; session = s })
+    (answered 0 13 (heardNode recovery node) s)
     (overlay (echoOf 2 seq (node .plan .recovery)) reply)
 
 -- whether a record is the session that a number means: taken, and in that use
@@ -81,7 +88,7 @@ ownedBy H.Nobody s = false
 
 unfoldable pub movedOn : M.Modify → ℕ → Session → Node → List ℕ → Singled
 movedOn m seq s node reply = singled
-    (record { number = 0; size = modifySize (m .context); node = node; session = moved (peersOf m s) s })
+    (answered 0 (modifySize (m .context)) node (moved (peersOf m s) s))
     (overlay (modifyOctets (m .context) (peersOf m s .control) seq (s .ebi)) reply)
 
 unfoldable pub modifyRead : Decoded → ℕ → Session → Node → List ℕ → Singled
@@ -97,7 +104,7 @@ modifyOn node s teid seq rest reply =
 
 unfoldable pub freedOn : ℕ → Session → Node → List ℕ → Singled
 freedOn seq s node reply = singled
-    (record { number = 0; size = 18; node = node; session = freed s })
+    (answered 0 18 node (freed s))
     (overlay (causeReply 37 (s .control) seq 16) reply)
 
 unfoldable pub deleteRead : Decoded → ℕ → Session → Node → List ℕ → Singled
@@ -120,7 +127,7 @@ unfoldable pub gateOn : ℕ → List ℕ → Node → Session → List ℕ → S
 gateOn number d node s reply =
     pick (eqb number 0) (kindOn (headerOf d) (drop (headerOf d .fields) d) node s reply)
     (pick (eqb number 5)
-    (singled (record { number = 5; size = 8; node = node; session = s }) (overlay versionNotSupported reply))
+    (singled (answered 5 8 node s) (overlay versionNotSupported reply))
     (singled (silent number node s) reply))
 
 -- whether the table keeps its rules is said; the record is that of the datagram's place

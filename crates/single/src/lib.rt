@@ -13,11 +13,13 @@ use tunnel::Holder;
 ghost use mathlib.Core.Path.{_≡_};
 ghost use Rattle.single.specs.Single.{placeBy, placeIn, quickKind, quickOf, ownedBy, singled, silent, causeOn, echoOn, movedOn, modifyRead, modifyOn, freedOn, deleteRead, deleteOn, kindOn, gateOn, singleOf};
 
-// Document 01's number, the reply's length, what goes with the records, and the session's record as it is then.
+// Document 01's number, the reply's length, the stored Recovery, which is all of the node that can change, and the session's record as
+// it is then.
 pub struct Single {
     pub number: u8,
     pub size: usize,
-    pub node: Node,
+    pub heard: u8,
+    pub recovery: u8,
     pub session: Session,
 }
 
@@ -82,7 +84,8 @@ fn refused(number: u8, node: Node, s: Session) -> Single
     Single {
         number,
         size: 0,
-        node,
+        heard: node.heard,
+        recovery: node.recovery,
         session: s,
     }
 }
@@ -103,7 +106,8 @@ fn cause_on(
     Single {
         number: w.cause,
         size,
-        node,
+        heard: node.heard,
+        recovery: node.recovery,
         session: s,
     }
 }
@@ -118,7 +122,8 @@ fn echo_on(node: Node, s: Session, seq: u32, recovery: Recovery, reply: &mut [u8
     Single {
         number: 0,
         size: 13,
-        node: after,
+        heard: after.heard,
+        recovery: after.recovery,
         session: s,
     }
 }
@@ -147,7 +152,8 @@ fn moved_on(m: Modify, seq: u32, s: Session, node: Node, reply: &mut [u8]) -> Si
     Single {
         number: 0,
         size,
-        node,
+        heard: node.heard,
+        recovery: node.recovery,
         session: moved,
     }
 }
@@ -194,7 +200,8 @@ fn freed_on(seq: u32, s: Session, node: Node, reply: &mut [u8]) -> Single
     Single {
         number: 0,
         size: 18,
-        node,
+        heard: node.heard,
+        recovery: node.recovery,
         session: freed,
     }
 }
@@ -261,7 +268,8 @@ fn gate_on(number: u8, d: &[u8], node: Node, s: Session, reply: &mut [u8]) -> Si
         return Single {
             number: 5,
             size: 8,
-            node,
+            heard: node.heard,
+            recovery: node.recovery,
             session: s,
         };
     }

@@ -266,14 +266,15 @@ module _ {M : Type 1} (𝓤 : URA M) (H : Heap 𝓤) (A : Atoms 𝓤) (W : Given
         pick ! (λ z-Put. split ! $ move ! (1 ∷ []) $ heard ! ((z-Put .0) ≡ set (recs .now) r-Site r-Part) (λ e-Put. fsplit ! $ fsplit ! $ move ! (1 ∷ []) $ feqL ! (λ len-recs. move ! (1 ∷ []) $ fsplit ! $ drop ! $ fsplit ! $ drop ! $
         drop ! $ move ! (1 ∷ []) $ split ! $ split ! $ move ! (1 ∷ []) $ drop ! $ move ! (1 ∷ []) $ peeks ! Nothing (Is Nothing) (shows 𝓤 H A Nothing) r-Put (w-Put ∷ []) (λ is-Put.
         land ! (from ! (stop !)) (init ! 11 refl (nothing-lawful 𝓤 H A W .typed r-Put _ is-Put .0)) $ drop ! $
-        -- _0 = left_single(_8)
-        nothing ! $ nothing ! $ owned ! Si.the-row (Is Si.the-row) (LL.makes Si.the-type Si′.the-plain 𝓤 H A) r-Core _ is-Core $ fjoin ! $ move ! (1 ∷ 0 ∷ []) $
-        use2 W (raw (Back 𝓤 H A mem run .pre ((tt, tt, tt, (r-Core, tt), (w-Core ∷ [], tt)), tt))) (qed W ((‵ ftrue) ∷ ‵ (fsep (Si.the-row .own r-Core (w-Core ∷ [])) ftrue) ∷ []) ∵ join ! $ frame ! $ done !) $
-        calls-at ! fm (Back 𝓤 H A mem run) known-Back ((tt, tt, tt, (r-Core, tt), (w-Core ∷ [], tt)), tt) (and-then ! (load ! (from ! (stop !)) (look ! 27 refl)) (no-more !)) (λ w-Back.
-        use1 W (later (some (λ (r-Back : Left). ((‵ ftrue) ⊛ ‵ (Lf.the-row .own r-Back (w-Back ∷ []))) ⊛ raw (ensured 𝓤 H A Back′.ended (Back′.clauses 𝓤 H A mem run) tt (r-Core, tt) tt r-Back)))) (id⊢ 𝓤 _) $ await ! tt $ pick ! (λ r-Back.
-        split ! $ move ! (1 ∷ []) $ use1 W (some (λ (z-Back : (Unit {0}) × (Unit {0})). ‵ (lasts Back′.ended tt (r-Core, tt) z-Back) ⊛ raw (fact 𝓤 (r-Back ≡ leftSingle r-Core)))) (id⊢ 𝓤 _) $ pick ! (λ z-Back. split ! $ move ! (1 ∷ []) $
-        heard ! (r-Back ≡ leftSingle r-Core) (λ e-Back. fsplit ! $ drop ! $ drop ! $ split ! $ drop ! $ peeks ! Lf.the-row (Is Lf.the-row) (shows 𝓤 H A Lf.the-row) r-Back (w-Back ∷ []) (λ is-Back.
-        land ! (from ! (stop !)) (init ! 43 refl (LL.lawful Lf.the-type Lf′.the-laws 𝓤 H A W .typed r-Back _ is-Back .0)) $
+        -- _0 = left_single(_1, _8)
+        nothing ! $ nothing ! $ owned ! Si.the-row (Is Si.the-row) (LL.makes Si.the-type Si′.the-plain 𝓤 H A) r-Core _ is-Core $ fjoin ! $ owned ! N.the-row (Is N.the-row) (LL.makes N.the-type N′.the-plain 𝓤 H A) node _ is-node $ fjoin ! $
+        move ! (1 ∷ 0 ∷ []) $
+        use2 W (raw (Back 𝓤 H A mem run .pre ((tt, tt, tt, (node, (r-Core, tt)), (v-node ∷ [], (w-Core ∷ [], tt))), tt))) (qed W ((‵ ftrue) ∷ ‵ (fsep (N.the-row .own node (v-node ∷ [])) (fsep (Si.the-row .own r-Core (w-Core ∷ [])) ftrue)) ∷ []) ∵ join ! $ frame ! $ done !) $
+        calls-at ! fm (Back 𝓤 H A mem run) known-Back ((tt, tt, tt, (node, (r-Core, tt)), (v-node ∷ [], (w-Core ∷ [], tt))), tt) (and-then ! (load ! (from ! (stop !)) (look ! 41 refl)) (and-then ! (load ! (from ! (stop !)) (look ! 27 refl)) (no-more !))) (λ w-Back.
+        use1 W (later (some (λ (r-Back : Left). ((‵ ftrue) ⊛ ‵ (Lf.the-row .own r-Back (w-Back ∷ []))) ⊛ raw (ensured 𝓤 H A Back′.ended (Back′.clauses 𝓤 H A mem run) tt (node, (r-Core, tt)) tt r-Back)))) (id⊢ 𝓤 _) $ await ! tt $
+        pick ! (λ r-Back. split ! $ move ! (1 ∷ []) $ use1 W (some (λ (z-Back : (Unit {0}) × ((Unit {0}) × (Unit {0}))). ‵ (lasts Back′.ended tt (node, (r-Core, tt)) z-Back) ⊛ raw (fact 𝓤 (r-Back ≡ leftSingle node r-Core)))) (id⊢ 𝓤 _) $
+        pick ! (λ z-Back. split ! $ move ! (1 ∷ []) $ heard ! (r-Back ≡ leftSingle node r-Core) (λ e-Back. fsplit ! $ drop ! $ fsplit ! $ drop ! $ drop ! $ split ! $ drop ! $
+        peeks ! Lf.the-row (Is Lf.the-row) (shows 𝓤 H A Lf.the-row) r-Back (w-Back ∷ []) (λ is-Back. land ! (from ! (stop !)) (init ! 43 refl (LL.lawful Lf.the-type Lf′.the-laws 𝓤 H A W .typed r-Back _ is-Back .0)) $
         -- return
         returns ! (look ! 43 refl) $
         forget ! 7 refl $ forget ! 9 refl $ forget ! 11 refl $ forget ! 13 refl $ forget ! 15 refl $ forget ! 17 refl $ forget ! 19 refl $ forget ! 21 refl $ forget ! 23 refl $ forget ! 25 refl $ forget ! 27 refl $ forget ! 29 refl $ forget ! 31 refl $ forget ! 33 refl $ forget ! 35 refl $ forget ! 37 refl $ forget ! 39 refl $ forget ! 41 refl $ forget ! 43 refl $
