@@ -18,7 +18,7 @@ ghost use lib.ListN.{getD};
 ghost use Rattle.table.specs.Change.{nobody};
 ghost use Rattle.octets.specs.Overlay.{overlay};
 ghost use Rattle.timing.specs.Timing.{outcome};
-ghost use Rattle.amends.specs.Amends.{notLive, causeTaken, peerTeid, peerAddr, peersOf, Replied, modifySize, modifyOctets, modifyDone, modifyBy, modifyTaken, deleteBy, deleteDone, deleteTaken};
+ghost use Rattle.amends.specs.Amends.{notLive, causeSize, causeOctets, causeTaken, peerTeid, peerAddr, peersOf, Replied, modifySize, modifyOctets, modifyDone, modifyBy, modifyTaken, deleteBy, deleteDone, deleteTaken};
 
 // No such session: 64, no field named.
 pub fn not_live() -> Refusal
@@ -32,7 +32,19 @@ pub fn not_live() -> Refusal
     }
 }
 
-// A reply with a cause, and the field at fault where one is named; the table as it was.
+// A reply with a cause, and the field at fault where one is named; the answer is its length.
+pub fn write_cause(kind: u8, teid: u32, seq: u32, w: Refusal, reply: &mut [u8]) -> usize
+    ensures { λ r. ⌜ Replied r (now (reply .exit)) (causeSize w) (overlay (causeOctets kind teid seq w) (now (reply .entry))) ⌝ }
+{
+    if w.named {
+        messages::fault_reply(reply, kind, teid, seq, w.cause, w.kind, w.instance);
+        return 22;
+    }
+    messages::cause_reply(reply, kind, teid, seq, w.cause);
+    18
+}
+
+// The same as an answer; the table as it was.
 pub fn take_cause(
     kind: u8,
     teid: u32,
@@ -44,19 +56,10 @@ pub fn take_cause(
 ) -> Answer
     ensures { λ r. ⌜ outcome r (now (reply .exit)) ≡ causeTaken kind teid seq w node table (now (reply .entry)) ⌝ }
 {
-    if w.named {
-        messages::fault_reply(reply, kind, teid, seq, w.cause, w.kind, w.instance);
-        return Answer {
-            number: w.cause,
-            size: 22,
-            node,
-            table,
-        };
-    }
-    messages::cause_reply(reply, kind, teid, seq, w.cause);
+    let size = write_cause(kind, teid, seq, w, reply);
     Answer {
         number: w.cause,
-        size: 18,
+        size,
         node,
         table,
     }
@@ -91,7 +94,7 @@ fn peer_addr(p: Peer, old: u32) -> u32
 }
 
 // Where the peer is after a Modify.
-fn peers_of(m: Modify, s: Session) -> Peers
+pub fn peers_of(m: Modify, s: Session) -> Peers
     ensures { λ r. ⌜ r ≡ peersOf m s ⌝ }
 {
     let c = m.control;
@@ -109,7 +112,7 @@ fn peers_of(m: Modify, s: Session) -> Peers
 }
 
 // The accepted reply to a Modify; the answer is its length.
-fn modify_reply(context: Context, teid: u32, seq: u32, ebi: u8, reply: &mut [u8]) -> usize
+pub fn modify_reply(context: Context, teid: u32, seq: u32, ebi: u8, reply: &mut [u8]) -> usize
     ensures { λ r. ⌜ Replied r (now (reply .exit)) (modifySize context) (overlay (modifyOctets context teid seq ebi) (now (reply .entry))) ⌝ }
 {
     match context {

@@ -1,2 +1,4 @@
 pub mod Apart
-pub mod Marks
+pub mod Chains
+pub mod Lacks
+pub mod Passed

@@ -3,10 +3,10 @@
 -- Assumes nothing.
 use Prim.Native.Nat.{ℕ}
 use mathlib.Core.Bool.{Bool, true, false, _&&_}
-use mathlib.Core.List.{List}
+use mathlib.Core.List.{List, map}
 use mathlib.Core.Path.{_≡_, refl, sym, _∙_}
 use lib.Dec.{eqb}
-use Rattle.octets.specs.Choice.{pick, split}
+use Rattle.octets.specs.Choice.{pick, split, impossible}
 use Rattle.octets.specs.Overlay.{overlay}
 use Rattle.tunnel.specs.Numbering.{controlOffset}
 use Rattle.session.specs.declared.Session.{Session}
@@ -30,10 +30,32 @@ use Rattle.carried.specs.declared.BearerReply.the-variants as B
 use Rattle.timing.specs.declared.Answer.{Answer}
 use Rattle.timing.specs.Timing.{Outcome, outcome, timed, held, refused}
 
+-- whether a Recovery says that the exchange restarted, and the node once it is stored
+unfoldable pub restartsBy : Recovery → Node → Bool
+restartsBy R.None node = false
+restartsBy (R.Value value) node = restarted node value
+
+unfoldable pub heardNode : Recovery → Node → Node
+heardNode R.None node = node
+heardNode (R.Value value) node = hearing value node
+
 -- a Recovery value is stored, and one that is not the stored one frees all; where none came nothing is done
 unfoldable pub heardBy : Recovery → Node → Table → Answer
 heardBy R.None node t = refused 0 node t
 heardBy (R.Value value) node t = record { number = 0; size = 0; node = hearing value node; table = held (keptAfter node value (t .recs)) }
+
+-- in the words of the code: all are freed, or the table stays
+pub heard-freed : (r : Recovery) (node : Node) (t : Table) → restartsBy r node ≡ true
+    → heardBy r node t ≡ record { number = 0; size = 0; node = heardNode r node; table = held (map freed (t .recs)) }
+unfolding heardBy restartsBy heardNode keptAfter
+heard-freed R.None node t e = impossible e
+heard-freed (R.Value value) node t e = rw e
+
+pub heard-same : (r : Recovery) (node : Node) (t : Table) → restartsBy r node ≡ false
+    → heardBy r node t ≡ record { number = 0; size = 0; node = heardNode r node; table = t }
+unfolding heardBy restartsBy heardNode keptAfter refused held
+heard-same R.None node t e = refl
+heard-same (R.Value value) node t e = rw e
 
 -- Echo Request (1): Recovery, and the answer
 unfoldable pub echoTaken : Node → Table → ℕ → Recovery → List ℕ → Outcome

@@ -13,17 +13,34 @@ use tunnel::ControlTeid;
 ghost use mathlib.Core.Path.{_≡_};
 ghost use Rattle.session.specs.Request.{awaits};
 ghost use Rattle.timing.specs.Timing.{outcome};
-ghost use Rattle.echoes.specs.Echoes.{heardBy, echoTaken, echoReplyTaken, sameFound, freedFound, bearerReplyTaken};
+ghost use Rattle.echoes.specs.Echoes.{restartsBy, heardNode, heardBy, echoTaken, echoReplyTaken, sameFound, freedFound, bearerReplyTaken};
+
+// Whether a Recovery says that the exchange restarted.
+pub fn restarts(node: Node, recovery: Recovery) -> bool
+    ensures { λ r. ⌜ r ≡ restartsBy recovery node ⌝ }
+{
+    let Recovery::Value(value) = recovery else {
+        return false;
+    };
+    node.restarted(value)
+}
+
+// A Recovery value is stored.
+pub fn heard(node: Node, recovery: Recovery) -> Node
+    ensures { λ r. ⌜ r ≡ heardNode recovery node ⌝ }
+{
+    let Recovery::Value(value) = recovery else {
+        return node;
+    };
+    node.hearing(value)
+}
 
 // A Recovery value is stored; one that is not the stored one frees all sessions.
 pub fn hear(node: Node, table: Table, recovery: Recovery) -> Answer
     ensures { λ r. ⌜ r ≡ heardBy recovery node table ⌝ }
 {
-    let Recovery::Value(value) = recovery else {
-        return Answer::refused(0, node, table);
-    };
-    let restarted = node.restarted(value);
-    let next = node.hearing(value);
+    let restarted = restarts(node, recovery);
+    let next = heard(node, recovery);
     if restarted {
         let freed = table.change_all(Change::Free);
         return Answer {

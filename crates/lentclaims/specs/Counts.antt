@@ -6,8 +6,9 @@ use mathlib.Core.Bool.{false}
 use mathlib.Core.List.{List}
 use mathlib.Core.Path.{_≡_, refl, sym, _∙_, ap}
 use lib.ListN.{length}
-use lib.Dec.{eqb}
+use lib.Dec.{eqb, ltb}
 use borrow.Author.Tests.{ne-eqb}
+use Rattle.octets.specs.Choice.{split}
 use Rattle.tunnel.specs.Numbering.{places}
 use Rattle.plan.specs.declared.Plan.{Plan}
 use Rattle.plan.specs.Limits.{noPlan}
@@ -15,16 +16,20 @@ use Rattle.session.specs.declared.Session.{Session}
 use Rattle.table.specs.declared.Node.{Node}
 use Rattle.table.specs.Own.{freshNode}
 use Rattle.timing.specs.declared.Answer.{Answer}
-use Rattle.timing.specs.Timing.{Outcome, outcome, held, refused, tickOf, closeOf, sendOf}
+use Rattle.timing.specs.Timing.{Outcome, outcome, leastReply, held, refused, tickOf, closeOf, sendOf}
 use Rattle.control.specs.Control.{controlTaken}
 use Rattle.userside.specs.UserSide.{silent, userTaken}
 use Rattle.placeline.specs.Line.{lineOf}
 use Rattle.lentcore.specs.declared.Left.{Left}
-use Rattle.lentcore.specs.Lent.{left, freshLent, uncounted, tick-other, close-other, send-other}
+use Rattle.lentcore.specs.Lent.{left, freshLent, uncounted, rules-other, tick-other, close-other, send-other}
 use Rattle.lentcall.specs.Lent.{control-other}
-use Rattle.lentline.specs.Lent.{line-other}
 use Rattle.lentuser.specs.Lent.{user-other}
 use Rattle.lentclaims.specs.Agree.{left-fixes, reply-fixes}
+
+line-other : (node : Node) (l : List Session) (place : ℕ) (reply : List ℕ) → eqb (length l) places ≡ false
+    → lineOf node (held l) place reply ≡ outcome (refused (uncounted (length reply)) node (held l)) reply
+unfolding lineOf held uncounted
+line-other node l place reply other = split (ltb (length reply) leastReply) (λ e. rw e) (λ e. rw (e, rules-other node l other))
 
 -- number and node, no reply
 unfoldable pub only : ℕ → Node → Left

@@ -5,18 +5,19 @@ use table::Node;
 ghost use mathlib.Core.Path.{_≡_};
 ghost use Rattle.timing.specs.Timing.{held, outcome, tickOf, closeOf, sendOf};
 ghost use Rattle.lentcore.specs.Lent.{left};
+ghost use Rattle.lentrules.specs.Read.{readOf};
+ghost use Rattle.lentstep.specs.Send.{sendingOf};
 
 // Tick.
 #[no_mangle]
 pub extern "C" fn grugavorn_tick(node: Node, recs: &mut [Session]) -> Left
     ensures { λ r. ⌜ left r (now (recs .exit)) ≡ tickOf node (held (now (recs .entry))) ⌝ }
 {
-    let count = recs.len();
-    let table = lentkit::load(recs);
-    let answer = lentcore::tick_on(count, node, table);
-    let records = lentcore::records_of(answer);
-    lentkit::store(recs, records);
-    lentcore::left_of(answer)
+    let how = lentrules::standing(node, recs);
+    let c = lentstep::tick_change(node);
+    let n = lentstep::tick_count(how, node);
+    lentedit::change_each(recs, c, n);
+    lentstep::tick_left(how, node)
 }
 
 // Close a place.
@@ -24,12 +25,26 @@ pub extern "C" fn grugavorn_tick(node: Node, recs: &mut [Session]) -> Left
 pub extern "C" fn grugavorn_close(node: Node, recs: &mut [Session], place: usize) -> Left
     ensures { λ r. ⌜ left r (now (recs .exit)) ≡ closeOf node (held (now (recs .entry))) place ⌝ }
 {
-    let count = recs.len();
-    let table = lentkit::load(recs);
-    let answer = lentcore::close_on(count, node, table, place);
-    let records = lentcore::records_of(answer);
-    lentkit::store(recs, records);
-    lentcore::left_of(answer)
+    let kept = lentrules::kept(node, recs);
+    let s = lentedit::read(recs, place);
+    let c = lentstep::closed_by(kept, s);
+    lentedit::put(recs, place, c);
+    lentstep::close_left(kept, node, s)
+}
+
+// What a send needs of the records; zeros where it is not wanted, or where there are not 64.
+fn sendings(recs: &[Session], wanted: bool) -> [u64; 64]
+    ensures { λ r. ⌜ r ≡ readOf sendingOf wanted (now (recs .entry)) ⌝ }
+{
+    let n = lentrules::bound(wanted, recs.len());
+    let mut t = lentrules::zeros();
+    let mut i = 0;
+    while i < n {
+        let d = lentstep::sending_of(recs[i]);
+        t[i] = d;
+        i += 1;
+    }
+    t
 }
 
 // Send next due.
@@ -37,10 +52,12 @@ pub extern "C" fn grugavorn_close(node: Node, recs: &mut [Session], place: usize
 pub extern "C" fn grugavorn_send(node: Node, recs: &mut [Session], reply: &mut [u8]) -> Left
     ensures { λ r. ⌜ outcome (left r (now (recs .exit))) (now (reply .exit)) ≡ sendOf node (held (now (recs .entry))) (now (reply .entry)) ⌝ }
 {
-    let count = recs.len();
-    let table = lentkit::load(recs);
-    let answer = lentcore::send_on(count, node, table, reply);
-    let records = lentcore::records_of(answer);
-    lentkit::store(recs, records);
-    lentcore::left_of(answer)
+    let kept = lentrules::kept(node, recs);
+    let xs = sendings(recs, kept);
+    let p = lentstep::next_due(kept, reply.len(), node, xs);
+    let place = lentstep::place_of(p);
+    let s = lentedit::read(recs, place);
+    let t = lentstep::sent_by(p, node, s);
+    lentedit::put(recs, place, t);
+    lentstep::send_left(p, node, s, reply)
 }

@@ -83,13 +83,6 @@ module _ (l t u zs : List Session) (r : Left) (a : Answer) (read : t ≡ loaded 
   unfolding stored left leftOf refused
   as-lent number node s e f = rw (wrote, e, rest, f)
 
-  pub lent-answer : (call : Table → Answer) (number : ℕ) (node : Node) → (eqb (length l) places ≡ false → call (held l) ≡ refused number node (held l))
-      → a ≡ counted (length l) (call (held t)) (refused number node (held t)) → left r zs ≡ call (held l)
-  unfolding counted
-  lent-answer call number node other made = split (eqb (length l) places)
-      (λ e. kept e ∙ rw e at made ∙ ap (λ (x : List Session). call (held x)) (as-read e))
-      (λ e. as-lent number node (held t) e (rw e at made) ∙ sym (other e))
-
   pub lent-reply : (call : Table → Outcome) (node : Node) (reply after : List ℕ) → (eqb (length l) places ≡ false → call (held l) ≡ outcome (refused (uncounted (length reply)) node (held l)) reply)
       → outcome a after ≡ countedReply (length l) node (held t) reply (call (held t)) → outcome (left r zs) after ≡ call (held l)
   unfolding countedReply

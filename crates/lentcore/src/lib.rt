@@ -6,8 +6,7 @@ use table::Node;
 use table::Table;
 use timing::Answer;
 ghost use mathlib.Core.Path.{_≡_};
-ghost use Rattle.timing.specs.Timing.{refused, held, outcome, tickOf, closeOf, sendOf};
-ghost use Rattle.lentcore.specs.Lent.{leftOf, left, counted, countedReply, uncounted, freshOn};
+ghost use Rattle.lentcore.specs.Lent.{leftOf, left, uncounted, freshOn};
 
 // What a call answers by value: document 01's number, the reply's length, and what goes with the records. The records are the caller's.
 #[repr(C)]
@@ -75,35 +74,4 @@ pub fn fresh_on(count: usize, plan: Plan) -> Answer
     let node = Node::fresh(none);
     let table = Table::fresh();
     Answer::refused(2, node, table)
-}
-
-pub fn tick_on(count: usize, node: Node, recs: [Session; 64]) -> Answer
-    ensures { λ r. ⌜ r ≡ counted count (tickOf node (held recs)) (refused 2 node (held recs)) ⌝ }
-{
-    let table = Table { recs };
-    if count == Table::PLACES {
-        return timing::tick(node, table);
-    }
-    Answer::refused(2, node, table)
-}
-
-pub fn close_on(count: usize, node: Node, recs: [Session; 64], place: usize) -> Answer
-    ensures { λ r. ⌜ r ≡ counted count (closeOf node (held recs) place) (refused 2 node (held recs)) ⌝ }
-{
-    let table = Table { recs };
-    if count == Table::PLACES {
-        return timing::close(node, table, place);
-    }
-    Answer::refused(2, node, table)
-}
-
-pub fn send_on(count: usize, node: Node, recs: [Session; 64], reply: &mut [u8]) -> Answer
-    ensures { λ r. ⌜ outcome r (now (reply .exit)) ≡ countedReply count node (held recs) (now (reply .entry)) (sendOf node (held recs) (now (reply .entry))) ⌝ }
-{
-    let table = Table { recs };
-    if count == Table::PLACES {
-        return timing::send(node, table, reply);
-    }
-    let number = uncounted(reply.len());
-    Answer::refused(number, node, table)
 }

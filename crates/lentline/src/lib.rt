@@ -1,4 +1,4 @@
-// The line of a place, as firmware calls it: the caller lends its records to be read.
+// The line of a place, as firmware calls it: the caller lends its records to be read, and one of them is written.
 use lentcore::Left;
 use session::Session;
 use table::Node;
@@ -7,24 +7,31 @@ use timing::Answer;
 ghost use mathlib.Core.Path.{_≡_};
 ghost use Rattle.timing.specs.Timing.{held, outcome};
 ghost use Rattle.placeline.specs.Line.{lineOf};
-ghost use Rattle.lentcore.specs.Lent.{left, countedReply};
+ghost use Rattle.lentcore.specs.Lent.{left};
+ghost use Rattle.lentline.specs.Lent.{bare, lined, lineBy};
 
-// The call on values, where there are 64 records.
-pub fn line_on(
-    count: usize,
-    node: Node,
-    recs: [Session; 64],
-    place: usize,
-    reply: &mut [u8],
-) -> Answer
-    ensures { λ r. ⌜ outcome r (now (reply .exit)) ≡ countedReply count node (held recs) (now (reply .entry)) (lineOf node (held recs) place (now (reply .entry))) ⌝ }
+// A number, with the node as it was.
+fn bare(number: u8, size: usize, node: Node) -> Left
+    ensures { λ r. ⌜ r ≡ bare number size node ⌝ }
 {
-    let table = Table { recs };
-    if count == Table::PLACES {
-        return placeline::line(node, table, place, reply);
+    Left { number, size, node }
+}
+
+// The call on one record, once it is known whether the rules are kept.
+pub fn line_by(kept: bool, node: Node, place: usize, s: Session, reply: &mut [u8]) -> Left
+    ensures { λ r. ⌜ lined r (now (reply .exit)) ≡ lineBy kept node place s (now (reply .entry)) ⌝ }
+{
+    if reply.len() < Answer::LEAST_REPLY {
+        return bare(1, 0, node);
     }
-    let number = lentcore::uncounted(reply.len());
-    Answer::refused(number, node, table)
+    if !kept {
+        return bare(2, 0, node);
+    }
+    if Table::PLACES <= place {
+        return bare(10, 0, node);
+    }
+    let size = placeline::put_line(reply, place, s);
+    bare(0, size, node)
 }
 
 // Line of a place.
@@ -37,8 +44,7 @@ pub extern "C" fn grugavorn_line(
 ) -> Left
     ensures { λ r. ⌜ outcome (left r (now (recs .entry))) (now (reply .exit)) ≡ lineOf node (held (now (recs .entry))) place (now (reply .entry)) ⌝ }
 {
-    let count = recs.len();
-    let table = lentkit::load(recs);
-    let answer = line_on(count, node, table, place, reply);
-    lentcore::left_of(answer)
+    let kept = lentrules::kept(node, recs);
+    let s = lentedit::read(recs, place);
+    line_by(kept, node, place, s, reply)
 }

@@ -1,24 +1,23 @@
--- User datagrams with lent records: what is said of a list of 64 records is said of any lent list, since 64 records are one of the
--- table's rules. Another count is 1 where the reply buffer is short, else 2, with nothing written and nothing handed up.
+-- User datagrams with lent records, in numbers. What is said of a list of 64 records is said of any lent list, since 64 records are one
+-- of the table's rules: another count is 1 where the reply buffer is short, else 2, with nothing written and nothing handed up.
 -- Assumes nothing.
 use Prim.Native.Nat.{ℕ, _-_, _≤_}
-use mathlib.Core.Bool.{false}
+use mathlib.Core.Bool.{Bool, false}
 use mathlib.Core.List.{List}
-use mathlib.Core.Path.{_≡_, sym, _∙_}
+use mathlib.Core.Path.{_≡_}
 use native.Mathlib.Omega.{arith}
-use lib.ListN.{length}
+use lib.ListN.{length, getD}
 use lib.Dec.{eqb, ltb}
 use denote.Ref.{RefT}
-use Rattle.octets.specs.Choice.{pick, split}
+use Rattle.octets.specs.Choice.{split}
 use Rattle.tunnel.specs.Numbering.{places}
 use Rattle.session.specs.declared.Session.{Session}
+use Rattle.session.specs.Session.{blankAt}
 use Rattle.table.specs.declared.Node.{Node}
 use Rattle.table.specs.Rules.{keepsRules}
 use Rattle.timing.specs.Timing.{leastReply}
 use Rattle.gpdu.specs.Part.{IsRest, rest-length}
-use Rattle.gpdu.specs.User.{userOf, user-within}
-use Rattle.userside.specs.UserSide.{Took, took, silent, userTaken, start-within}
-use Rattle.lentkit.specs.Records.{loaded}
+use Rattle.userside.specs.UserSide.{Took, took, silent, placeIn, checkedTaken, userTaken, user-checked}
 use Rattle.lentcore.specs.Lent.{uncounted, rules-other}
 use Rattle.lentuser.specs.declared.Handed.{Handed}
 
@@ -34,10 +33,6 @@ parcel h reply = record { handed = h; reply = reply }
 unfoldable pub parcelOf : ℕ → Took → Parcel
 parcelOf end x = parcel (record { number = x .number; place = x .place; size = x .size; start = x .start; octets = end - x .start }) (x .reply)
 
--- ---- in the words of the code
-unfoldable pub userOn : ℕ → Node → List Session → List ℕ → List ℕ → Took
-userOn count node l d reply = pick (eqb count places) (userTaken node l d reply) (silent (uncounted (length reply)) (length d) reply)
-
 -- ---- laws
 pub user-other : (node : Node) (l : List Session) (d reply : List ℕ) → eqb (length l) places ≡ false
     → userTaken node l d reply ≡ silent (uncounted (length reply)) (length d) reply
@@ -45,24 +40,9 @@ unfolding userTaken uncounted leastReply
 user-other node l d reply other = split (ltb (length reply) 128) (λ e. rw e) (λ e. rw (e, rules-other node l other))
 
 -- what was read and answered is what is said of the lent list
-pub user-lent : (node : Node) (l t : List Session) (d reply : List ℕ) → t ≡ loaded l → userOn (length l) node t d reply ≡ userTaken node l d reply
-unfolding userOn loaded
-user-lent node l t d reply read = split (eqb (length l) places)
-    (λ e. let q : t ≡ l = read ∙ rw e in rw (e, q))
-    (λ e. rw e (sym (user-other node l d reply e)))
-
--- what is handed up begins within the datagram
-taken-within : (node : Node) (l : List Session) (d reply : List ℕ) → userTaken node l d reply .start ≤ length d
-unfolding userTaken
-taken-within node l d reply = split (ltb (length reply) 128) (λ e. rw e (omega arith)) (λ e.
-    split (keepsRules node l) (λ f. split (eqb (userOf d .number) 0)
-    (λ g. rw (e, f, g) (start-within node l (userOf d .header) (userOf d .size) (length d) reply (user-within d)))
-    (λ g. rw (e, f, g) (omega arith)))
-    (λ f. rw (e, f) (omega arith)))
-
-pub on-within : (count : ℕ) (node : Node) (l : List Session) (d reply : List ℕ) → userOn count node l d reply .start ≤ length d
-unfolding userOn
-on-within count node l d reply = split (eqb count places) (λ e. rw e (taken-within node l d reply)) (λ e. rw e (omega arith))
+pub user-lent : (node : Node) (l : List Session) (d reply : List ℕ) (kept : Bool) (at : ℕ) (s : Session)
+    → kept ≡ keepsRules node l → at ≡ placeIn d → s ≡ getD l at (blankAt 0) → checkedTaken kept node s d reply ≡ userTaken node l d reply
+user-lent node l d reply kept at s e-k e-a e-s = rw (e-s, e-a, e-k) (user-checked node l d reply)
 
 -- the part's length gives its place
 pub parcel-is : (r d : RefT (List ℕ)) (reply : List ℕ) (x : Took) (number place size : ℕ) → x .start ≤ length (d .now)

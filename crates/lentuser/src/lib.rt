@@ -1,13 +1,12 @@
-// Take user datagram, as firmware calls it: the caller lends its records to be read. `take_user` hands the payload back as the part of
+// Take user datagram, as firmware calls it: the caller lends its records to be read where they lie. `take_user` hands the payload back as the part of
 // the datagram that it is; at the C boundary, where no part can be handed back, its place and length are.
 use session::Session;
 use table::Node;
-use table::Table;
 ghost use mathlib.Core.Path.{_≡_};
 ghost use lib.ListN.{length};
 ghost use Rattle.gpdu.specs.Part.{IsRest};
-ghost use Rattle.userside.specs.UserSide.{took, userTaken};
-ghost use Rattle.lentuser.specs.Lent.{userOn, parcel, parcelOf};
+ghost use Rattle.userside.specs.UserSide.{took, checkedTaken, userTaken};
+ghost use Rattle.lentuser.specs.Lent.{parcel, parcelOf};
 
 // What a user datagram comes to, in numbers: document 01's number, the place of the session, the reply's length, and where in the
 // datagram the payload begins and how many octets it has. Where nothing is handed up it is the datagram's empty end.
@@ -20,50 +19,16 @@ pub struct Handed {
     pub octets: usize,
 }
 
-// The call on values, where there are 64 records.
-pub fn user_on<'a>(
-    count: usize,
-    node: Node,
-    recs: [Session; 64],
-    d: &'a [u8],
-    reply: &mut [u8],
-    number: &mut u8,
-    place: &mut usize,
-    size: &mut usize,
-) -> &'a [u8]
-    ensures { λ r. ⌜ (took (now (number .exit)) (now (place .exit)) (now (size .exit)) (now (reply .exit)) (userOn count node recs (now (d .entry)) (now (reply .entry)) .start)
-        ≡ userOn count node recs (now (d .entry)) (now (reply .entry)))
-        × IsRest r (d .entry) (userOn count node recs (now (d .entry)) (now (reply .entry)) .start) ⌝ }
-{
-    if count == Table::PLACES {
-        return userside::take_user(node, Table { recs }, d, reply, number, place, size);
-    }
-    let why = lentcore::uncounted(reply.len());
-    let end = d.len();
-    *number = why;
-    *place = 0;
-    *size = 0;
-    &d[end..]
-}
-
-// The same, answered in numbers.
-pub fn user_at(count: usize, node: Node, recs: [Session; 64], d: &[u8], reply: &mut [u8]) -> Handed
-    ensures { λ r. ⌜ parcel r (now (reply .exit)) ≡ parcelOf (length (now (d .entry))) (userOn count node recs (now (d .entry)) (now (reply .entry))) ⌝ }
+// Take user datagram, answered in numbers, where it is known whether the records keep the rules, with the record at the place that the
+// datagram says.
+pub fn user_at(kept: bool, node: Node, s: Session, d: &[u8], reply: &mut [u8]) -> Handed
+    ensures { λ r. ⌜ parcel r (now (reply .exit)) ≡ parcelOf (length (now (d .entry))) (checkedTaken kept node s (now (d .entry)) (now (reply .entry))) ⌝ }
 {
     let mut number: u8 = 0;
     let mut place: usize = 0;
     let mut size: usize = 0;
     let end = d.len();
-    let p = user_on(
-        count,
-        node,
-        recs,
-        d,
-        reply,
-        &mut number,
-        &mut place,
-        &mut size,
-    );
+    let p = userside::take_checked(kept, node, s, d, reply, &mut number, &mut place, &mut size);
     let octets = p.len();
     Handed {
         number,
@@ -88,9 +53,10 @@ pub fn take_user<'a>(
         ≡ userTaken node (now (recs .entry)) (now (d .entry)) (now (reply .entry)))
         × IsRest r (d .entry) (userTaken node (now (recs .entry)) (now (d .entry)) (now (reply .entry)) .start) ⌝ }
 {
-    let count = recs.len();
-    let table = lentkit::load(recs);
-    user_on(count, node, table, d, reply, number, place, size)
+    let kept = lentrules::kept(node, recs);
+    let at = userside::place_of(d);
+    let s = lentedit::read(recs, at);
+    userside::take_checked(kept, node, s, d, reply, number, place, size)
 }
 
 // Take user datagram, answered in numbers.
@@ -98,7 +64,8 @@ pub fn take_user<'a>(
 pub extern "C" fn grugavorn_user(node: Node, recs: &[Session], d: &[u8], reply: &mut [u8]) -> Handed
     ensures { λ r. ⌜ parcel r (now (reply .exit)) ≡ parcelOf (length (now (d .entry))) (userTaken node (now (recs .entry)) (now (d .entry)) (now (reply .entry))) ⌝ }
 {
-    let count = recs.len();
-    let table = lentkit::load(recs);
-    user_at(count, node, table, d, reply)
+    let kept = lentrules::kept(node, recs);
+    let at = userside::place_of(d);
+    let s = lentedit::read(recs, at);
+    user_at(kept, node, s, d, reply)
 }

@@ -80,7 +80,7 @@ fn put_rest(out: &mut [u8], at: usize, s: Session) -> usize
     put_held(out, at, s)
 }
 
-fn put_line(out: &mut [u8], place: usize, s: Session) -> usize
+pub fn put_line(out: &mut [u8], place: usize, s: Session) -> usize
     ensures { λ r. ⌜ written r (now (out .exit)) ≡ laid 0 (lineText place s) (now (out .entry)) ⌝ }
 {
     let a = numerals::put_decimal(out, 0, place as u64, 1);

@@ -3,14 +3,14 @@
 use Prim.Native.Nat.{ℕ, _+_, _<_, _≤_, min, _%_}
 use mathlib.Core.Bool.{Bool, true, false, _&&_}
 use mathlib.Core.List.{List, map}
-use mathlib.Core.Path.{_≡_, _∙_}
+use mathlib.Core.Path.{_≡_, sym, _∙_}
 use native.Mathlib.Omega.{arith}
 use lib.ListN.{length, take, drop, getD, replicate, length-take}
 use lib.Seq.{getD-take}
 use lib.Dec.{eqb, leb}
-use Rattle.octets.specs.Every.{every, everyRest, every-stop, every-on, rest-stop, rest-on}
+use Rattle.octets.specs.Choice.{split}
+use Rattle.octets.specs.Every.{every, everyRest, every-stop, every-on, every-end, rest-stop, rest-on}
 use Rattle.octets.specs.Places.{map-at}
-use Rattle.octets.specs.Sums.{sumOf, sum-step}
 use Rattle.octets.specs.Search.{firstOf, first-hit, first-miss}
 use Rattle.tunnel.specs.Numbering.{places}
 use Rattle.plan.specs.declared.AccessPoint.{AccessPoint}
@@ -89,16 +89,15 @@ module _ (p : Plan) where
     pub used-on : (t : AccessPoint → Bool) → t (getD (p .points) i d) ≡ true → every t (drop i (used p)) ≡ every t (drop (i + 1) (used p))
     used-on t e = every-on (used p) i t d h (rw (used-at i d h) e)
 
+    pub used-last : (t : AccessPoint → Bool) → parties p ≤ i + 1 → every t (drop i (used p)) ≡ t (getD (p .points) i d)
+    used-last t k =
+        split (t (getD (p .points) i d)) (λ e. used-on t e ∙ every-end (used p) (i + 1) t k ∙ sym e) (λ e. used-stop t e ∙ sym e)
+
     pub used-rest-stop : (t : AccessPoint → List AccessPoint → Bool) → t (getD (p .points) i d) (drop (i + 1) (used p)) ≡ false → everyRest t (drop i (used p)) ≡ false
     used-rest-stop t e = rest-stop (used p) i t d h (rw (used-at i d h) e)
 
     pub used-rest-on : (t : AccessPoint → List AccessPoint → Bool) → t (getD (p .points) i d) (drop (i + 1) (used p)) ≡ true → everyRest t (drop i (used p)) ≡ everyRest t (drop (i + 1) (used p))
     used-rest-on t e = rest-on (used p) i t d h (rw (used-at i d h) e)
-
-    pub used-add : (f : AccessPoint → ℕ) (sum whole : ℕ) → sum + sumOf f (drop i (used p)) ≡ whole → sum + f (getD (p .points) i d) + sumOf f (drop (i + 1) (used p)) ≡ whole
-    used-add f sum whole e =
-        let s = rw (used-at i d h) at (sum-step f (used p) i d h) in
-        omega arith
 
     pub used-hit : (t : AccessPoint → Bool) → t (getD (p .points) i d) ≡ true → firstOf t (drop i (used p)) ≡ 0
     used-hit t e = first-hit t (used p) i d h (rw (used-at i d h) e)

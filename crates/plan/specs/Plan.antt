@@ -1,11 +1,12 @@
 -- An accepted plan (number 16 otherwise), and what being accepted tells.
 -- Assumes nothing.
-use Prim.Native.Nat.{ℕ, _≤_, _%_}
+use Prim.Native.Nat.{ℕ, _<_, _≤_, _%_}
 use mathlib.Core.Bool.{Bool, true, false, _&&_}
 use mathlib.Core.Path.{_≡_, refl}
 use native.Mathlib.Omega.{arith}
 use lib.Dec.{eqb, leb}
-use Rattle.octets.specs.Choice.{and-left, and-right, tests}
+use borrow.Author.Tests.{le-leb, lt-leb}
+use Rattle.octets.specs.Choice.{split, and-left, and-right, and-no, tests}
 use Rattle.octets.specs.Every.{every}
 use Rattle.octets.specs.Sums.{sumOf}
 use Rattle.tunnel.specs.Numbering.{places}
@@ -54,6 +55,28 @@ accepted-figures p e =
 pub accepted-names : (p : Plan) → accepted p ≡ true → namesDiffer (used p) ≡ true
 unfolding accepted
 accepted-names p e = search (and-left, and-right)
+
+-- ---- the test made limit by limit: one that is broken refuses the plan, and where the others are kept the figures decide
+module _ (p : Plan) where
+  pub count-refused : mostPoints < p .count → accepted p ≡ false
+  unfolding accepted figuresOk
+  count-refused h = rw (lt-leb (p .count) mostPoints h, and-no (leb 1 (p .count)))
+
+  pub points-refused : every pointOk (used p) ≡ false → accepted p ≡ false
+  unfolding accepted
+  points-refused e = rw (e, and-no (figuresOk p))
+
+  pub sum-refused : places < guaranteed p → accepted p ≡ false
+  unfolding accepted
+  sum-refused h = rw (lt-leb (guaranteed p) places h, and-no (figuresOk p && every pointOk (used p)))
+
+  pub names-refused : namesDiffer (used p) ≡ false → accepted p ≡ false
+  unfolding accepted
+  names-refused e = rw (e, and-no (figuresOk p && every pointOk (used p) && leb (guaranteed p) places))
+
+  pub figures-decide : every pointOk (used p) ≡ true → guaranteed p ≤ places → namesDiffer (used p) ≡ true → figuresOk p ≡ accepted p
+  unfolding accepted
+  figures-decide e h n = rw (e, le-leb (guaranteed p) places h, n) (split (figuresOk p) (λ f. rw f) (λ f. rw f))
 
 -- a plan without access points is refused, so a unit that was given no plan answers 2
 pub no-plan-refused : accepted noPlan ≡ false

@@ -1,6 +1,6 @@
 // The plan of a unit: its addresses and figures, its access points with what each has rented, the limits of all that, whose a
 // name is, and the address of a place.
-ghost use mathlib.Core.Bool.{not};
+ghost use mathlib.Core.Bool.{true, not};
 ghost use mathlib.Core.Path.{_≡_};
 ghost use lib.ListN.{drop};
 ghost use Rattle.octets.specs.Every.{every};
@@ -100,6 +100,14 @@ impl AccessPoint {
         let same = self.goes_by(&name[0..size]);
         !same
     }
+
+    // Whether the sizes of two names alone tell them apart.
+    fn apart(self, other: AccessPoint) -> bool
+        requires { ⌜ (pointOk self ≡ true) × (pointOk other ≡ true) ⌝ }
+        ensures { λ r. ⌜ (r ≡ true → unlike self other ≡ true) ⌝ }
+    {
+        self.size != other.size
+    }
 }
 
 impl Plan {
@@ -152,21 +160,41 @@ impl Plan {
             & (self.pool % Self::POOL_STEP == 0)
     }
 
-    // The limits of each access point.
+    // The limits of each access point. Here and below the slots are read one by one at fixed places: a place that is computed
+    // makes the machine copy the whole plan.
     fn points_fit(self) -> bool
         ensures { λ r. ⌜ r ≡ every pointOk (used self) ⌝ }
     {
         let n = self.parties();
-        let mut i: usize = 0;
-        while i < n {
-            let p = self.points[i];
-            let ok = p.fits();
-            if !ok {
-                return false;
-            }
-            i += 1;
+        if n == 0 {
+            return true;
         }
-        true
+        let a = self.points[0];
+        let first = a.fits();
+        if !first {
+            return false;
+        }
+        if n == 1 {
+            return true;
+        }
+        let b = self.points[1];
+        let second = b.fits();
+        if !second {
+            return false;
+        }
+        if n == 2 {
+            return true;
+        }
+        let c = self.points[2];
+        let third = c.fits();
+        if !third {
+            return false;
+        }
+        if n == 3 {
+            return true;
+        }
+        let d = self.points[3];
+        d.fits()
     }
 
     // The places that are promised, in all.
@@ -174,14 +202,55 @@ impl Plan {
         ensures { λ r. ⌜ r ≡ guaranteed self ⌝ }
     {
         let n = self.parties();
-        let mut sum: u32 = 0;
-        let mut i: usize = 0;
-        while i < n {
-            let p = self.points[i];
-            sum += p.guarantee as u32;
-            i += 1;
+        if n == 0 {
+            return 0;
         }
-        sum
+        let a = self.points[0];
+        let one = a.guarantee as u32;
+        if n == 1 {
+            return one;
+        }
+        let b = self.points[1];
+        let two = one + b.guarantee as u32;
+        if n == 2 {
+            return two;
+        }
+        let c = self.points[2];
+        let three = two + c.guarantee as u32;
+        if n == 3 {
+            return three;
+        }
+        let d = self.points[3];
+        three + d.guarantee as u32
+    }
+
+    // Whether the sizes alone tell every two names apart.
+    fn sizes_differ(self) -> bool
+        requires { ⌜ every pointOk (used self) ≡ true ⌝ }
+        ensures { λ r. ⌜ (r ≡ true → namesDiffer (used self) ≡ true) ⌝ }
+    {
+        let n = self.parties();
+        if n < 2 {
+            return true;
+        }
+        let a = self.points[0];
+        let b = self.points[1];
+        let two = a.apart(b);
+        if n == 2 {
+            return two;
+        }
+        let c = self.points[2];
+        let ac = a.apart(c);
+        let bc = b.apart(c);
+        let three = two & ac & bc;
+        if n == 3 {
+            return three;
+        }
+        let d = self.points[3];
+        let ad = a.apart(d);
+        let bd = b.apart(d);
+        let cd = c.apart(d);
+        three & ad & bd & cd
     }
 
     // Whether an access point's name is unlike those from a number on.
@@ -201,7 +270,8 @@ impl Plan {
         true
     }
 
-    fn names_differ(self) -> bool
+    // Whether every two names differ, octet by octet.
+    fn names_unlike(self) -> bool
         ensures { λ r. ⌜ r ≡ namesDiffer (used self) ⌝ }
     {
         let n = self.parties();
@@ -217,15 +287,43 @@ impl Plan {
         true
     }
 
+    // The same, by the sizes where they are enough.
+    fn names_differ(self) -> bool
+        requires { ⌜ every pointOk (used self) ≡ true ⌝ }
+        ensures { λ r. ⌜ r ≡ namesDiffer (used self) ⌝ }
+    {
+        let apart = self.sizes_differ();
+        if apart {
+            return true;
+        }
+        if self.count == 2 {
+            let a = self.points[0];
+            let b = self.points[1];
+            return a.unlike(b);
+        }
+        self.names_unlike()
+    }
+
     // Whether the plan keeps every limit; where it does not, number 16.
     pub fn accepted(self) -> bool
         ensures { λ r. ⌜ r ≡ accepted self ⌝ }
     {
-        let figures = self.figures_fit();
+        if Self::MOST_POINTS < self.count as usize {
+            return false;
+        }
         let points = self.points_fit();
+        if !points {
+            return false;
+        }
         let sum = self.guaranteed();
+        if tunnel::Holder::PLACES < sum as usize {
+            return false;
+        }
         let names = self.names_differ();
-        figures & points & (sum as usize <= tunnel::Holder::PLACES) & names
+        if !names {
+            return false;
+        }
+        self.figures_fit()
     }
 
     // The access point that a name is of.

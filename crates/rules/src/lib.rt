@@ -20,7 +20,7 @@ pub struct Survey {
     pub keys: [u64; 64],
 }
 
-fn key(s: Session) -> u64
+pub fn key(s: Session) -> u64
     ensures { λ r. ⌜ r ≡ keyOf s ⌝ }
 {
     if s.state == Session::FREE {

@@ -1,11 +1,14 @@
-// For measuring alone: a full table is put to the table rules again and again, and how often it kept them is printed. tests/rules
-// counts the instructions of one such check.
+// For measuring alone: a full table is put to the table rules again and again, and how often it kept them is printed; or keys are put to
+// the check that no two are the same, and how often it found none is printed. tests/rules counts the instructions of one such check.
 //
 // The table: 64 sessions on the four access points in turn, the first eight closing with an awaited number each. The figures of its
 // plan are read, so that nothing of a check is known to the compiler. The first octet of standard input says how the IMSIs lie: `s`
-// strewn about, `m` so that all keys meet one mark and have to be searched for, any other one after the other. The next seven, each
+// strewn about, `m` so that all keys share one slot and are compared pair by pair, any other one after the other. The next seven, each
 // less a multiple of 64, are T, N, E, the size of the names, guarantee and ceiling of each access point, and how often the echo was
 // sent. Each octet after them is a check, with so many access points as it says less a multiple of 64: the rules are kept with 4.
+//
+// The keys: those of bearer 5 of IMSIs one after the other, where the first octet is `k`, or strewn about, where it is `r`. Each octet
+// after the eighth is a check, with so many times 64 keys as it says less a multiple of 64.
 use plan::AccessPoint;
 use plan::Plan;
 use session::Request;
@@ -95,7 +98,7 @@ fn session_at(place: u32, imsi: u64) -> Session {
 
 // The IMSI after this one.
 fn next_imsi(imsi: u64, kind: u8) -> u64 {
-    if kind == b's' {
+    if (kind == b's') | (kind == b'r') {
         return imsi % 1000000007 * 777777 + 12345;
     }
     if kind == b'm' {
@@ -139,15 +142,76 @@ fn kept_of(d: &[u8], node: Node, t: Table) -> u64 {
     kept
 }
 
-fn run(d: &[u8]) {
+fn key_of(imsi: u64) -> u64 {
+    imsi % 36028797018963968 * 256 + 5
+}
+
+fn all_keys(kind: u8) -> [u64; 1024] {
+    let mut keys = [0u64; 1024];
+    let mut imsi: u64 = 262010000000000;
+    let mut i: usize = 0;
+    while i < 1024 {
+        let k = key_of(imsi);
+        keys[i] = k;
+        imsi = next_imsi(imsi, kind);
+        i += 1;
+    }
+    keys
+}
+
+// One check, with so many times 64 keys.
+fn apart_with(keys: &[u64], count: u8) -> u64 {
+    let n = figure(count) as usize * 64;
+    if keys.len() < n {
+        return 0;
+    }
+    let apart = distinct::distinct(&keys[0..n]);
+    if apart { 1 } else { 0 }
+}
+
+// How many of the checks, one an octet, find the keys apart.
+fn apart_of(d: &[u8], keys: &[u64]) -> u64 {
+    let mut found: u64 = 0;
+    let mut i: usize = 0;
+    while i < d.len() {
+        let one = apart_with(keys, d[i]);
+        found = std::num::wrapping_add_u64(found, one);
+        i += 1;
+    }
+    found
+}
+
+fn kept_in(d: &[u8]) -> u64 {
     if d.len() < 8 {
-        return;
+        return 0;
     }
     let plan = full_plan(d[1], d[2], d[3], d[4], d[5], d[6]);
     let node = full_node(plan, d[7]);
     let t = full_table(d[0]);
-    let kept = kept_of(&d[8..], node, t);
-    io::print_decimal(1, kept);
+    kept_of(&d[8..], node, t)
+}
+
+fn apart_in(d: &[u8]) -> u64 {
+    if d.len() < 8 {
+        return 0;
+    }
+    let keys = all_keys(d[0]);
+    apart_of(&d[8..], &keys)
+}
+
+fn passed_in(d: &[u8]) -> u64 {
+    if d.len() == 0 {
+        return 0;
+    }
+    if (d[0] == b'k') | (d[0] == b'r') {
+        return apart_in(d);
+    }
+    kept_in(d)
+}
+
+fn run(d: &[u8]) {
+    let passed = passed_in(d);
+    io::print_decimal(1, passed);
     let end = [b'\n'];
     io::write_all(1, &end);
 }

@@ -184,26 +184,23 @@ impl Session {
         (own.sends != 0) & (own.number == number)
     }
 
-    // Zero but for its use and its state.
-    fn blank(self) -> bool
+    // Zero but for its use and its state: no bit is set in any other field.
+    pub fn blank(self) -> bool
         ensures { λ r. ⌜ r ≡ blank self ⌝ }
     {
         let own = self.own;
-        (self.point == 0)
-            & (self.imsi == 0)
-            & (self.ebi == 0)
-            & (self.control == 0)
-            & (self.controladdr == 0)
-            & (self.user == 0)
-            & (self.useraddr == 0)
-            & (self.created == 0)
-            & (own.timer == 0)
-            & (own.sends == 0)
-            & (own.number == 0)
+        let words = self.control
+            | self.controladdr
+            | self.user
+            | self.useraddr
+            | self.created
+            | own.number;
+        let octets = self.point | self.ebi | own.timer | own.sends;
+        self.imsi | words as u64 | octets as u64 == 0
     }
 
     // What a live place holds, as it was read.
-    fn held(self, b: Bounds) -> bool
+    pub fn held(self, b: Bounds) -> bool
         ensures { λ r. ⌜ r ≡ heldOk b self ⌝ }
     {
         (1 <= self.usage)
@@ -217,7 +214,7 @@ impl Session {
     }
 
     // Where a live place stands with its own request.
-    fn phase(self, b: Bounds) -> bool
+    pub fn phase(self, b: Bounds) -> bool
         ensures { λ r. ⌜ r ≡ phaseOk b self ⌝ }
     {
         let own = self.own;

@@ -9,12 +9,12 @@ use mathlib.Core.Path.{_≡_, refl, sym, _∙_}
 use native.Mathlib.Omega.{arith}
 use lib.ListN.{length, getD, length-map, List·getD-eq-default}
 use lib.Dec.{eqb, leb, ltb}
-use borrow.Author.Tests.{lt-ltb, le-ltb, le-leb, lt-leb, ltb-true, ltb-false, leb-true, eqb-true}
+use borrow.Author.Tests.{lt-ltb, le-ltb, le-leb, lt-leb, ltb-true, ltb-false, leb-true, leb-false, eqb-true}
 use mir.Val.{boolByte}
 use Rattle.octets.specs.Choice.{split, or-split, or-true, and-left, and-right, impossible, tests}
 use Rattle.octets.specs.Every.{every, every-in}
 use Rattle.octets.specs.Sums.{sumOf}
-use Rattle.octets.specs.Below.{sumTo, allTo, all-next, all-in, all-of, all-stop, all-agree, to-next, to-least, to-equal, to-more, to-fewer, to-list}
+use Rattle.octets.specs.Below.{sumTo, allTo, all-next, all-in, all-of, all-stop, all-agree, to-start, to-next, to-least, to-equal, to-more, to-fewer, to-list}
 use Rattle.octets.specs.Places.{map-at}
 use Rattle.tunnel.specs.Numbering.{places}
 use Rattle.plan.specs.declared.AccessPoint.{AccessPoint}
@@ -47,9 +47,13 @@ shareOf p u = share (parties p) (guaranteeAt p) u
 abbrev pub admits : Plan → (ℕ → ℕ) → ℕ → Bool
 admits p u a = admitted (parties p) (guaranteeAt p) (ceilingAt p) u a
 
+-- u ≤ c for each access point
+abbrev pub underCeilings : Plan → (ℕ → ℕ) → Bool
+underCeilings p u = allTo (λ a. leb (u a) (ceilingAt p a)) (parties p)
+
 -- the counts of a table are within its plan: u ≤ c for each access point, and S ≤ 64
 unfoldable pub withinOk : Plan → (ℕ → ℕ) → Bool
-withinOk p u = allTo (λ a. leb (u a) (ceilingAt p a)) (parties p) && leb (shareOf p u) places
+withinOk p u = underCeilings p u && leb (shareOf p u) places
 
 -- ---- laws
 module _ (n : ℕ) (g u : ℕ → ℕ) where
@@ -167,7 +171,7 @@ pub share-fresh : (n : ℕ) (g : ℕ → ℕ) → share n g (λ a. 0) ≡ sumTo 
 unfolding share
 share-fresh n g = to-equal (λ a. max 0 (g a)) g n (λ a h. omega arith)
 
--- ---- the loop that adds S up, having come to access point i
+-- ---- S added up, having come to access point i
 module _ (p : Plan) (u : ℕ → ℕ) (i sum : ℕ) where
   pub share-next : (d : AccessPoint) → i < parties p → sum ≡ share i (guaranteeAt p) u → sum + max (u i) (getD (p .points) i d .guarantee) ≡ share (i + 1) (guaranteeAt p) u
   unfolding share guaranteeAt
@@ -175,6 +179,31 @@ module _ (p : Plan) (u : ℕ → ℕ) (i sum : ℕ) where
       let s = to-next (λ a. max (u a) (getD (map (λ x. x .guarantee) (used p)) a 0)) i in
       let f = used-figure p i d h (λ x. x .guarantee) in
       omega arith
+
+-- from the first access point on
+pub none-shared : (g u : ℕ → ℕ) → 0 ≡ share 0 g u
+unfolding share
+none-shared g u = sym (to-start (λ a. max (u a) (g a)))
+
+module _ (p : Plan) (u : ℕ → ℕ) (d : AccessPoint) where
+  pub one-shared : 1 ≤ parties p → max (u 0) (getD (p .points) 0 d .guarantee) ≡ share 1 (guaranteeAt p) u
+  one-shared h = let e = share-next p u 0 0 d h (none-shared (guaranteeAt p) u) in omega arith
+
+  pub two-shared : 2 ≤ parties p
+      → max (u 0) (getD (p .points) 0 d .guarantee) + max (u 1) (getD (p .points) 1 d .guarantee) ≡ share 2 (guaranteeAt p) u
+  two-shared h = share-next p u 1 (max (u 0) (getD (p .points) 0 d .guarantee)) d h (one-shared (omega arith))
+
+  pub three-shared : 3 ≤ parties p
+      → max (u 0) (getD (p .points) 0 d .guarantee) + max (u 1) (getD (p .points) 1 d .guarantee) + max (u 2) (getD (p .points) 2 d .guarantee)
+      ≡ share 3 (guaranteeAt p) u
+  three-shared h =
+      share-next p u 2 (max (u 0) (getD (p .points) 0 d .guarantee) + max (u 1) (getD (p .points) 1 d .guarantee)) d h (two-shared (omega arith))
+
+  pub four-shared : 4 ≤ parties p
+      → max (u 0) (getD (p .points) 0 d .guarantee) + max (u 1) (getD (p .points) 1 d .guarantee) + max (u 2) (getD (p .points) 2 d .guarantee)
+      + max (u 3) (getD (p .points) 3 d .guarantee) ≡ share 4 (guaranteeAt p) u
+  four-shared h =
+      share-next p u 3 (max (u 0) (getD (p .points) 0 d .guarantee) + max (u 1) (getD (p .points) 1 d .guarantee) + max (u 2) (getD (p .points) 2 d .guarantee)) d h (three-shared (omega arith))
 
 -- ---- the rule read off the plan's slots
 pub admits-at : (p : Plan) (u : ℕ → ℕ) (a : ℕ) (d : AccessPoint) → a < parties p
@@ -188,7 +217,7 @@ admits-out p u a h =
     let e : getD (map (λ x. x .ceiling) (used p)) a 0 ≡ 0 = List·getD-eq-default (map (λ x. x .ceiling) (used p)) 0 (simp length-map h) in
     rw (e, le-ltb (u a) 0 (omega arith))
 
--- ---- the test of counts, its facts, and the loop that makes it
+-- ---- the test of counts, its facts, and how it is made
 module _ (p : Plan) (u : ℕ → ℕ) where
   pub within-of : withinOk p u ≡ true → Within (parties p) (guaranteeAt p) (ceilingAt p) u
   unfolding withinOk
@@ -211,10 +240,11 @@ module _ (p : Plan) (u : ℕ → ℕ) where
         to-equal (λ a. max (u a) (guaranteeAt p a)) (λ a. max (v a) (guaranteeAt p a)) (parties p) (λ a k. rw (h a k)),
       )
 
-  pub within-over : (i : ℕ) (d : AccessPoint) → i < parties p → getD (p .points) i d .ceiling < u i → withinOk p u ≡ false
-  unfolding withinOk ceilingAt
-  within-over i d h o =
-      rw (all-stop (λ a. leb (u a) (ceilingAt p a)) (parties p) i h (rw (used-figure p i d h (λ x. x .ceiling)) (lt-leb (u i) (getD (p .points) i d .ceiling) o)))
+  -- slot by slot
+  pub under-over : (i : ℕ) (d : AccessPoint) → i < parties p → getD (p .points) i d .ceiling < u i → underCeilings p u ≡ false
+  unfolding ceilingAt
+  under-over i d h o =
+      all-stop (λ a. leb (u a) (ceilingAt p a)) (parties p) i h (rw (used-figure p i d h (λ x. x .ceiling)) (lt-leb (u i) (getD (p .points) i d .ceiling) o))
 
   pub under-next : (i : ℕ) (d : AccessPoint) → i < parties p → u i ≤ getD (p .points) i d .ceiling
       → allTo (λ a. leb (u a) (ceilingAt p a)) i ≡ true → allTo (λ a. leb (u a) (ceilingAt p a)) (i + 1) ≡ true
@@ -222,7 +252,18 @@ module _ (p : Plan) (u : ℕ → ℕ) where
   under-next i d h o e =
       all-next (λ a. leb (u a) (ceilingAt p a)) i (rw (used-figure p i d h (λ x. x .ceiling)) (le-leb (u i) (getD (p .points) i d .ceiling) o)) e
 
-  pub within-end : allTo (λ a. leb (u a) (ceilingAt p a)) (parties p) ≡ true → withinOk p u ≡ leb (shareOf p u) places
+  pub under-last : (i : ℕ) (d : AccessPoint) → i + 1 ≡ parties p → allTo (λ a. leb (u a) (ceilingAt p a)) i ≡ true
+      → leb (u i) (getD (p .points) i d .ceiling) ≡ underCeilings p u
+  under-last i d k e =
+      split (leb (u i) (getD (p .points) i d .ceiling))
+      (λ t. t ∙ sym (rw (← k) (under-next i d (omega arith) (leb-true (u i) (getD (p .points) i d .ceiling) t) e)))
+      (λ t. t ∙ sym (under-over i d (omega arith) (leb-false (u i) (getD (p .points) i d .ceiling) t)))
+
+  pub within-over : underCeilings p u ≡ false → withinOk p u ≡ false
+  unfolding withinOk
+  within-over e = rw e
+
+  pub within-end : underCeilings p u ≡ true → withinOk p u ≡ leb (shareOf p u) places
   unfolding withinOk
   within-end e = rw e
 

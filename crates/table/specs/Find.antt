@@ -6,7 +6,7 @@ use mathlib.Core.Bool.{Bool, true, false, not, _&&_}
 use mathlib.Core.List.{List, [], _∷_}
 use mathlib.Core.Path.{_≡_, refl, sym, _∙_, ap}
 use native.Mathlib.Omega.{arith}
-use lib.ListN.{length, drop, getD}
+use lib.ListN.{length, drop, getD, List·getD-eq-default}
 use lib.Dec.{eqb, leb, ltb}
 use mir.Val.{boolByte}
 use borrow.Author.Tests.{eqb-true, eqb-false, eq-eqb, ne-eqb, leb-true, le-leb, lt-ltb, le-ltb, ltb-true, ltb-false}
@@ -19,7 +19,7 @@ use Rattle.tunnel.specs.declared.Holder.{Holder}
 use Rattle.tunnel.specs.declared.Holder.the-variants as H
 use Rattle.tunnel.specs.Tunnel.{numberAt, numbers, holderOf, number-same, number-holder, holder-held, Held}
 use Rattle.session.specs.declared.Session.{Session}
-use Rattle.session.specs.Session.{isFree, hasId, waitsFor, isDue}
+use Rattle.session.specs.Session.{isFree, hasId, waitsFor, isDue, blankAt}
 use Rattle.table.specs.declared.Found.{Found}
 use Rattle.table.specs.declared.Found.the-variants.{At, Nothing}
 use Rattle.table.specs.declared.Query.{Query}
@@ -53,6 +53,15 @@ unfoldable pub heldIn : Holder → List Session → Found
 heldIn H.Nobody l = Nothing
 heldIn (H.At place usage) l =
     pick (ltb place (length l) && not (isFree (getD l place nobody)) && eqb (getD l place nobody .usage) usage) (At place) Nothing
+
+-- the same of the one record at the place that a holder names: one that there is not, where it names none
+unfoldable pub namedPlace : Holder → ℕ
+namedPlace H.Nobody = places
+namedPlace (H.At place usage) = place
+
+unfoldable pub usedBy : Holder → Session → Found
+usedBy H.Nobody s = Nothing
+usedBy (H.At place usage) s = pick (not (isFree s) && eqb (s .usage) usage) (At place) Nothing
 
 -- ---- laws of the search
 module _ (p : Session → Bool) (l : List Session) where
@@ -113,19 +122,28 @@ owner-hit offset n i (suc k) (s ∷ l) h e f =
     let y : i + suc k ≡ suc i + k = omega arith in
     rw (b, y) (owner-hit offset n (suc i) k l (omega arith) (rw y at e) (λ j q. let x : suc i + j ≡ i + suc j = omega arith in rw x (f (suc j) (omega arith))))
 
--- the look-up by arithmetic, in the words of the code
+-- the look-up by arithmetic, in the words of the code: of one record
 module _ (place usage : ℕ) (l : List Session) where
   pub held-out : length l ≤ place → heldIn (H.At place usage) l ≡ Nothing
   unfolding heldIn
   held-out h = rw (le-ltb place (length l) h)
 
-  pub held-yes : (d : Session) → place < length l → (not (isFree (getD l place d)) && eqb (getD l place d .usage) usage) ≡ true → heldIn (H.At place usage) l ≡ At place
-  unfolding heldIn
-  held-yes d h e = rw (lt-ltb place (length l) h, any-default l place nobody d h, e)
+  pub held-in : (d : Session) → place < length l → heldIn (H.At place usage) l ≡ usedBy (H.At place usage) (getD l place d)
+  unfolding heldIn usedBy
+  held-in d h = rw (lt-ltb place (length l) h, any-default l place nobody d h)
 
-  pub held-no : (d : Session) → place < length l → (not (isFree (getD l place d)) && eqb (getD l place d .usage) usage) ≡ false → heldIn (H.At place usage) l ≡ Nothing
-  unfolding heldIn
-  held-no d h e = rw (lt-ltb place (length l) h, any-default l place nobody d h, e)
+  pub held-yes : (d : Session) → place < length l → (not (isFree (getD l place d)) && eqb (getD l place d .usage) usage) ≡ true → heldIn (H.At place usage) l ≡ At place
+  unfolding usedBy
+  held-yes d h e = held-in d h ∙ rw e
+
+-- a place that there is not is nobody's
+pub held-used : (h : Holder) (l : List Session) → heldIn h l ≡ usedBy h (getD l (namedPlace h) nobody)
+unfolding heldIn usedBy namedPlace blankAt isFree
+held-used H.Nobody l = refl
+held-used (H.At place usage) l =
+    split (ltb place (length l))
+    (λ e. held-in place usage l nobody (ltb-true place (length l) e))
+    (λ e. let h = ltb-false place (length l) e in held-out place usage l h ∙ rw (List·getD-eq-default l nobody h))
 
 -- who bears a number holds it
 bears-held : (offset n j : ℕ) (s : Session) → offset + places ≤ base → j < places → bears offset n j s ≡ true

@@ -10,13 +10,13 @@ use tunnel::Holder;
 use tunnel::UserTeid;
 ghost use mathlib.Core.List.{map};
 ghost use mathlib.Core.Path.{_≡_};
-ghost use lib.ListN.{replicate};
+ghost use lib.ListN.{replicate, getD};
 ghost use Rattle.tunnel.specs.Numbering.{controlOffset, userOffset};
 ghost use Rattle.session.specs.Session.{blankAt};
 ghost use Rattle.table.specs.Change.{changedAt};
 ghost use Rattle.table.specs.Become.{changedBy};
 ghost use Rattle.table.specs.Own.{freshNode, rested, restarted, hearing, echoTicked};
-ghost use Rattle.table.specs.Find.{meets, foundIn, heldIn, ownerOf};
+ghost use Rattle.table.specs.Find.{meets, foundIn, heldIn, namedPlace, usedBy, ownerOf};
 
 // What goes with the records: the plan, the stored Recovery, the unit's own echo, and the next sequence number.
 #[repr(C)]
@@ -128,7 +128,7 @@ fn meets(s: Session, q: Query) -> bool
 }
 
 // The record with the change made.
-fn changed(s: Session, c: Change) -> Session
+pub fn changed(s: Session, c: Change) -> Session
     ensures { λ r. ⌜ r ≡ changedBy c s ⌝ }
 {
     match c {
@@ -138,6 +138,41 @@ fn changed(s: Session, c: Change) -> Session
         Change::Move(p) => s.moved(p),
         Change::Send { resend, number } => s.sent(resend, number),
         Change::Tick(most) => s.ticked(most),
+    }
+}
+
+// The record of a place; nobody's past the table.
+pub fn record_at(table: Table, place: usize) -> Session
+    ensures { λ r. ⌜ r ≡ getD (table .recs) place (blankAt 0) ⌝ }
+{
+    if place < Table::PLACES {
+        return table.recs[place];
+    }
+    Session::blank_at(0)
+}
+
+// The place that a holder names; 64 where there is none.
+pub fn named_place(h: Holder) -> usize
+    ensures { λ r. ⌜ r ≡ namedPlace h ⌝ }
+{
+    match h {
+        Holder::At { place, usage: _ } => place,
+        Holder::Nobody => Table::PLACES,
+    }
+}
+
+// The place that a holder names, if the record there is taken and in that use.
+pub fn used_by(h: Holder, s: Session) -> Found
+    ensures { λ r. ⌜ r ≡ usedBy h s ⌝ }
+{
+    let Holder::At { place, usage } = h else {
+        return Found::Nothing;
+    };
+    let free = s.is_free();
+    if !free & (s.usage == usage) {
+        Found::At(place)
+    } else {
+        Found::Nothing
     }
 }
 
@@ -174,19 +209,14 @@ impl Table {
     fn held_by(self, h: Holder) -> Found
         ensures { λ r. ⌜ r ≡ heldIn h (self .recs) ⌝ }
     {
-        let Holder::At { place, usage } = h else {
+        let Holder::At { place, usage: _ } = h else {
             return Found::Nothing;
         };
         if Self::PLACES <= place {
             return Found::Nothing;
         }
         let s = self.recs[place];
-        let free = s.is_free();
-        if !free & (s.usage == usage) {
-            Found::At(place)
-        } else {
-            Found::Nothing
-        }
+        used_by(h, s)
     }
 
     pub fn by_control(self, teid: ControlTeid) -> Found

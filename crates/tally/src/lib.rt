@@ -64,7 +64,8 @@ fn unclaimed(k: u32, echo: u64, keys: &[u64]) -> bool
     !((key != 0) & (key == echo)) & apart
 }
 
-fn free_among(next: u32, echo: u64, keys: &[u64]) -> u32
+// The next number that nobody awaits, by what the echo and the records await, as keys.
+pub fn free_among(next: u32, echo: u64, keys: &[u64]) -> u32
     ensures { λ r. ⌜ r ≡ freeAmong (places + 2) next echo (now (keys .entry)) ⌝ }
 {
     let mut k = next;

@@ -116,7 +116,7 @@ pub fn close(node: Node, table: Table, place: usize) -> Answer
 }
 
 // The next number after a send: a first send took k, a resend kept its own.
-fn stepped(sends: u8, k: u32, next: u32) -> u32
+pub fn stepped(sends: u8, k: u32, next: u32) -> u32
     ensures { λ r. ⌜ r ≡ stepped sends k next ⌝ }
 {
     if sends == 0 {

@@ -1,16 +1,15 @@
 // Take user datagram, on values: an echo is answered, a packet under a live user number is handed up as the part of the datagram
-// that it is, and any other gets an Error Indication or its refusal. The table stays as it is.
+// that it is, and any other gets an Error Indication or its refusal. The table stays as it is: once its rules are known to be kept, one
+// record of it says all.
 use gpdu::Header;
+use session::Session;
 use table::Found;
 use table::Node;
 use table::Table;
 ghost use mathlib.Core.Path.{_≡_};
-ghost use lib.ListN.{length};
-ghost use Rattle.tunnel.specs.Numbering.{userOffset};
-ghost use Rattle.table.specs.Find.{ownerOf};
 ghost use Rattle.gpdu.specs.Part.{IsRest};
 ghost use Rattle.gpdu.specs.User.{userOf};
-ghost use Rattle.userside.specs.UserSide.{took, packetTaken, headerTaken, userTaken};
+ghost use Rattle.userside.specs.UserSide.{took, placeIn, packetTaken, recordTaken, checkedTaken, userTaken};
 
 // A packet: its place where its number is live, else the Error Indication. The answer is where what is handed up begins.
 fn take_packet(
@@ -39,10 +38,10 @@ fn take_packet(
     start
 }
 
-// By what the header says.
+// By what the header says, and the record at the place that it says.
 fn take_header(
     node: Node,
-    table: Table,
+    s: Session,
     h: Header,
     start: usize,
     end: usize,
@@ -51,7 +50,7 @@ fn take_header(
     place: &mut usize,
     size: &mut usize,
 ) -> usize
-    ensures { λ r. ⌜ took (now (number .exit)) (now (place .exit)) (now (size .exit)) (now (reply .exit)) r ≡ headerTaken node (table .recs) h start end (now (reply .entry)) ⌝ }
+    ensures { λ r. ⌜ took (now (number .exit)) (now (place .exit)) (now (size .exit)) (now (reply .exit)) r ≡ recordTaken node s h start end (now (reply .entry)) ⌝ }
 {
     match h {
         Header::Echo { sequence } => {
@@ -63,7 +62,8 @@ fn take_header(
         }
         Header::Packet { teid } => {
             let plan = node.plan;
-            let f = table.by_user(teid);
+            let holder = teid.holder();
+            let f = table::used_by(holder, s);
             take_packet(f, teid.0, plan.user, start, end, reply, number, place, size)
         }
         Header::Refused(why) => {
@@ -73,6 +73,60 @@ fn take_header(
             end
         }
     }
+}
+
+// The place that the datagram's tunnel number says; 64 where it says none.
+pub fn place_of(d: &[u8]) -> usize
+    ensures { λ r. ⌜ r ≡ placeIn (now (d .entry)) ⌝ }
+{
+    let h = Header::of(d);
+    match h {
+        Header::Echo { sequence: _ } => Table::PLACES,
+        Header::Packet { teid } => {
+            let holder = teid.holder();
+            table::named_place(holder)
+        }
+        Header::Refused(_) => Table::PLACES,
+    }
+}
+
+// Take user datagram, where it is known whether the table's rules are kept, with the record at the place that the datagram says.
+pub fn take_checked<'a>(
+    kept: bool,
+    node: Node,
+    s: Session,
+    d: &'a [u8],
+    reply: &mut [u8],
+    number: &mut u8,
+    place: &mut usize,
+    size: &mut usize,
+) -> &'a [u8]
+    ensures { λ r. ⌜ (took (now (number .exit)) (now (place .exit)) (now (size .exit)) (now (reply .exit)) (checkedTaken kept node s (now (d .entry)) (now (reply .entry)) .start)
+        ≡ checkedTaken kept node s (now (d .entry)) (now (reply .entry)))
+        × IsRest r (d .entry) (checkedTaken kept node s (now (d .entry)) (now (reply .entry)) .start) ⌝ }
+{
+    let end = d.len();
+    let mut start = end;
+    *place = 0;
+    *size = 0;
+    if reply.len() < 128 {
+        *number = 1;
+        return &d[start..];
+    }
+    if !kept {
+        *number = 2;
+        return &d[start..];
+    }
+    let mut why: u8 = 0;
+    let p = gpdu::payload(d, &mut why);
+    if why != 0 {
+        *number = why;
+        return &d[start..];
+    }
+    start = end - p.len();
+    let h = Header::of(d);
+    start = take_header(node, s, h, start, end, reply, number, place, size);
+    &d[start..]
 }
 
 // Take user datagram: the number, the place and the reply's length come back through the lent numbers, what is handed up as the part
@@ -90,27 +144,8 @@ pub fn take_user<'a>(
         ≡ userTaken node (table .recs) (now (d .entry)) (now (reply .entry)))
         × IsRest r (d .entry) (userTaken node (table .recs) (now (d .entry)) (now (reply .entry)) .start) ⌝ }
 {
-    let end = d.len();
-    let mut start = end;
-    *place = 0;
-    *size = 0;
-    if reply.len() < 128 {
-        *number = 1;
-        return &d[start..];
-    }
     let kept = rules::keeps_rules(node, table);
-    if !kept {
-        *number = 2;
-        return &d[start..];
-    }
-    let mut why: u8 = 0;
-    let p = gpdu::payload(d, &mut why);
-    if why != 0 {
-        *number = why;
-        return &d[start..];
-    }
-    start = end - p.len();
-    let h = Header::of(d);
-    start = take_header(node, table, h, start, end, reply, number, place, size);
-    &d[start..]
+    let at = place_of(d);
+    let s = table::record_at(table, at);
+    take_checked(kept, node, s, d, reply, number, place, size)
 }

@@ -1,35 +1,17 @@
-use Rattle.amends.specs.Amends.{causeTaken, causeSize, causeOctets}
+use Rattle.amends.specs.Amends.{causeTaken}
 use borrow.Author.Needs.{needs}
 use Rattle.amends.proofs.take_cause.Statement.{statement}
 use Rattle.amends.proofs.take_cause.Tie as tie
 
-fault-reply-requires : tie.Need-fault-reply-requires
-fault-reply-requires c κs = search needs
+write-cause-requires : tie.Need-write-cause-requires
+write-cause-requires c κs = search needs
 
 same-length : tie.Need-same-length
 same-length c = search needs
 
 returns : tie.Need-returns
-unfolding causeTaken causeSize causeOctets
-returns c = rw (c .before .before .fault-reply .ensures, c .before .before .before .before .if1 .taken)
-
-cause-reply-requires : tie.Need-cause-reply-requires
-cause-reply-requires c κs = search needs
-
-same-length-2 : tie.Need-same-length-2
-same-length-2 c = search needs
-
-returns-2 : tie.Need-returns-2
-unfolding causeTaken causeSize causeOctets
-returns-2 c = rw (c .before .before .cause-reply .ensures, c .before .before .before .before .if1 .left)
+unfolding causeTaken
+returns c = rw (c .before .before .write-cause .ensures .length, c .before .before .write-cause .ensures .octets)
 
 pub take-cause-spec : {M : Type 1} → statement M
-take-cause-spec =
-    tie.close
-    (tie.spec
-    fault-reply-requires
-    same-length
-    returns
-    cause-reply-requires
-    same-length-2
-    returns-2)
+take-cause-spec = tie.close (tie.spec write-cause-requires same-length returns)

@@ -1,6 +1,6 @@
 use mathlib.Core.Path.{sym, _∙_}
 use denote.Ref.{now}
-use Rattle.distinct.specs.Marks.{none-same, none-zero}
+use Rattle.distinct.specs.Lacks.{none-same, none-zero}
 use borrow.Author.Needs.{needs}
 use Rattle.distinct.proofs.absent.Statement.{statement}
 use Rattle.distinct.proofs.absent.Tie as tie

@@ -1,7 +1,7 @@
 use mathlib.Core.Path.{sym, _∙_}
 use denote.Ref.{now}
 use lib.ListN.{drop}
-use Rattle.distinct.specs.Marks.{none-same, none-zero}
+use Rattle.distinct.specs.Lacks.{none-same, none-zero}
 use borrow.Author.Needs.{needs}
 use Rattle.distinct.proofs.fresh.Statement.{statement}
 use Rattle.distinct.proofs.fresh.Tie as tie

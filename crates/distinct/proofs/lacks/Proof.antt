@@ -4,7 +4,7 @@ use native.Mathlib.Omega.{arith}
 use borrow.Author.Needs.{needs}
 use denote.Ref.{now}
 use lib.ListN.{length, drop}
-use Rattle.distinct.specs.Marks.{lacks, lacks-hit, lacks-on, lacks-end}
+use Rattle.distinct.specs.Lacks.{lacks, lacks-hit, lacks-on, lacks-end}
 use Rattle.distinct.proofs.lacks.Statement.{statement}
 use Rattle.distinct.proofs.lacks.Tie as tie
 

@@ -1,84 +1,126 @@
-use Prim.Native.Nat.{_+_, _-_, _*_, _≤_, max}
-use mathlib.Core.Path.{_≡_, refl, sym, _∙_}
+use Prim.Native.Nat.{ℕ}
+use mathlib.Core.Path.{_≡_, _∙_}
 use native.Mathlib.Omega.{arith}
 use borrow.Author.Needs.{needs}
 use lib.ListN.{length, getD, length-map}
-use Rattle.octets.specs.Below.{to-start}
 use Rattle.plan.specs.Limits.{parties, parties-most}
-use Rattle.sharing.specs.Sharing.{guaranteeAt, share, share-next}
+use Rattle.sharing.specs.Sharing.{guaranteeAt, none-shared, one-shared, two-shared, three-shared, four-shared}
 use Rattle.sharing.proofs.share_of.Statement.{statement}
 use Rattle.sharing.proofs.share_of.Tie as tie
 
-abbrev Inv-loop : tie.InvT-loop
-Inv-loop self live n sum₀ i₀ sum i = (n ≡ parties self) × ((n ≤ 4) × ((sum ≤ 65535 * i) × ((i ≤ n) × (sum ≡ share i (guaranteeAt self) (λ a. getD live a 0)))))
-
-abbrev μ-loop : tie.MeasureT-loop
-μ-loop self live n sum₀ i₀ sum i = n - i
-
-parties-requires : tie.Need-parties-requires Inv-loop μ-loop
+parties-requires : tie.Need-parties-requires
 parties-requires c κs = search needs
 
-loop-holds : tie.Need-loop-holds Inv-loop μ-loop
-unfolding share
-loop-holds c = let p = c .before .args .t1 in
-    let l : length (p .points) ≡ 4 = simp length-map at (c .before .good .0 .1 .1 .1 .1 .1 .1 .1 .1 .1 .1 .0 .1 .0 .1) in
-    let e = c .parties .ensures in
-    let m = parties-most p l in
-    (e, (omega arith, (omega arith, (omega arith, sym (to-start _)))))
+returns : tie.Need-returns
+returns c = let s = c .before .before in let p = s .args .t1 in let u : ℕ → ℕ = λ a. getD (s .args .t2) a 0 in let e = c .before .parties .ensures in
+    let k : parties p ≡ 0 = omega arith in
+    none-shared (guaranteeAt p) u ∙ rw k
 
-mul-p : tie.Need-mul-p Inv-loop μ-loop
-mul-p c = search needs
+element-copy-out-a : tie.Need-element-copy-out-a
+element-copy-out-a c = search needs
 
-element-copy-out-p : tie.Need-element-copy-out-p Inv-loop μ-loop
-element-copy-out-p c = search needs
-
-mul-larger : tie.Need-mul-larger Inv-loop μ-loop
-mul-larger c = search needs
-
-array-read-larger : tie.Need-array-read-larger Inv-loop μ-loop
+array-read-larger : tie.Need-array-read-larger
 array-read-larger c = search needs
 
-larger-requires : tie.Need-larger-requires Inv-loop μ-loop
+larger-requires : tie.Need-larger-requires
 larger-requires c κs = search needs
 
-cast-sum : tie.Need-cast-sum Inv-loop μ-loop
-cast-sum c = search needs
+cast-one : tie.Need-cast-one
+cast-one c = search needs
 
-add-sum : tie.Need-add-sum Inv-loop μ-loop
-add-sum c = search needs
+returns-2 : tie.Need-returns-2
+returns-2 c = let s = c .before .before .before .before .before in let p = s .args .t1 in let u : ℕ → ℕ = λ a. getD (s .args .t2) a 0 in let e = c .before .before .before .before .parties .ensures in
+    let k : parties p ≡ 1 = omega arith in
+    rw (c .before .larger .ensures) (one-shared p u _ (omega arith) ∙ rw k)
 
-add-i : tie.Need-add-i Inv-loop μ-loop
-add-i c = search needs
+element-copy-out-b : tie.Need-element-copy-out-b
+element-copy-out-b c = search needs
 
-loop-less : tie.Need-loop-less Inv-loop μ-loop
-loop-less c = search needs
+array-read-larger-2 : tie.Need-array-read-larger-2
+array-read-larger-2 c = search needs
 
-loop-again : tie.Need-loop-again Inv-loop μ-loop
-loop-again c = let p = c .before .before .before .before .before .args .t1 in let k = c .before .before .before .loop in
-    let e = c .larger .ensures in
-    (k .inv .0, (k .inv .1 .0, (omega arith, (omega arith, rw (c .larger .ensures) (share-next p (λ a. getD (c .before .before .before .before .before .args .t2) a 0) (k .i) (k .sum) _ (omega arith) (k .inv .1 .1 .1 .1))))))
+larger-requires-2 : tie.Need-larger-requires-2
+larger-requires-2 c κs = search needs
 
-returns : tie.Need-returns Inv-loop μ-loop
-returns c = let k = c .before .loop in
-    let e : k .i ≡ parties (c .before .before .before .args .t1) = omega arith in
-    k .inv .1 .1 .1 .1 ∙ rw e
+cast-two : tie.Need-cast-two
+cast-two c = search needs
+
+add-two : tie.Need-add-two
+add-two c = search needs
+
+returns-3 : tie.Need-returns-3
+returns-3 c = let s = c .before .before .before .before .before .before .before .before in let p = s .args .t1 in let u : ℕ → ℕ = λ a. getD (s .args .t2) a 0 in let e = c .before .before .before .before .before .before .before .parties .ensures in
+    let k : parties p ≡ 2 = omega arith in
+    rw (c .before .before .before .before .larger .ensures, c .before .larger2 .ensures) (two-shared p u _ (omega arith) ∙ rw k)
+
+element-copy-out-c : tie.Need-element-copy-out-c
+element-copy-out-c c = search needs
+
+array-read-larger-3 : tie.Need-array-read-larger-3
+array-read-larger-3 c = search needs
+
+larger-requires-3 : tie.Need-larger-requires-3
+larger-requires-3 c κs = search needs
+
+cast-three : tie.Need-cast-three
+cast-three c = search needs
+
+add-three : tie.Need-add-three
+add-three c = search needs
+
+returns-4 : tie.Need-returns-4
+returns-4 c = let s = c .before .before .before .before .before .before .before .before .before .before .before in let p = s .args .t1 in let u : ℕ → ℕ = λ a. getD (s .args .t2) a 0 in let e = c .before .before .before .before .before .before .before .before .before .before .parties .ensures in
+    let k : parties p ≡ 3 = omega arith in
+    rw (c .before .before .before .before .before .before .before .larger .ensures, c .before .before .before .before .larger2 .ensures, c .before .larger3 .ensures) (three-shared p u _ (omega arith) ∙ rw k)
+
+element-copy-out-d : tie.Need-element-copy-out-d
+element-copy-out-d c = search needs
+
+array-read-larger-4 : tie.Need-array-read-larger-4
+array-read-larger-4 c = search needs
+
+larger-requires-4 : tie.Need-larger-requires-4
+larger-requires-4 c κs = search needs
+
+cast-result : tie.Need-cast-result
+cast-result c = search needs
+
+add-result : tie.Need-add-result
+add-result c = search needs
+
+returns-5 : tie.Need-returns-5
+returns-5 c = let s = c .before .before .before .before .before .before .before .before .before .before .before .before .before in let p = s .args .t1 in let u : ℕ → ℕ = λ a. getD (s .args .t2) a 0 in let e = c .before .before .before .before .before .before .before .before .before .before .before .before .parties .ensures in
+    let l : length (p .points) ≡ 4 = simp length-map at (s .good .0 .1 .1 .1 .1 .1 .1 .1 .1 .1 .1 .0 .1 .0 .1) in
+    let m = parties-most p l in
+    let k : parties p ≡ 4 = omega arith in
+    rw (c .before .before .before .before .before .before .before .before .before .larger .ensures, c .before .before .before .before .before .before .larger2 .ensures, c .before .before .before .larger3 .ensures, c .larger4 .ensures) (four-shared p u _ (omega arith) ∙ rw k)
 
 pub share-of-spec : {M : Type 1} → statement M
 share-of-spec =
     tie.close
     (tie.spec
-    Inv-loop
-    μ-loop
     parties-requires
-    loop-holds
-    mul-p
-    element-copy-out-p
-    mul-larger
+    returns
+    element-copy-out-a
     array-read-larger
     larger-requires
-    cast-sum
-    add-sum
-    add-i
-    loop-less
-    loop-again
-    returns)
+    cast-one
+    returns-2
+    element-copy-out-b
+    array-read-larger-2
+    larger-requires-2
+    cast-two
+    add-two
+    returns-3
+    element-copy-out-c
+    array-read-larger-3
+    larger-requires-3
+    cast-three
+    add-three
+    returns-4
+    element-copy-out-d
+    array-read-larger-4
+    larger-requires-4
+    cast-result
+    add-result
+    returns-5)

@@ -1,4 +1,4 @@
-use Rattle.userside.specs.UserSide.{headerTaken}
+use Rattle.userside.specs.UserSide.{recordTaken}
 use borrow.Author.Needs.{needs}
 use Rattle.userside.proofs.take_header.Statement.{statement}
 use Rattle.userside.proofs.take_header.Tie as tie
@@ -15,8 +15,11 @@ user-echo-requires c κs = search needs
 enum-known-h-2 : tie.Need-enum-known-h-2
 enum-known-h-2 c = search needs
 
-by-user-requires : tie.Need-by-user-requires
-by-user-requires c κs = search needs
+holder-requires : tie.Need-holder-requires
+holder-requires c κs = search needs
+
+used-by-requires : tie.Need-used-by-requires
+used-by-requires c κs = search needs
 
 take-packet-requires : tie.Need-take-packet-requires
 take-packet-requires c κs = search needs
@@ -28,18 +31,18 @@ same-length : tie.Need-same-length
 same-length c = search needs
 
 returns : tie.Need-returns
-unfolding headerTaken
+unfolding recordTaken
 returns c = rw (c .before .before .before .before .before .h .given .1, c .before .before .user-echo .ensures)
 
 same-length-2 : tie.Need-same-length-2
 same-length-2 c = search needs
 
 returns-2 : tie.Need-returns-2
-unfolding headerTaken
-returns-2 c = rw (c .before .before .before .before .before .before .before .before .before .before .h2 .given .1, ← c .before .before .before .before .before .before .before .by-user .ensures) (c .before .before .take-packet .ensures)
+unfolding recordTaken
+returns-2 c = rw (c .before .before .before .before .before .before .before .before .before .before .before .h2 .given .1, ← c .before .before .before .before .before .before .before .before .holder .ensures, ← c .before .before .before .before .before .before .before .used-by .ensures) (c .before .before .take-packet .ensures)
 
 returns-3 : tie.Need-returns-3
-unfolding headerTaken
+unfolding recordTaken
 returns-3 c = rw (c .before .h3 .given .1)
 
 pub take-header-spec : {M : Type 1} → statement M
@@ -50,7 +53,8 @@ take-header-spec =
     cast-user-echo
     user-echo-requires
     enum-known-h-2
-    by-user-requires
+    holder-requires
+    used-by-requires
     take-packet-requires
     enum-known-h-3
     same-length

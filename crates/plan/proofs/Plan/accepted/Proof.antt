@@ -1,35 +1,65 @@
-use Rattle.tunnel.specs.Numbering.{places}
-use Rattle.plan.specs.Plan.{accepted}
+use Prim.Native.Nat.{_<_, _≤_}
+use mathlib.Core.Path.{_≡_, sym, _∙_}
+use native.Mathlib.Omega.{arith}
 use borrow.Author.Needs.{needs}
+use borrow.Author.Tests.{not-true, not-false}
+use Rattle.tunnel.specs.Numbering.{places}
+use Rattle.plan.specs.Limits.{mostPoints}
+use Rattle.plan.specs.Plan.{guaranteed, count-refused, points-refused, sum-refused, names-refused, figures-decide}
 use Rattle.plan.proofs.Plan.accepted.Statement.{statement}
 use Rattle.plan.proofs.Plan.accepted.Tie as tie
 
-figures-fit-requires : tie.Need-figures-fit-requires
-figures-fit-requires c κs = search needs
+cast-if1 : tie.Need-cast-if1
+cast-if1 c = search needs
+
+returns : tie.Need-returns
+unfolding mostPoints
+returns c = sym (count-refused (c .before .before .args .self) (c .if1 .taken))
 
 points-fit-requires : tie.Need-points-fit-requires
 points-fit-requires c κs = search needs
 
+returns-2 : tie.Need-returns-2
+returns-2 c = sym (points-refused (c .before .before .before .before .args .self) (sym (c .before .points-fit .ensures) ∙ not-true _ (c .if2 .taken)))
+
 guaranteed-requires : tie.Need-guaranteed-requires
 guaranteed-requires c κs = search needs
 
+cast-if3 : tie.Need-cast-if3
+cast-if3 c = search needs
+
+returns-3 : tie.Need-returns-3
+unfolding places
+returns-3 c = sym (sum-refused (c .before .before .before .before .before .before .args .self) (rw (← (c .before .guaranteed .ensures)) (c .if3 .taken)))
+
 names-differ-requires : tie.Need-names-differ-requires
-names-differ-requires c κs = search needs
+names-differ-requires c κs = sym (c .before .before .before .points-fit .ensures) ∙ not-false _ (c .before .before .if2 .left)
 
-cast-result : tie.Need-cast-result
-cast-result c = search needs
+returns-4 : tie.Need-returns-4
+returns-4 c = sym (names-refused (c .before .before .before .before .before .before .before .before .args .self) (sym (c .before .names-differ .ensures) ∙ not-true _ (c .if4 .taken)))
 
-returns : tie.Need-returns
-unfolding accepted places
-returns c = rw (c .before .before .before .figures-fit .ensures, c .before .before .points-fit .ensures, c .before .guaranteed .ensures, c .names-differ .ensures)
+figures-fit-requires : tie.Need-figures-fit-requires
+figures-fit-requires c κs = search needs
+
+returns-5 : tie.Need-returns-5
+unfolding places
+returns-5 c = c .figures-fit .ensures ∙ figures-decide (c .before .before .before .before .before .before .before .before .before .args .self)
+    (sym (c .before .before .before .before .before .before .points-fit .ensures) ∙ not-false _ (c .before .before .before .before .before .if2 .left))
+    (rw (← (c .before .before .before .before .guaranteed .ensures)) (c .before .before .before .if3 .left))
+    (sym (c .before .before .names-differ .ensures) ∙ not-false _ (c .before .if4 .left))
 
 pub accepted-spec : {M : Type 1} → statement M
 accepted-spec =
     tie.close
     (tie.spec
-    figures-fit-requires
+    cast-if1
+    returns
     points-fit-requires
+    returns-2
     guaranteed-requires
+    cast-if3
+    returns-3
     names-differ-requires
-    cast-result
-    returns)
+    returns-4
+    figures-fit-requires
+    returns-5)

@@ -1,74 +1,91 @@
-use Prim.Native.Nat.{_+_, _-_, _*_, _≤_}
-use mathlib.Core.Path.{_≡_, refl, sym, _∙_}
+use mathlib.Core.Path.{_≡_}
 use native.Mathlib.Omega.{arith}
 use borrow.Author.Needs.{needs}
-use borrow.Author.Tests.{not-true, not-false}
-use denote.Ref.{now}
-use lib.ListN.{length, drop, length-map}
-use Rattle.octets.specs.Sums.{sumOf, sum-end}
-use Rattle.plan.specs.Limits.{parties, parties-most, used, used-add}
-use Rattle.plan.specs.Plan.{guaranteed}
+use lib.ListN.{length, length-map}
+use Rattle.plan.specs.Limits.{parties-most}
+use Rattle.plan.specs.Slots.{none-promised, one-promised, two-promised, three-promised, four-promised}
 use Rattle.plan.proofs.Plan.guaranteed.Statement.{statement}
 use Rattle.plan.proofs.Plan.guaranteed.Tie as tie
 
-abbrev Inv-loop : tie.InvT-loop
-Inv-loop self n sum₀ i₀ sum i = (n ≡ parties self) × ((n ≤ 4) × ((sum ≤ 65535 * i) × (sum + sumOf (λ a. a .guarantee) (drop i (used self)) ≡ guaranteed self)))
-
-abbrev μ-loop : tie.MeasureT-loop
-μ-loop self n sum₀ i₀ sum i = n - i
-
-parties-requires : tie.Need-parties-requires Inv-loop μ-loop
+parties-requires : tie.Need-parties-requires
 parties-requires c κs = search needs
 
-loop-holds : tie.Need-loop-holds Inv-loop μ-loop
-unfolding guaranteed
-loop-holds c =
-    let p = c .before .args .t1 in
-    let l : length (p .points) ≡ 4 = simp length-map at (c .before .good .0 .1 .1 .1 .1 .1 .1 .1 .1 .1 .1 .0 .1 .0 .1) in
-    let e = c .parties .ensures in
-    let m = parties-most p l in
-    (e, (omega arith, (omega arith, omega arith)))
+returns : tie.Need-returns
+returns c = let p = c .before .before .args .t1 in let e = c .before .parties .ensures in
+    none-promised p (omega arith)
 
-mul-p : tie.Need-mul-p Inv-loop μ-loop
-mul-p c = search needs
+element-copy-out-a : tie.Need-element-copy-out-a
+element-copy-out-a c = search needs
 
-element-copy-out-p : tie.Need-element-copy-out-p Inv-loop μ-loop
-element-copy-out-p c = search needs
+cast-one : tie.Need-cast-one
+cast-one c = search needs
 
-cast-sum : tie.Need-cast-sum Inv-loop μ-loop
-cast-sum c = search needs
+returns-2 : tie.Need-returns-2
+returns-2 c = let s = c .before .before .before .before .before in let e = c .before .before .before .before .parties .ensures in
+    let l : length (s .args .t1 .points) ≡ 4 = simp length-map at (s .good .0 .1 .1 .1 .1 .1 .1 .1 .1 .1 .1 .0 .1 .0 .1) in
+    one-promised (s .args .t1) _ l (omega arith)
 
-add-sum : tie.Need-add-sum Inv-loop μ-loop
-add-sum c = search needs
+element-copy-out-b : tie.Need-element-copy-out-b
+element-copy-out-b c = search needs
 
-add-i : tie.Need-add-i Inv-loop μ-loop
-add-i c = search needs
+cast-two : tie.Need-cast-two
+cast-two c = search needs
 
-loop-less : tie.Need-loop-less Inv-loop μ-loop
-loop-less c = search needs
+add-two : tie.Need-add-two
+add-two c = search needs
 
-loop-again : tie.Need-loop-again Inv-loop μ-loop
-loop-again c = let p = c .before .before .before .before .before .args .t1 in let k = c .before .before .before .loop in
-    (k .inv .0, (k .inv .1 .0, (omega arith, used-add p (k .i) _ (omega arith) (λ a. a .guarantee) (k .sum) _ (k .inv .1 .1 .1))))
+returns-3 : tie.Need-returns-3
+returns-3 c = let s = c .before .before .before .before .before .before .before .before in let e = c .before .before .before .before .before .before .before .parties .ensures in
+    let l : length (s .args .t1 .points) ≡ 4 = simp length-map at (s .good .0 .1 .1 .1 .1 .1 .1 .1 .1 .1 .1 .0 .1 .0 .1) in
+    two-promised (s .args .t1) _ l (omega arith)
 
-returns : tie.Need-returns Inv-loop μ-loop
-returns c = let p = c .before .before .before .args .t1 in let k = c .before .loop in
-    let e = sum-end (λ a. a .guarantee) (used p) (k .i) (omega arith) in
-    omega arith
+element-copy-out-c : tie.Need-element-copy-out-c
+element-copy-out-c c = search needs
+
+cast-three : tie.Need-cast-three
+cast-three c = search needs
+
+add-three : tie.Need-add-three
+add-three c = search needs
+
+returns-4 : tie.Need-returns-4
+returns-4 c = let s = c .before .before .before .before .before .before .before .before .before .before .before in let e = c .before .before .before .before .before .before .before .before .before .before .parties .ensures in
+    let l : length (s .args .t1 .points) ≡ 4 = simp length-map at (s .good .0 .1 .1 .1 .1 .1 .1 .1 .1 .1 .1 .0 .1 .0 .1) in
+    three-promised (s .args .t1) _ l (omega arith)
+
+element-copy-out-d : tie.Need-element-copy-out-d
+element-copy-out-d c = search needs
+
+cast-result : tie.Need-cast-result
+cast-result c = search needs
+
+add-result : tie.Need-add-result
+add-result c = search needs
+
+returns-5 : tie.Need-returns-5
+returns-5 c = let s = c .before .before .before .before .before .before .before .before .before .before .before .before .before in let e = c .before .before .before .before .before .before .before .before .before .before .before .before .parties .ensures in
+    let l : length (s .args .t1 .points) ≡ 4 = simp length-map at (s .good .0 .1 .1 .1 .1 .1 .1 .1 .1 .1 .1 .0 .1 .0 .1) in
+    let m = parties-most (s .args .t1) l in
+    four-promised (s .args .t1) _ l (omega arith)
 
 pub guaranteed-spec : {M : Type 1} → statement M
 guaranteed-spec =
     tie.close
     (tie.spec
-    Inv-loop
-    μ-loop
     parties-requires
-    loop-holds
-    mul-p
-    element-copy-out-p
-    cast-sum
-    add-sum
-    add-i
-    loop-less
-    loop-again
-    returns)
+    returns
+    element-copy-out-a
+    cast-one
+    returns-2
+    element-copy-out-b
+    cast-two
+    add-two
+    returns-3
+    element-copy-out-c
+    cast-three
+    add-three
+    returns-4
+    element-copy-out-d
+    cast-result
+    add-result
+    returns-5)

@@ -1,78 +1,49 @@
-use Prim.Native.Nat.{_+_, _-_, _*_, _≤_}
-use mathlib.Core.Path.{_≡_, refl, sym, _∙_}
+use mathlib.Core.Path.{_≡_, sym, _∙_}
 use native.Mathlib.Omega.{arith}
 use borrow.Author.Needs.{needs}
-use borrow.Author.Tests.{not-true, not-false}
-use denote.Ref.{now}
-use lib.ListN.{length, drop, length-map}
-use Rattle.octets.specs.Every.{every, everyRest, rest-end}
-use Rattle.plan.specs.Limits.{parties, parties-most, used, used-rest-stop, used-rest-on}
-use Rattle.plan.specs.Names.{unlike, namesDiffer}
+use lib.ListN.{length, length-map}
+use Rattle.plan.specs.Limits.{parties-is}
+use Rattle.plan.specs.Slots.{two-differ}
 use Rattle.plan.proofs.Plan.names_differ.Statement.{statement}
 use Rattle.plan.proofs.Plan.names_differ.Tie as tie
 
-abbrev Inv-loop : tie.InvT-loop
-Inv-loop self n i₀ i = (n ≡ parties self) × ((n ≤ 4) × (namesDiffer (used self) ≡ everyRest (λ a r. every (unlike a) r) (drop i (used self))))
+sizes-differ-requires : tie.Need-sizes-differ-requires
+sizes-differ-requires c κs = search needs
 
-abbrev μ-loop : tie.MeasureT-loop
-μ-loop self n i₀ i = n - i
+returns : tie.Need-returns
+returns c = sym (c .before .sizes-differ .ensures (c .if1 .taken))
 
-parties-requires : tie.Need-parties-requires Inv-loop μ-loop
-parties-requires c κs = search needs
+element-copy-out-a : tie.Need-element-copy-out-a
+element-copy-out-a c = search needs
 
-loop-holds : tie.Need-loop-holds Inv-loop μ-loop
-unfolding namesDiffer
-loop-holds c =
-    let p = c .before .args .t1 in
-    let l : length (p .points) ≡ 4 = simp length-map at (c .before .good .0 .1 .1 .1 .1 .1 .1 .1 .1 .1 .1 .0 .1 .0 .1) in
-    let e = c .parties .ensures in
-    let m = parties-most p l in
-    (e, (omega arith, refl))
+element-copy-out-b : tie.Need-element-copy-out-b
+element-copy-out-b c = search needs
 
-mul-p : tie.Need-mul-p Inv-loop μ-loop
-mul-p c = search needs
+unlike-requires : tie.Need-unlike-requires
+unlike-requires c κs = search needs
 
-element-copy-out-p : tie.Need-element-copy-out-p Inv-loop μ-loop
-element-copy-out-p c = search needs
+returns-2 : tie.Need-returns-2
+returns-2 c = let s = c .before .before .before .before .before .before in
+    let l : length (s .args .t1 .points) ≡ 4 = simp length-map at (s .good .0 .1 .1 .1 .1 .1 .1 .1 .1 .1 .1 .0 .1 .0 .1) in
+    let e = parties-is (s .args .t1) l in
+    let k = c .before .before .before .if2 .taken in
+    c .unlike .ensures ∙ sym (two-differ (s .args .t1) _ l (omega arith))
 
-add-unlike-rest : tie.Need-add-unlike-rest Inv-loop μ-loop
-add-unlike-rest c = search needs
+names-unlike-requires : tie.Need-names-unlike-requires
+names-unlike-requires c κs = search needs
 
-unlike-rest-requires : tie.Need-unlike-rest-requires Inv-loop μ-loop
-unlike-rest-requires c κs = search needs
-
-returns : tie.Need-returns Inv-loop μ-loop
-returns c = let p = c .before .before .before .before .before .before .args .t1 in let k = c .before .before .before .before .loop in
-    sym (k .inv .1 .1 ∙ used-rest-stop p (k .i) _ (omega arith) (λ a r. every (unlike a) r) (sym (c .before .unlike-rest .ensures) ∙ not-true _ (c .if1 .taken)))
-
-add-i : tie.Need-add-i Inv-loop μ-loop
-add-i c = search needs
-
-loop-less : tie.Need-loop-less Inv-loop μ-loop
-loop-less c = search needs
-
-loop-again : tie.Need-loop-again Inv-loop μ-loop
-loop-again c = let p = c .before .before .before .before .before .before .args .t1 in let k = c .before .before .before .before .loop in
-    (k .inv .0, (k .inv .1 .0, k .inv .1 .1 ∙ used-rest-on p (k .i) _ (omega arith) (λ a r. every (unlike a) r) (sym (c .before .unlike-rest .ensures) ∙ not-false _ (c .if1 .left))))
-
-returns-2 : tie.Need-returns-2 Inv-loop μ-loop
-returns-2 c = let p = c .before .before .before .args .t1 in let k = c .before .loop in
-    sym (k .inv .1 .1 ∙ rest-end (used p) (k .i) (λ a r. every (unlike a) r) (omega arith))
+returns-3 : tie.Need-returns-3
+returns-3 c = search needs
 
 pub names-differ-spec : {M : Type 1} → statement M
 names-differ-spec =
     tie.close
     (tie.spec
-    Inv-loop
-    μ-loop
-    parties-requires
-    loop-holds
-    mul-p
-    element-copy-out-p
-    add-unlike-rest
-    unlike-rest-requires
+    sizes-differ-requires
     returns
-    add-i
-    loop-less
-    loop-again
-    returns-2)
+    element-copy-out-a
+    element-copy-out-b
+    unlike-requires
+    returns-2
+    names-unlike-requires
+    returns-3)

@@ -1,7 +1,7 @@
-use mathlib.Core.Path.{_≡_, refl, sym, _∙_}
+use mathlib.Core.Path.{_≡_, sym, _∙_}
 use native.Mathlib.Omega.{arith}
 use lib.ListN.{length, length-map}
-use Rattle.table.specs.Find.{heldIn, held-out, held-yes, held-no}
+use Rattle.table.specs.Find.{heldIn, held-out, held-in}
 use borrow.Author.Needs.{needs}
 use Rattle.table.proofs.Table.held_by.Statement.{statement}
 use Rattle.table.proofs.Table.held_by.Tie as tie
@@ -27,18 +27,14 @@ mul-s c = search needs
 element-copy-out-s : tie.Need-element-copy-out-s
 element-copy-out-s c = search needs
 
-is-free-requires : tie.Need-is-free-requires
-is-free-requires c κs = search needs
+used-by-requires : tie.Need-used-by-requires
+used-by-requires c κs = search needs
 
 returns-3 : tie.Need-returns-3
-returns-3 c = let t = c .before .before .before .before .before .before .before .before .args .t1 in
-    let l : length (t .recs) ≡ 64 = simp length-map at (c .before .before .before .before .before .before .before .before .good .0 .1 .1 .0 .1 .0 .1) in
-    rw (c .before .before .before .before .before .before .h .given .1) (sym (held-yes _ _ (t .recs) _ (omega arith) (rw (c .before .before .is-free .ensures) at (c .if2 .taken))))
-
-returns-4 : tie.Need-returns-4
-returns-4 c = let t = c .before .before .before .before .before .before .before .before .args .t1 in
-    let l : length (t .recs) ≡ 64 = simp length-map at (c .before .before .before .before .before .before .before .before .good .0 .1 .1 .0 .1 .0 .1) in
-    rw (c .before .before .before .before .before .before .h .given .1) (sym (held-no _ _ (t .recs) _ (omega arith) (rw (c .before .before .is-free .ensures) at (c .if2 .left))))
+returns-3 c = let t = c .before .before .before .before .before .before .args .t1 in
+    let l : length (t .recs) ≡ 64 = simp length-map at (c .before .before .before .before .before .before .good .0 .1 .1 .0 .1 .0 .1) in
+    let e = c .before .before .before .before .h .given .1 in
+    c .used-by .ensures ∙ rw e (sym (held-in _ _ (t .recs) _ (omega arith)))
 
 pub held-by-spec : {M : Type 1} → statement M
 held-by-spec =
@@ -50,6 +46,5 @@ held-by-spec =
     returns-2
     mul-s
     element-copy-out-s
-    is-free-requires
-    returns-3
-    returns-4)
+    used-by-requires
+    returns-3)

@@ -1,0 +1,197 @@
+-- The glance over the digests of a table, and the whole check from it: it is what the rules say.
+-- Assumes nothing.
+use Prim.Native.Nat.{ℕ, zero, suc, _+_, _-_, _*_, _/_, _%_, _<_, _≤_}
+use mathlib.Core.Bool.{Bool, true, false, not, _&&_}
+use mathlib.Core.List.{List, [], _∷_, map}
+use mathlib.Core.Path.{_≡_, refl, sym, _∙_, ap}
+use native.Mathlib.Omega.{arith}
+use lib.ListN.{length, getD}
+use lib.Dec.{eqb, leb}
+use lib.Bits.{bitOr, or-mod, or-shr}
+use borrow.Author.Tests.{eqb-true, eq-eqb}
+use Rattle.octets.specs.Choice.{pick, split, impossible, and-left, and-right, and-no}
+use Rattle.octets.specs.Every.{every}
+use Rattle.octets.specs.Sums.{sumOf, sum-of-map, sum-agree}
+use Rattle.tunnel.specs.Numbering.{places}
+use Rattle.plan.specs.Plan.{accepted}
+use Rattle.sharing.specs.Sharing.{withinOk}
+use Rattle.distinct.specs.Apart.{noneClash, pairwise, sameKey}
+use Rattle.session.specs.declared.Session.{Session}
+use Rattle.session.specs.declared.Bounds.{Bounds}
+use Rattle.session.specs.Request.{lastNumber, requestOk}
+use Rattle.session.specs.Session.{recordOk}
+use Rattle.session.specs.Wide.{or-none}
+use Rattle.table.specs.declared.Node.{Node}
+use Rattle.table.specs.Rules.{boundsOf, keepsRules, rules-of}
+use Rattle.rules.specs.declared.Survey.{Survey}
+use Rattle.rules.specs.Survey.{keyOf, waitOf, weightOf, silent, waitsOf, noSurvey, surveyOf}
+use Rattle.rules.specs.Check.{unpackedOf, parties-four, waits-keys, checked, checked-is, checked-bad, checked-quiet}
+use Rattle.glance.specs.declared.Glance.{Glance}
+use Rattle.glance.specs.Digest.{digestOf, keyIn, weightIn, quietIn, goodIn, key-in, quiet-in, weight-in, good-in}
+
+unfoldable pub noGlance : Glance
+noGlance = record { good = false; quiet = false; counts = 0 }
+
+unfoldable pub glanceOf : List ℕ → Glance
+glanceOf ds =
+    pick (pairwise sameKey (map keyIn ds))
+    (record { good = every goodIn ds; quiet = every quietIn ds; counts = sumOf weightIn ds })
+    noGlance
+
+unfoldable pub waitingOf : Glance → Bool
+waitingOf g = g .good && not (g .quiet)
+
+-- the check from the packed counts on, but for the awaited numbers
+unfoldable pub fromCounts : Node → ℕ → Bool
+fromCounts node counts =
+    withinOk (node .plan) (λ a. getD (unpackedOf counts) a 0)
+    && requestOk (node .plan .interval) (node .plan .resend) (node .plan .sends) (node .echo)
+    && leb (node .next) lastNumber
+
+unfoldable pub keptOf : ℕ → Node → Glance → List ℕ → Bool
+keptOf count node g waits =
+    pick (accepted (node .plan) && eqb count places && g .good)
+    (pick (g .quiet) (fromCounts node (g .counts)) (fromCounts node (g .counts) && (noneClash sameKey (waitOf (node .echo)) waits && pairwise sameKey waits)))
+    false
+
+-- 0: a rule is broken; 1: all are kept, and no place awaits a number; 2: all are kept
+unfoldable pub standingOf : ℕ → Node → Glance → List ℕ → ℕ
+standingOf count node g waits = pick {A = ℕ} (keptOf count node g waits) (pick {A = ℕ} (g .quiet) 1 2) 0
+
+-- the same of a list of records
+unfoldable pub standsOf : Node → List Session → ℕ
+standsOf node l = pick {A = ℕ} (keepsRules node l) (pick {A = ℕ} (every silent l) 1 2) 0
+
+unfoldable pub standsBy : ℕ → Bool
+standsBy how = not (eqb how 0)
+
+pub stands-kept : (node : Node) (l : List Session) → standsBy (standsOf node l) ≡ keepsRules node l
+unfolding standsBy standsOf
+stands-kept node l = split (keepsRules node l) (λ k. split (every silent l) (λ q. rw (k, q)) (λ q. rw (k, q))) (λ k. rw k)
+
+-- ---- bits of all digests together
+pub quiet-both : (d f : ℕ) → quietIn (bitOr d f) ≡ (quietIn d && quietIn f)
+quiet-both d f = rw (or-mod d f 1) (or-none (d % 2) (f % 2))
+
+pub good-both : (d f : ℕ) → goodIn (bitOr d f) ≡ (goodIn d && goodIn f)
+good-both d f = rw (or-shr d f 1, or-mod (d / 2) (f / 2) 1) (or-none (d / 2 % 2) (f / 2 % 2))
+
+-- ---- the digests of a list of records
+module _ (b : Bounds) where
+  goods : (l : List Session) → every goodIn (map (digestOf b) l) ≡ every (recordOk b) l
+  unfolding every
+  goods [] = refl
+  goods (s ∷ l) = rw (good-in b s, goods l)
+
+  quiets : (l : List Session) → every (recordOk b) l ≡ true → every quietIn (map (digestOf b) l) ≡ every silent l
+  unfolding every
+  quiets [] e = refl
+  quiets (s ∷ l) e = rw (quiet-in b s (and-left (recordOk b s) (every (recordOk b) l) e), quiets l (and-right (recordOk b s) (every (recordOk b) l) e))
+
+  keys : (l : List Session) → every (recordOk b) l ≡ true → map keyIn (map (digestOf b) l) ≡ map keyOf l
+  unfolding every
+  keys [] e = refl
+  keys (s ∷ l) e = rw (key-in b s (and-left (recordOk b s) (every (recordOk b) l) e), keys l (and-right (recordOk b s) (every (recordOk b) l) e))
+
+  weights : b .parties ≤ 4 → (l : List Session) → every (recordOk b) l ≡ true → sumOf weightIn (map (digestOf b) l) ≡ sumOf weightOf l
+  weights four l e = sum-of-map weightIn (digestOf b) l ∙ sum-agree (recordOk b) (λ s. weightIn (digestOf b s)) weightOf l e (λ s ok. weight-in b s ok four)
+
+-- ---- what a glance over the digests comes to, the plan accepted and the places there
+module _ (node : Node) (l : List Session) (waits : List ℕ) (planned : accepted (node .plan) ≡ true) (size : length l ≡ places) where
+  abbrev b : Bounds
+  b = boundsOf (node .plan)
+
+  abbrev seen : Glance
+  seen = glanceOf (map (digestOf b) l)
+
+  few : b .parties ≤ 4
+  unfolding boundsOf
+  few = parties-four (node .plan) planned
+
+  -- a record that breaks the rules
+  bad-seen : every (recordOk b) l ≡ false → seen .good ≡ false
+  unfolding glanceOf noGlance
+  bad-seen e = split (pairwise sameKey (map keyIn (map (digestOf b) l))) (λ p. rw (p, goods b l, e)) (λ p. rw p)
+
+  bad-rules : every (recordOk b) l ≡ false → keepsRules node l ≡ false
+  unfolding surveyOf noSurvey
+  bad-rules e = checked-bad node l planned size (rw e)
+
+  module _ (each : every (recordOk b) l ≡ true) where
+    good-seen : seen ≡ pick (pairwise sameKey (map keyOf l)) (record { good = true; quiet = every silent l; counts = sumOf weightOf l }) noGlance
+    unfolding glanceOf
+    good-seen = rw (keys b l each, goods b l, quiets b l each, weights b few l each, each)
+
+    -- a key twice
+    twice-seen : pairwise sameKey (map keyOf l) ≡ false → seen .good ≡ false
+    unfolding noGlance
+    twice-seen p = rw (good-seen, p)
+
+    twice-rules : pairwise sameKey (map keyOf l) ≡ false → keepsRules node l ≡ false
+    unfolding surveyOf checked
+    twice-rules p = sym (checked-is node l planned size) ∙ rw (each, p)
+
+    module _ (apart : pairwise sameKey (map keyOf l) ≡ true) where
+      apart-seen : seen ≡ record { good = true; quiet = every silent l; counts = sumOf weightOf l }
+      apart-seen = good-seen ∙ rw apart
+
+      same-check : fromCounts node (seen .counts) ≡ checked node (surveyOf b l)
+      unfolding fromCounts checked surveyOf
+      same-check = rw (apart-seen, each, apart)
+
+      quiet-rules : every silent l ≡ true → fromCounts node (seen .counts) ≡ keepsRules node l
+      unfolding surveyOf
+      quiet-rules q = same-check ∙ checked-quiet node l planned size (rw (each, q))
+
+      loud-rules : waits ≡ waitsOf l → (fromCounts node (seen .counts) && (noneClash sameKey (waitOf (node .echo)) waits && pairwise sameKey waits)) ≡ keepsRules node l
+      loud-rules w = rw (same-check, w, waits-keys (node .echo) l) (checked-is node l planned size)
+
+      kept-apart : (waitingOf seen ≡ true → waits ≡ waitsOf l) → keptOf (length l) node seen waits ≡ keepsRules node l
+      unfolding keptOf waitingOf
+      kept-apart f =
+          let g : seen .good ≡ true = rw apart-seen in
+          let q : seen .quiet ≡ every silent l = rw apart-seen in
+          rw (planned, eq-eqb (length l) places size, g, q)
+          (split (every silent l) (λ e. rw e (quiet-rules e)) (λ e. rw e (loud-rules (f (rw (g, q, e))))))
+
+  -- where the rules are kept, quiet is said of every record
+  quiet-seen : keepsRules node l ≡ true → seen .quiet ≡ every silent l
+  quiet-seen k = split (every (recordOk b) l)
+      (λ e. split (pairwise sameKey (map keyOf l)) (λ p. rw (apart-seen e p)) (λ p. impossible (sym (twice-rules e p) ∙ k)))
+      (λ e. impossible (sym (bad-rules e) ∙ k))
+
+  kept-none : seen .good ≡ false → keepsRules node l ≡ false → keptOf (length l) node seen waits ≡ keepsRules node l
+  unfolding keptOf
+  kept-none g r = rw (g, r, and-no (accepted (node .plan) && eqb (length l) places))
+
+  kept-sized : (waitingOf seen ≡ true → waits ≡ waitsOf l) → keptOf (length l) node seen waits ≡ keepsRules node l
+  kept-sized f = split (every (recordOk b) l)
+      (λ e. split (pairwise sameKey (map keyOf l)) (λ p. kept-apart e p f) (λ p. kept-none (twice-seen e p) (twice-rules e p)))
+      (λ e. kept-none (bad-seen e) (bad-rules e))
+
+-- the check from the digests of the records, and from the awaited numbers where one is awaited, is what the rules say
+pub kept-is : (node : Node) (l : List Session) (ds waits : List ℕ)
+    → (length l ≡ places → ds ≡ map (digestOf (boundsOf (node .plan))) l)
+    → (length l ≡ places → waitingOf (glanceOf ds) ≡ true → waits ≡ waitsOf l)
+    → keptOf (length l) node (glanceOf ds) waits ≡ keepsRules node l
+unfolding keptOf keepsRules
+kept-is node l ds waits d w = split (accepted (node .plan))
+    (λ a. split (eqb (length l) places)
+    (λ e. let n = eqb-true (length l) places e in let q = d n in rw q (kept-sized node l waits a n (rw q at (w n))))
+    (λ e. kept-other e))
+    (λ a. kept-refused a)
+  where
+    kept-other : eqb (length l) places ≡ false → keptOf (length l) node (glanceOf ds) waits ≡ keepsRules node l
+    kept-other e = rw (e, and-no (accepted (node .plan)))
+
+    kept-refused : accepted (node .plan) ≡ false → keptOf (length l) node (glanceOf ds) waits ≡ keepsRules node l
+    kept-refused a = rw a
+
+pub standing-is : (node : Node) (l : List Session) (ds waits : List ℕ)
+    → (length l ≡ places → ds ≡ map (digestOf (boundsOf (node .plan))) l)
+    → (length l ≡ places → waitingOf (glanceOf ds) ≡ true → waits ≡ waitsOf l)
+    → standingOf (length l) node (glanceOf ds) waits ≡ standsOf node l
+unfolding standingOf standsOf
+standing-is node l ds waits d w = rw (kept-is node l ds waits d w) (split (keepsRules node l)
+    (λ k. let r = rules-of node l k in rw (k, d (r .size), quiet-seen node l waits (r .planned) (r .size) k))
+    (λ k. rw k))

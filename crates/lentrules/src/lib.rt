@@ -1,0 +1,87 @@
+// Whether the caller's lent records keep the table rules: they are read where they lie, one number of each, and nothing is copied but
+// these. The walks over the lent slice are proved by hand; all else is covered.
+use session::Bounds;
+use session::Session;
+use table::Node;
+ghost use mathlib.Core.Bool.{true};
+ghost use mathlib.Core.Path.{_≡_};
+ghost use lib.ListN.{replicate};
+ghost use Rattle.table.specs.Rules.{keepsRules};
+ghost use Rattle.rules.specs.Survey.{waitOf};
+ghost use Rattle.glance.specs.Digest.{digestOf};
+ghost use Rattle.glance.specs.Glance.{standsOf};
+ghost use Rattle.lentrules.specs.Read.{boundOf, readOf};
+
+// How many of a count of lent records are read: all where there are as many as places and they are wanted, else none.
+pub fn bound(wanted: bool, count: usize) -> usize
+    ensures { λ r. ⌜ r ≡ boundOf wanted count ⌝ }
+{
+    if wanted & (count == 64) {
+        return 64;
+    }
+    0
+}
+
+// The same where they are wanted.
+pub fn whole(count: usize) -> usize
+    ensures { λ r. ⌜ r ≡ boundOf true count ⌝ }
+{
+    bound(true, count)
+}
+
+pub fn zeros() -> [u64; 64]
+    ensures { λ r. ⌜ r ≡ replicate 64 0 ⌝ }
+{
+    [0; 64]
+}
+
+// The digests of the records, zeros where there are not 64.
+pub fn digests(recs: &[Session], b: Bounds) -> [u64; 64]
+    ensures { λ r. ⌜ r ≡ readOf (digestOf b) true (now (recs .entry)) ⌝ }
+{
+    let n = whole(recs.len());
+    let mut t = zeros();
+    let mut i = 0;
+    while i < n {
+        let d = glance::digest(b, recs[i]);
+        t[i] = d;
+        i += 1;
+    }
+    t
+}
+
+// What the records await, as keys; zeros where it is not wanted, or where there are not 64.
+pub fn awaited(recs: &[Session], wanted: bool) -> [u64; 64]
+    ensures { λ r. ⌜ r ≡ readOf (λ s. waitOf (s .own)) wanted (now (recs .entry)) ⌝ }
+{
+    let n = bound(wanted, recs.len());
+    let mut t = zeros();
+    let mut i = 0;
+    while i < n {
+        let d = glance::wait_of(recs[i]);
+        t[i] = d;
+        i += 1;
+    }
+    t
+}
+
+// How the records stand: 0 where a rule is broken, 1 where all are kept and no place awaits one, else 2.
+pub fn standing(node: Node, recs: &[Session]) -> u8
+    ensures { λ r. ⌜ r ≡ standsOf node (now (recs .entry)) ⌝ }
+{
+    let count = recs.len();
+    let b = glance::bounds_of(node);
+    let ds = digests(recs, b);
+    let g = glance::glance_of(ds);
+    let wanted = glance::waiting(g);
+    let waits = awaited(recs, wanted);
+    glance::standing(count, node, g, waits)
+}
+
+// Whether the records keep every rule.
+pub fn kept(node: Node, recs: &[Session]) -> bool
+    ensures { λ r. ⌜ r ≡ keepsRules node (now (recs .entry)) ⌝ }
+{
+    let how = standing(node, recs);
+    glance::stands(how)
+}

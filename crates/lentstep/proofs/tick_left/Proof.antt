@@ -1,0 +1,36 @@
+use borrow.Author.Tests.{eq-eqb, ne-eqb}
+use Rattle.timing.specs.Timing.{timed}
+use Rattle.lentstep.specs.Step.{tickLeft}
+use borrow.Author.Needs.{needs}
+use Rattle.lentstep.proofs.tick_left.Statement.{statement}
+use Rattle.lentstep.proofs.tick_left.Tie as tie
+use Rattle.lentstep.proofs.tick_left.Reads as reads
+use Rattle.lentstep.proofs.tick_left.Lts as lts
+use Rattle.lentstep.proofs.refusal.Reads as refusal-reads
+use Rattle.table.proofs.Node.echo_ticked.Reads as echo-ticked-reads
+
+-- src/lib.rt:66:9
+refusal-requires : tie.Need-refusal-requires
+refusal-requires c κs = search needs
+
+-- src/lib.rt:66:9
+returns : tie.Need-returns
+unfolding tickLeft
+returns c = rw (eq-eqb _ _ (c .before .if1 .taken), c .refusal .ensures)
+
+-- src/lib.rt:68:9
+echo-ticked-requires : tie.Need-echo-ticked-requires
+echo-ticked-requires c κs = search needs
+
+-- src/lib.rt:70:5
+refusal-requires-2 : tie.Need-refusal-requires-2
+refusal-requires-2 c κs = search needs
+
+-- src/lib.rt:62:1
+returns-2 : tie.Need-returns-2
+unfolding tickLeft timed
+returns-2 c = rw (ne-eqb _ _ (c .before .before .if1 .left), c .refusal2 .ensures, c .before .echo-ticked .ensures)
+
+pub tick-left-spec : {M : Type 1} → statement M
+tick-left-spec =
+    tie.close (tie.spec refusal-requires returns echo-ticked-requires refusal-requires-2 returns-2)

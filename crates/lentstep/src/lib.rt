@@ -1,0 +1,244 @@
+// What tick, close and send do beside reading and changing the lent records where they lie, on values: which change is made of how many
+// records or of which one, what becomes of it, and what goes back by value.
+use lentcore::Left;
+use session::Session;
+use table::Change;
+use table::Node;
+use table::Table;
+use timing::Answer;
+ghost use mathlib.Core.Path.{_≡_};
+ghost use mathlib.Core.List.{map};
+ghost use mir.Val.{boolByte};
+ghost use Rattle.octets.specs.Search.{firstOf};
+ghost use Rattle.lentstep.specs.Send.{sendingOf, half, odd, takenAmong, nextDue, placeOf, sentBy, posted, echoLeft, placeLeft, sendLeft};
+ghost use Rattle.lentstep.specs.Step.{refusal, tickChange, tickCount, tickLeft, closedBy, closeLeft};
+
+// What is sent next: nothing, with the number that says why; or the echo; or the request of a place. The number is that of a first send.
+pub enum Sending {
+    Nothing(u8),
+    Echo(u32),
+    At { place: usize, number: u32 },
+}
+
+// A number alone, with the node as it was.
+fn refusal(number: u8, node: Node) -> Left
+    ensures { λ r. ⌜ r ≡ refusal number node ⌝ }
+{
+    Left {
+        number,
+        size: 0,
+        node,
+    }
+}
+
+// What a tick makes of a record: an echo that is given up frees all.
+pub fn tick_change(node: Node) -> Change
+    ensures { λ r. ⌜ r ≡ tickChange node ⌝ }
+{
+    let plan = node.plan;
+    let echo = node.echo;
+    let over = echo.spent(plan.sends);
+    if over {
+        return Change::Free;
+    }
+    Change::Tick(plan.sends)
+}
+
+// How many records a tick changes, by how they stand: none where a rule is broken, and none where no place awaits a number, since then no
+// timer runs; unless the echo is given up, which frees all.
+pub fn tick_count(how: u8, node: Node) -> usize
+    ensures { λ r. ⌜ r ≡ tickCount how node ⌝ }
+{
+    let plan = node.plan;
+    let echo = node.echo;
+    let over = echo.spent(plan.sends);
+    if (how == 0) | (how == 1) & !over {
+        return 0;
+    }
+    Table::PLACES
+}
+
+// What goes back of a tick by value.
+pub fn tick_left(how: u8, mut node: Node) -> Left
+    ensures { λ r. ⌜ r ≡ tickLeft how node ⌝ }
+{
+    if how == 0 {
+        return refusal(2, node);
+    }
+    let next = node.echo_ticked();
+    node.echo = next;
+    refusal(0, node)
+}
+
+// The record of a place to close: a free one stays as it is, and so does every one where the rules fail.
+pub fn closed_by(kept: bool, s: Session) -> Session
+    ensures { λ r. ⌜ r ≡ closedBy kept s ⌝ }
+{
+    let free = s.is_free();
+    if kept & !free {
+        return s.closed();
+    }
+    s
+}
+
+pub fn close_left(kept: bool, node: Node, s: Session) -> Left
+    ensures { λ r. ⌜ r ≡ closeLeft kept node s ⌝ }
+{
+    if !kept {
+        return refusal(2, node);
+    }
+    let free = s.is_free();
+    if free {
+        return refusal(10, node);
+    }
+    refusal(0, node)
+}
+
+fn bit(b: bool) -> u64
+    ensures { λ r. ⌜ r ≡ boolByte b ⌝ }
+{
+    if b {
+        return 1;
+    }
+    0
+}
+
+// What a send needs of a record: what it awaits, as a key, and whether it is due.
+pub fn sending_of(s: Session) -> u64
+    ensures { λ r. ⌜ r ≡ sendingOf s ⌝ }
+{
+    let own = s.own;
+    let due = s.is_due();
+    let last = bit(due);
+    if own.sends == 0 {
+        return last;
+    }
+    (own.number as u64 + 1) * 2 + last
+}
+
+// The keys alone.
+fn keys_of(xs: [u64; 64]) -> [u64; 64]
+    ensures { λ r. ⌜ r ≡ map half xs ⌝ }
+{
+    let mut t: [u64; 64] = [0; 64];
+    let mut i: usize = 0;
+    while i < 64 {
+        t[i] = xs[i] / 2;
+        i += 1;
+    }
+    t
+}
+
+// The lowest place that is due, or the number of places.
+fn due_among(xs: [u64; 64]) -> usize
+    ensures { λ r. ⌜ r ≡ firstOf odd xs ⌝ }
+{
+    let mut i: usize = 0;
+    while i < 64 {
+        if xs[i] % 2 == 1 {
+            return i;
+        }
+        i += 1;
+    }
+    i
+}
+
+// The number that a first send takes.
+fn taken(node: Node, xs: [u64; 64]) -> u32
+    ensures { λ r. ⌜ r ≡ takenAmong node xs ⌝ }
+{
+    let keys = keys_of(xs);
+    let echo = rules::wait(node.echo);
+    tally::free_among(node.next, echo, &keys)
+}
+
+// Who is sent next: the echo first, then places upward.
+pub fn next_due(kept: bool, room: usize, node: Node, xs: [u64; 64]) -> Sending
+    ensures { λ r. ⌜ r ≡ nextDue kept room node xs ⌝ }
+{
+    if room < Answer::LEAST_REPLY {
+        return Sending::Nothing(1);
+    }
+    if !kept {
+        return Sending::Nothing(2);
+    }
+    let place = due_among(xs);
+    let echo = node.echo;
+    let first = echo.timer == 0;
+    if !first & (Table::PLACES <= place) {
+        return Sending::Nothing(17);
+    }
+    let number = taken(node, xs);
+    if first {
+        return Sending::Echo(number);
+    }
+    Sending::At { place, number }
+}
+
+// The place whose record changes, or the number of places.
+pub fn place_of(p: Sending) -> usize
+    ensures { λ r. ⌜ r ≡ placeOf p ⌝ }
+{
+    match p {
+        Sending::Nothing(_) => Table::PLACES,
+        Sending::Echo(_) => Table::PLACES,
+        Sending::At { place, number: _ } => place,
+    }
+}
+
+// What becomes of the record there.
+pub fn sent_by(p: Sending, node: Node, s: Session) -> Session
+    ensures { λ r. ⌜ r ≡ sentBy p node s ⌝ }
+{
+    let plan = node.plan;
+    match p {
+        Sending::Nothing(_) => s,
+        Sending::Echo(_) => s,
+        Sending::At { place: _, number } => s.sent(plan.resend, number),
+    }
+}
+
+// The echo sent.
+fn echo_left(mut node: Node, k: u32, reply: &mut [u8]) -> Left
+    ensures { λ r. ⌜ posted r (now (reply .exit)) ≡ echoLeft node k (now (reply .entry)) ⌝ }
+{
+    let plan = node.plan;
+    let echo = node.echo;
+    let sent = echo.sent_once(plan.resend, k);
+    let next = timing::stepped(echo.sends, k, node.next);
+    node.echo = sent;
+    node.next = next;
+    messages::echo_of(reply, 1, sent.number, plan.recovery);
+    Left {
+        number: 0,
+        size: 13,
+        node,
+    }
+}
+
+// The Delete Bearer of a place sent.
+fn place_left(mut node: Node, k: u32, s: Session, reply: &mut [u8]) -> Left
+    ensures { λ r. ⌜ posted r (now (reply .exit)) ≡ placeLeft node k s (now (reply .entry)) ⌝ }
+{
+    let plan = node.plan;
+    let own = s.own;
+    let sent = own.sent_once(plan.resend, k);
+    let next = timing::stepped(own.sends, k, node.next);
+    node.next = next;
+    messages::delete_bearer(reply, s.control, sent.number, s.ebi);
+    Left {
+        number: 0,
+        size: 17,
+        node,
+    }
+}
+
+pub fn send_left(p: Sending, node: Node, s: Session, reply: &mut [u8]) -> Left
+    ensures { λ r. ⌜ posted r (now (reply .exit)) ≡ sendLeft p node s (now (reply .entry)) ⌝ }
+{
+    match p {
+        Sending::Nothing(number) => refusal(number, node),
+        Sending::Echo(k) => echo_left(node, k, reply),
+        Sending::At { place: _, number } => place_left(node, number, s, reply),
+    }
+}

@@ -1,0 +1,53 @@
+use mathlib.Core.Path.{sym, _∙_}
+use borrow.Author.Tests.{not-true, not-false}
+use Rattle.single.specs.Single.{modifyOn}
+use borrow.Author.Needs.{needs}
+use Rattle.single.proofs.modify_on.Statement.{statement}
+use Rattle.single.proofs.modify_on.Tie as tie
+
+holder-requires : tie.Need-holder-requires
+holder-requires c κs = search needs
+
+owned-by-requires : tie.Need-owned-by-requires
+owned-by-requires c κs = search needs
+
+not-live-requires : tie.Need-not-live-requires
+not-live-requires c κs = search needs
+
+cause-on-requires : tie.Need-cause-on-requires
+cause-on-requires c κs = search needs
+
+same-length : tie.Need-same-length
+same-length c = search needs
+
+returns : tie.Need-returns
+unfolding modifyOn
+returns c = rw (← c .before .before .before .before .before .before .before .holder .ensures, sym (c .before .before .before .before .before .before .owned-by .ensures) ∙ not-true _ (c .before .before .before .before .before .if1 .taken), ← c .before .before .before .before .not-live .ensures) (c .before .before .cause-on .ensures)
+
+read-modify-requires : tie.Need-read-modify-requires
+read-modify-requires c κs = search needs
+
+modify-read-requires : tie.Need-modify-read-requires
+modify-read-requires c κs = search needs
+
+same-length-2 : tie.Need-same-length-2
+same-length-2 c = search needs
+
+returns-2 : tie.Need-returns-2
+unfolding modifyOn
+returns-2 c = rw (← c .before .before .before .before .before .before .before .holder .ensures, sym (c .before .before .before .before .before .before .owned-by .ensures) ∙ not-false _ (c .before .before .before .before .before .if1 .left), ← c .before .before .before .before .read-modify .ensures) (c .before .before .modify-read .ensures)
+
+pub modify-on-spec : {M : Type 1} → statement M
+modify-on-spec =
+    tie.close
+    (tie.spec
+    holder-requires
+    owned-by-requires
+    not-live-requires
+    cause-on-requires
+    same-length
+    returns
+    read-modify-requires
+    modify-read-requires
+    same-length-2
+    returns-2)
