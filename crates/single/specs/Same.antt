@@ -21,7 +21,7 @@ use Rattle.table.specs.declared.Found.{Found}
 use Rattle.table.specs.declared.Found.the-variants as F
 use Rattle.table.specs.Rules.{keepsRules, rules-of}
 use Rattle.table.specs.Change.{nobody, changedAt}
-use Rattle.table.specs.Find.{ownerOf, heldIn, owner-is}
+use Rattle.table.specs.Find.{ownerOf, heldIn, namedPlace, owner-is}
 use Rattle.table.specs.Own.{hearing}
 use Rattle.header.specs.declared.HeaderCursor.{HeaderCursor}
 use Rattle.header.specs.Header.{headerOf}
@@ -41,7 +41,7 @@ use Rattle.echoes.specs.Echoes.{restartsBy, heardNode, echoTaken, heard-same}
 use Rattle.amends.specs.Amends.{causeTaken, notLive, modifyDone, modifyBy, modifyFor, modifyTaken, deleteDone, deleteBy, deleteFor, deleteTaken}
 use Rattle.control.specs.Control.{kindTaken, gateTaken, controlTaken}
 use Rattle.single.specs.declared.Single.{Single}
-use Rattle.single.specs.Single.{placeBy, placeIn, quickKind, quickOf, Singled, singled, answered, nodeAfter, silent, causeOn, echoOn, ownedBy, movedOn, modifyRead, modifyOn, freedOn, deleteRead, deleteOn, kindOn, gateOn, singleOf}
+use Rattle.single.specs.Single.{placeIn, quickKind, quickOf, Singled, singled, answered, nodeAfter, silent, causeOn, echoOn, ownedBy, movedOn, modifyRead, modifyOn, freedOn, deleteRead, deleteOn, kindOn, gateOn, singleOf}
 
 -- the answer with the node, and with the record put back in its place
 unfoldable pub placed : Node → ℕ → List Session → Singled → Outcome
@@ -97,11 +97,11 @@ module _ (l : List Session) (i : ℕ) (node : Node) (reply : List ℕ) where
 -- who owns a number, from the record of its place
 owner-one : (teid : ℕ) (l : List Session) → length l ≡ places
     → ownerOf controlOffset teid l
-    ≡ pick (ownedBy (holderOf controlOffset teid) (getD l (placeBy (holderOf controlOffset teid)) nobody)) (F.At (placeBy (holderOf controlOffset teid))) F.Nothing
-unfolding placeBy ownedBy heldIn
+    ≡ pick (ownedBy (holderOf controlOffset teid) (getD l (namedPlace (holderOf controlOffset teid)) nobody)) (F.At (namedPlace (holderOf controlOffset teid))) F.Nothing
+unfolding namedPlace ownedBy heldIn
 owner-one teid l n = owner-is controlOffset teid l control-fits (omega arith) ∙ look (holderOf controlOffset teid) refl
   where
-    look : (h : Holder) → holderOf controlOffset teid ≡ h → heldIn h l ≡ pick (ownedBy h (getD l (placeBy h) nobody)) (F.At (placeBy h)) F.Nothing
+    look : (h : Holder) → holderOf controlOffset teid ≡ h → heldIn h l ≡ pick (ownedBy h (getD l (namedPlace h) nobody)) (F.At (namedPlace h)) F.Nothing
     look H.Nobody e = refl
     look (H.At place usage) e =
         let h : place < length l = rw n (holder-held controlOffset teid place usage e .place-in) in
@@ -109,7 +109,7 @@ owner-one teid l n = owner-is controlOffset teid l control-fits (omega arith) �
 
 module _ (node : Node) (l : List Session) (reply : List ℕ) (n : length l ≡ places) (teid seq : ℕ) (rest : List ℕ) where
   abbrev place : ℕ
-  place = placeBy (holderOf controlOffset teid)
+  place = namedPlace (holderOf controlOffset teid)
 
   modify-same : modifyTaken node (held l) teid seq rest reply ≡ placed node place l (modifyOn node (getD l place nobody) teid seq rest reply)
   unfolding modifyTaken modifyFor modifyOn held
@@ -128,10 +128,10 @@ module _ (node : Node) (l : List Session) (reply : List ℕ) (n : length l ≡ p
 module _ (node : Node) (l : List Session) (reply : List ℕ) where
   kind-same : (h : HeaderCursor) (rest : List ℕ) → length l ≡ places → quickKind h rest node ≡ true
       → kindTaken h rest node (held l) reply
-      ≡ placed node (placeBy (holderOf controlOffset (h .teid))) l (kindOn h rest node (getD l (placeBy (holderOf controlOffset (h .teid))) nobody) reply)
+      ≡ placed node (namedPlace (holderOf controlOffset (h .teid))) l (kindOn h rest node (getD l (namedPlace (holderOf controlOffset (h .teid))) nobody) reply)
   unfolding quickKind kindTaken kindOn
   kind-same h rest n e =
-      let i = placeBy (holderOf controlOffset (h .teid)) in
+      let i = namedPlace (holderOf controlOffset (h .teid)) in
       split (eqb (h .kind) 1)
       (λ a. rw a (echo-same l i node reply (h .sequence) (carried.echoOf rest) (not-true (restartsBy (carried.echoOf rest) node) (rw a at e))))
       (λ a. split (eqb (h .kind) 2) (λ b. impossible (rw (a, b) at e))

@@ -8,7 +8,7 @@ use lib.ListN.{length, drop}
 use lib.Dec.{eqb, ltb}
 use Rattle.octets.specs.Choice.{pick}
 use Rattle.octets.specs.Overlay.{overlay}
-use Rattle.tunnel.specs.Numbering.{places, controlOffset}
+use Rattle.tunnel.specs.Numbering.{controlOffset}
 use Rattle.tunnel.specs.Tunnel.{holderOf}
 use Rattle.tunnel.specs.declared.Holder.{Holder}
 use Rattle.tunnel.specs.declared.Holder.the-variants as H
@@ -27,18 +27,15 @@ use Rattle.requests.specs.declared.Decoded.{Decoded}
 use Rattle.requests.specs.declared.Decoded.the-variants as D
 use Rattle.requests.specs.declared.Request.the-variants as Q
 use Rattle.changes.specs.Change.{modifyOf, deleteOf}
+use Rattle.table.specs.Find.{namedPlace}
 use Rattle.timing.specs.Timing.{leastReply}
 use Rattle.echoes.specs.Echoes.{restartsBy, heardNode}
 use Rattle.amends.specs.Amends.{causeSize, causeOctets, notLive, peersOf, modifySize, modifyOctets}
 use Rattle.single.specs.declared.Single.{Single}
 
 -- ---- the place that the header's number names, past the table where it names none
-unfoldable pub placeBy : Holder → ℕ
-placeBy (H.At place usage) = place
-placeBy H.Nobody = places
-
 unfoldable pub placeIn : List ℕ → ℕ
-placeIn d = placeBy (holderOf controlOffset (headerOf d .teid))
+placeIn d = namedPlace (holderOf controlOffset (headerOf d .teid))
 
 -- ---- which datagrams: all but a restart, what answers the unit's own requests (2, 100), and Create (32)
 unfoldable pub quickKind : HeaderCursor → List ℕ → Node → Bool

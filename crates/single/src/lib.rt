@@ -11,7 +11,7 @@ use timing::Answer;
 use tunnel::ControlTeid;
 use tunnel::Holder;
 ghost use mathlib.Core.Path.{_≡_};
-ghost use Rattle.single.specs.Single.{placeBy, placeIn, quickKind, quickOf, ownedBy, singled, silent, causeOn, echoOn, movedOn, modifyRead, modifyOn, freedOn, deleteRead, deleteOn, kindOn, gateOn, singleOf};
+ghost use Rattle.single.specs.Single.{placeIn, quickKind, quickOf, ownedBy, singled, silent, causeOn, echoOn, movedOn, modifyRead, modifyOn, freedOn, deleteRead, deleteOn, kindOn, gateOn, singleOf};
 
 // Document 01's number, the reply's length, the stored Recovery, which is all of the node that can change, and the session's record as
 // it is then.
@@ -23,16 +23,6 @@ pub struct Single {
     pub session: Session,
 }
 
-// The place that a holder is at; past the table where there is none.
-fn place_by(h: Holder) -> usize
-    ensures { λ r. ⌜ r ≡ placeBy h ⌝ }
-{
-    match h {
-        Holder::At { place, usage: _ } => place,
-        Holder::Nobody => Holder::PLACES,
-    }
-}
-
 // The place that a datagram's header names.
 pub fn place_of(d: &[u8]) -> usize
     ensures { λ r. ⌜ r ≡ placeIn (now (d .entry)) ⌝ }
@@ -40,7 +30,7 @@ pub fn place_of(d: &[u8]) -> usize
     let h = HeaderCursor::of(d);
     let teid = ControlTeid(h.teid);
     let holder = teid.holder();
-    place_by(holder)
+    table::named_place(holder)
 }
 
 fn quick_kind(h: HeaderCursor, rest: &[u8], node: Node) -> bool

@@ -9,12 +9,12 @@ of-requires c κs = search needs
 holder-requires : tie.Need-holder-requires
 holder-requires c κs = search needs
 
-place-by-requires : tie.Need-place-by-requires
-place-by-requires c κs = search needs
+named-place-requires : tie.Need-named-place-requires
+named-place-requires c κs = search needs
 
 returns : tie.Need-returns
 unfolding placeIn
-returns c = rw (c .place-by .ensures, c .before .holder .ensures, c .before .before .of .ensures)
+returns c = rw (c .named-place .ensures, c .before .holder .ensures, c .before .before .of .ensures)
 
 pub place-of-spec : {M : Type 1} → statement M
-place-of-spec = tie.close (tie.spec of-requires holder-requires place-by-requires returns)
+place-of-spec = tie.close (tie.spec of-requires holder-requires named-place-requires returns)
