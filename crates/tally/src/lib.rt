@@ -2,13 +2,12 @@
 // first send takes.
 use session::Request;
 use session::Session;
-use table::Node;
 use table::Table;
 ghost use Prim.Native.Nat.{_+_};
 ghost use mathlib.Core.Path.{_≡_};
 ghost use Rattle.tunnel.specs.Numbering.{places};
 ghost use Rattle.table.specs.Room.{sessions};
-ghost use Rattle.table.specs.Number.{after, takenNumber};
+ghost use Rattle.table.specs.Number.{after};
 ghost use Rattle.tally.specs.Tally.{oneOf, countsOf, unclaimed, freeAmong};
 
 // u of each access point, counted from the records.
@@ -79,13 +78,4 @@ pub fn free_among(next: u32, echo: u64, keys: &[u64]) -> u32
         tries -= 1;
     }
     k
-}
-
-// The number that a first send takes: the next one that nobody awaits.
-pub fn taken_number(node: Node, t: Table) -> u32
-    ensures { λ r. ⌜ r ≡ takenNumber (node .next) (node .echo) (t .recs) ⌝ }
-{
-    let keys = rules::waits(t);
-    let echo = rules::wait(node.echo);
-    free_among(node.next, echo, &keys)
 }

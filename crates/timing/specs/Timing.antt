@@ -1,33 +1,25 @@
 -- The calls that no datagram brings about: fresh, tick, close and send next due. Each is one definition that fixes number, reply
 -- length, reply buffer, records and what goes with them, for any table whatever; refusals stand in document 01's order.
 -- Assumes nothing.
-use Prim.Native.Nat.{ℕ, _+_, _<_, _≤_}
-use mathlib.Core.Bool.{Bool, true, false, not, _&&_, _||_}
-use mathlib.Core.List.{List, [], _∷_, map}
-use mathlib.Core.Path.{_≡_, refl, sym, _∙_}
-use native.Mathlib.Omega.{arith}
+use Prim.Native.Nat.{ℕ}
+use mathlib.Core.Bool.{Bool, not, _&&_}
+use mathlib.Core.List.{List}
+use mathlib.Core.Path.{_≡_}
 use lib.ListN.{length, getD, replicate}
-use lib.Dec.{eqb, ltb, leb}
-use borrow.Author.Tests.{lt-ltb, le-ltb, eq-eqb, ne-eqb}
-use Rattle.octets.specs.Choice.{pick, split}
-use Rattle.octets.specs.Places.{any-default}
+use lib.Dec.{eqb, ltb}
+use Rattle.octets.specs.Choice.{pick}
 use Rattle.octets.specs.Overlay.{overlay}
-use Rattle.tunnel.specs.Numbering.{places}
 use Rattle.plan.specs.declared.Plan.{Plan}
 use Rattle.plan.specs.Limits.{noPlan}
 use Rattle.plan.specs.Plan.{accepted}
 use Rattle.session.specs.declared.Request.{Request}
 use Rattle.session.specs.declared.Session.{Session}
 use Rattle.session.specs.Request.{sentOnce}
-use Rattle.session.specs.Session.{isFree, closed, sent, isDue}
+use Rattle.session.specs.Session.{isFree, closed, sent}
 use Rattle.table.specs.declared.Node.{Node}
 use Rattle.table.specs.declared.Table.{Table}
 use Rattle.table.specs.Rules.{keepsRules}
 use Rattle.table.specs.Change.{nobody, changedAt}
-use Rattle.octets.specs.Search.{firstOf}
-use Rattle.table.specs.declared.Found.{Found}
-use Rattle.table.specs.declared.Found.the-variants as F
-use Rattle.table.specs.Find.{foundIn, found-is}
 use Rattle.table.specs.Number.{after, takenNumber}
 use Rattle.table.specs.Own.{echoTicked, allTicked, duePlace, freshNode}
 use Rattle.messages.specs.Messages.{echoOf, deleteBearer}
@@ -78,20 +70,6 @@ closeOf node t i =
     (record { number = 0; size = 0; node = node; table = held (changedAt closed i (t .recs)) })
     (refused 10 node t))
     (refused 2 node t)
-
--- ---- laws in the words of the code
-module _ (i : ℕ) (l : List Session) where
-  pub closable-out : length l ≤ i → closable i l ≡ false
-  unfolding closable
-  closable-out h = rw (le-ltb i (length l) h)
-
-  pub closable-no : (d : Session) → i < length l → isFree (getD l i d) ≡ true → closable i l ≡ false
-  unfolding closable
-  closable-no d h e = rw (lt-ltb i (length l) h, any-default l i nobody d h, e)
-
-  pub closable-yes : (d : Session) → i < length l → isFree (getD l i d) ≡ false → closable i l ≡ true
-  unfolding closable
-  closable-yes d h e = rw (lt-ltb i (length l) h, any-default l i nobody d h, e)
 
 -- a table is its records
 pub held-is : (t : Table) (l : List Session) → t .recs ≡ l → t ≡ held l
@@ -145,25 +123,3 @@ sendOf node t reply =
     (pick (keepsRules node (t .recs))
     (dueSent node t (takenNumber (node .next) (node .echo) (t .recs)) reply)
     (outcome (refused 2 node t) reply))
-
--- ---- laws of the choice
-pub due-echo : (node : Node) (t : Table) (k : ℕ) (reply : List ℕ) → node .echo .timer ≡ 0 → dueSent node t k reply ≡ echoSent node t k reply
-unfolding dueSent
-due-echo node t k reply e = rw (eq-eqb (node .echo .timer) 0 e)
-
-module _ (node : Node) (t : Table) (k : ℕ) (reply : List ℕ) (busy : node .echo .timer ≡ 0 → ⊥) where
-  pub due-none : foundIn isDue (t .recs) ≡ F.Nothing → dueSent node t k reply ≡ outcome (refused 17 node t) reply
-  unfolding dueSent foundIn duePlace
-  due-none e =
-      rw (ne-eqb (node .echo .timer) 0 busy)
-      (split (ltb (firstOf isDue (t .recs)) (length (t .recs)))
-      (λ q. let f : F.At (firstOf isDue (t .recs)) ≡ F.Nothing = rw q at e in let z : _≡_ {A = ℕ} 0 1 = cc in absurd (omega arith))
-      (λ q. rw q))
-
-  pub due-place : (i : ℕ) (d : Session) → foundIn isDue (t .recs) ≡ F.At i → dueSent node t k reply ≡ placeSent node t k i (getD (t .recs) i d) reply
-  unfolding dueSent duePlace
-  due-place i d e =
-      let f = found-is isDue (t .recs) i e in
-      let h = f .0 in
-      let q : firstOf isDue (t .recs) ≡ i = sym (f .1 .0) in
-      rw (ne-eqb (node .echo .timer) 0 busy, q, lt-ltb i (length (t .recs)) h, any-default (t .recs) i nobody d h)
