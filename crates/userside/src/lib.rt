@@ -8,8 +8,7 @@ use table::Node;
 use table::Table;
 ghost use mathlib.Core.Path.{_≡_};
 ghost use Rattle.gpdu.specs.Part.{IsRest};
-ghost use Rattle.gpdu.specs.User.{userOf};
-ghost use Rattle.userside.specs.UserSide.{took, placeIn, packetTaken, recordTaken, checkedTaken, userTaken};
+ghost use Rattle.userside.specs.UserSide.{took, placeIn, packetTaken, recordTaken, checkedTaken};
 
 // A packet: its place where its number is live, else the Error Indication. The answer is where what is handed up begins.
 fn take_packet(
@@ -127,25 +126,4 @@ pub fn take_checked<'a>(
     let h = Header::of(d);
     start = take_header(node, s, h, start, end, reply, number, place, size);
     &d[start..]
-}
-
-// Take user datagram: the number, the place and the reply's length come back through the lent numbers, what is handed up as the part
-// of the datagram that it is.
-pub fn take_user<'a>(
-    node: Node,
-    table: Table,
-    d: &'a [u8],
-    reply: &mut [u8],
-    number: &mut u8,
-    place: &mut usize,
-    size: &mut usize,
-) -> &'a [u8]
-    ensures { λ r. ⌜ (took (now (number .exit)) (now (place .exit)) (now (size .exit)) (now (reply .exit)) (userTaken node (table .recs) (now (d .entry)) (now (reply .entry)) .start)
-        ≡ userTaken node (table .recs) (now (d .entry)) (now (reply .entry)))
-        × IsRest r (d .entry) (userTaken node (table .recs) (now (d .entry)) (now (reply .entry)) .start) ⌝ }
-{
-    let kept = rules::keeps_rules(node, table);
-    let at = place_of(d);
-    let s = table::record_at(table, at);
-    take_checked(kept, node, s, d, reply, number, place, size)
 }
