@@ -3,17 +3,14 @@
 -- fourth on.
 -- Assumes nothing.
 use Prim.Native.Nat.{ℕ, suc, _+_, _<_, _≤_, _^_}
-use mathlib.Core.Bool.{Bool, true, false}
-use mathlib.Core.List.{List, [], _∷_, _++_, append-assoc}
-use mathlib.Core.Path.{_≡_, refl, sym, _∙_}
+use mathlib.Core.List.{List, [], _∷_, _++_}
+use mathlib.Core.Path.{_≡_}
 use native.Mathlib.Omega.{arith}
 use lib.ListN.{length, getD, length-append}
-use lib.Dec.{eqb, ltb}
-use borrow.Author.Tests.{lt-ltb, le-ltb}
+use lib.Dec.{ltb}
 use Rattle.octets.specs.Choice.{pick, split}
 use Rattle.octets.specs.BigEndian.{octetsOf, length-octets}
 use Rattle.octets.specs.Overlay.{overlay}
-use Rattle.octets.specs.Places.{any-default}
 use Rattle.numerals.specs.Laid.{laid, written, laid-front}
 use Rattle.numerals.specs.Decimal.{decimal, decimal-size}
 use Rattle.numerals.specs.Hex.{hexOf, length-hex}
@@ -23,7 +20,6 @@ use Rattle.table.specs.declared.Node.{Node}
 use Rattle.table.specs.declared.Table.{Table}
 use Rattle.table.specs.Rules.{keepsRules}
 use Rattle.table.specs.Change.{nobody}
-use Rattle.timing.specs.declared.Answer.{Answer}
 use Rattle.timing.specs.Timing.{Outcome, outcome, refused, leastReply}
 
 -- a tab, then the field
@@ -69,14 +65,6 @@ lineOf node t place reply =
     (outcome (refused 2 node t) reply))
 
 -- ---- the line that is written
-pub line-done : (node : Node) (t : Table) (place : ℕ) (reply : List ℕ) (d : Session) (r : ℕ) (o : List ℕ)
-    → leastReply ≤ length reply → keepsRules node (t .recs) ≡ true → place < length (t .recs)
-    → written r o ≡ laid 0 (lineText place (getD (t .recs) place d)) reply
-    → outcome (record { number = 0; size = r; node = node; table = t }) o ≡ lineOf node t place reply
-unfolding lineOf
-line-done node t place reply d r o h k g e =
-    rw (le-ltb (length reply) leastReply h, k, lt-ltb place (length (t .recs)) g, any-default (t .recs) place nobody d g, ← e)
-
 -- ---- no line is longer than 83 characters, so that none is cut: numbers of 32 bits, a use and a creating number of 24
 number-size : (n m : ℕ) → n < 10 ^ suc m → length (numberText n) ≤ suc (suc m)
 unfolding numberText

@@ -1,13 +1,9 @@
 // The line of a place, on values: what the bench prints of it, without a line end.
 use session::Session;
-use table::Node;
-use table::Table;
-use timing::Answer;
 ghost use mathlib.Core.Path.{_≡_};
 ghost use mathlib.Core.List.{_++_};
 ghost use Rattle.numerals.specs.Laid.{laid, written};
-ghost use Rattle.timing.specs.Timing.{outcome};
-ghost use Rattle.placeline.specs.Line.{numberText, imsiText, addressText, stateLetter, heldText, lineText, restText, lineOf};
+ghost use Rattle.placeline.specs.Line.{numberText, imsiText, addressText, stateLetter, heldText, lineText, restText};
 
 // A tab, then a number.
 fn put_number(out: &mut [u8], at: usize, n: u32) -> usize
@@ -89,28 +85,4 @@ pub fn put_line(out: &mut [u8], place: usize, s: Session) -> usize
     let letter = state_letter(s);
     let d = numerals::put(out, c, letter);
     put_rest(out, d, s)
-}
-
-// The line of a place. A free place has one too, also one that was never used.
-pub fn line(node: Node, table: Table, place: usize, reply: &mut [u8]) -> Answer
-    ensures { λ r. ⌜ outcome r (now (reply .exit)) ≡ lineOf node table place (now (reply .entry)) ⌝ }
-{
-    if reply.len() < Answer::LEAST_REPLY {
-        return Answer::refused(1, node, table);
-    }
-    let kept = rules::keeps_rules(node, table);
-    if !kept {
-        return Answer::refused(2, node, table);
-    }
-    if Table::PLACES <= place {
-        return Answer::refused(10, node, table);
-    }
-    let s = table.recs[place];
-    let size = put_line(reply, place, s);
-    Answer {
-        number: 0,
-        size,
-        node,
-        table,
-    }
 }
