@@ -14,8 +14,6 @@ use table::Table;
 use timing::Answer;
 use tunnel::ControlTeid;
 ghost use mathlib.Core.Path.{_≡_};
-ghost use lib.ListN.{getD};
-ghost use Rattle.table.specs.Change.{nobody};
 ghost use Rattle.octets.specs.Overlay.{overlay};
 ghost use Rattle.timing.specs.Timing.{outcome};
 ghost use Rattle.amends.specs.Amends.{notLive, causeSize, causeOctets, causeTaken, peerTeid, peerAddr, peersOf, Replied, modifySize, modifyOctets, modifyDone, modifyBy, modifyTaken, deleteBy, deleteDone, deleteTaken};
@@ -63,16 +61,6 @@ pub fn take_cause(
         node,
         table,
     }
-}
-
-// The record of a place; nobody's past the table.
-pub fn record_at(table: Table, place: usize) -> Session
-    ensures { λ r. ⌜ r ≡ getD (table .recs) place nobody ⌝ }
-{
-    if place < Table::PLACES {
-        return table.recs[place];
-    }
-    Session::blank_at(0)
 }
 
 fn peer_teid(p: Peer, old: u32) -> u32
@@ -187,7 +175,7 @@ pub fn take_modify(
         let w = not_live();
         return take_cause(35, 0, seq, w, node, table, reply);
     };
-    let s = record_at(table, place);
+    let s = table::record_at(table, place);
     let d = changes::read_modify(s.ebi, rest);
     modify_by(d, seq, place, s, node, table, reply)
 }
@@ -244,7 +232,7 @@ pub fn take_delete(
         let w = not_live();
         return take_cause(37, 0, seq, w, node, table, reply);
     };
-    let s = record_at(table, place);
+    let s = table::record_at(table, place);
     let d = changes::read_delete(s.ebi, rest);
     delete_by(d, seq, place, s, node, table, reply)
 }

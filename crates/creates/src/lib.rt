@@ -123,7 +123,7 @@ fn open_at(
         return Answer::refused(11, node0, table0);
     };
     let o = opening_of(c, seq);
-    let old = amends::record_at(table, place);
+    let old = table::record_at(table, place);
     let s = old.opened(o);
     let taken = table.change_at(place, Change::Open(o));
     take_accepted(seq, place, s, node, taken, reply)
@@ -167,7 +167,7 @@ fn settle_at(
     let Found::At(place) = f else {
         return share_in(c, seq, node, table, node0, table0, reply);
     };
-    let s = amends::record_at(table, place);
+    let s = table::record_at(table, place);
     let repeat = is_repeat(c, seq, s);
     if repeat {
         return take_accepted(seq, place, s, node, table, reply);

@@ -4,22 +4,22 @@
 use Prim.Native.Nat.{ℕ, zero, suc, _+_, _<_, _≤_}
 use mathlib.Core.Bool.{Bool, true, false, not, _&&_}
 use mathlib.Core.List.{List, [], _∷_}
-use mathlib.Core.Path.{_≡_, refl, sym, _∙_, ap}
+use mathlib.Core.Path.{_≡_, refl, sym, _∙_}
 use native.Mathlib.Omega.{arith}
 use lib.ListN.{length, drop, getD, List·getD-eq-default}
 use lib.Dec.{eqb, leb, ltb}
 use mir.Val.{boolByte}
-use borrow.Author.Tests.{eqb-true, eqb-false, eq-eqb, ne-eqb, leb-true, le-leb, lt-ltb, le-ltb, ltb-true, ltb-false}
+use borrow.Author.Tests.{eqb-true, eq-eqb, leb-true, le-leb, lt-ltb, le-ltb, ltb-true, ltb-false}
 use Rattle.octets.specs.Choice.{pick, split, impossible, and-left, and-right, tests}
 use Rattle.octets.specs.Places.{any-default}
-use Rattle.octets.specs.Search.{firstOf, first-passes, first-most}
-use Rattle.octets.specs.Sums.{sumOf, countOf, sum-holds-two}
+use Rattle.octets.specs.Search.{firstOf, first-passes}
+use Rattle.octets.specs.Sums.{countOf, sum-holds-two}
 use Rattle.tunnel.specs.Numbering.{places, base}
 use Rattle.tunnel.specs.declared.Holder.{Holder}
 use Rattle.tunnel.specs.declared.Holder.the-variants as H
-use Rattle.tunnel.specs.Tunnel.{numberAt, numbers, holderOf, number-same, number-holder, holder-held, Held}
+use Rattle.tunnel.specs.Tunnel.{numberAt, holderOf, number-holder, holder-held}
 use Rattle.session.specs.declared.Session.{Session}
-use Rattle.session.specs.Session.{isFree, hasId, waitsFor, isDue, blankAt}
+use Rattle.session.specs.Session.{isFree, hasId, waitsFor, blankAt}
 use Rattle.table.specs.declared.Found.{Found}
 use Rattle.table.specs.declared.Found.the-variants.{At, Nothing}
 use Rattle.table.specs.declared.Query.{Query}
@@ -29,7 +29,6 @@ use Rattle.table.specs.Change.{nobody}
 -- ---- by what a record says
 unfoldable pub meets : Query → Session → Bool
 meets Q.Free s = isFree s
-meets Q.Due s = isDue s
 meets (Q.Id imsi ebi) s = hasId imsi ebi s
 meets (Q.Waits number) s = waitsFor number s
 

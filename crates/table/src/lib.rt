@@ -7,11 +7,10 @@ use session::Request;
 use session::Session;
 use tunnel::ControlTeid;
 use tunnel::Holder;
-use tunnel::UserTeid;
 ghost use mathlib.Core.List.{map};
 ghost use mathlib.Core.Path.{_≡_};
 ghost use lib.ListN.{replicate, getD};
-ghost use Rattle.tunnel.specs.Numbering.{controlOffset, userOffset};
+ghost use Rattle.tunnel.specs.Numbering.{controlOffset};
 ghost use Rattle.session.specs.Session.{blankAt};
 ghost use Rattle.table.specs.Change.{changedAt};
 ghost use Rattle.table.specs.Become.{changedBy};
@@ -37,7 +36,6 @@ pub struct Table {
 // What a record is looked for by.
 pub enum Query {
     Free,
-    Due,
     Id { imsi: u64, ebi: u8 },
     Waits(u32),
 }
@@ -51,10 +49,8 @@ pub enum Found {
 // What is done to a record.
 pub enum Change {
     Free,
-    Close,
     Open(Opening),
     Move(Peers),
-    Send { resend: u8, number: u32 },
     Tick(u8),
 }
 
@@ -121,7 +117,6 @@ fn meets(s: Session, q: Query) -> bool
 {
     match q {
         Query::Free => s.is_free(),
-        Query::Due => s.is_due(),
         Query::Id { imsi, ebi } => s.has_id(imsi, ebi),
         Query::Waits(number) => s.waits_for(number),
     }
@@ -133,10 +128,8 @@ pub fn changed(s: Session, c: Change) -> Session
 {
     match c {
         Change::Free => s.freed(),
-        Change::Close => s.closed(),
         Change::Open(o) => s.opened(o),
         Change::Move(p) => s.moved(p),
-        Change::Send { resend, number } => s.sent(resend, number),
         Change::Tick(most) => s.ticked(most),
     }
 }
@@ -221,13 +214,6 @@ impl Table {
 
     pub fn by_control(self, teid: ControlTeid) -> Found
         ensures { λ r. ⌜ r ≡ ownerOf controlOffset (teid .0) (self .recs) ⌝ }
-    {
-        let h = teid.holder();
-        self.held_by(h)
-    }
-
-    pub fn by_user(self, teid: UserTeid) -> Found
-        ensures { λ r. ⌜ r ≡ ownerOf userOffset (teid .0) (self .recs) ⌝ }
     {
         let h = teid.holder();
         self.held_by(h)

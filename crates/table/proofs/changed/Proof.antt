@@ -9,12 +9,6 @@ enum-told c = search needs
 freed-requires : tie.Need-freed-requires
 freed-requires c κs = search needs
 
-enum-told-2 : tie.Need-enum-told-2
-enum-told-2 c = search needs
-
-closed-requires : tie.Need-closed-requires
-closed-requires c κs = search needs
-
 enum-known-c : tie.Need-enum-known-c
 enum-known-c c = search needs
 
@@ -30,12 +24,6 @@ moved-requires c κs = search needs
 enum-known-c-3 : tie.Need-enum-known-c-3
 enum-known-c-3 c = search needs
 
-sent-requires : tie.Need-sent-requires
-sent-requires c κs = search needs
-
-enum-known-c-4 : tie.Need-enum-known-c-4
-enum-known-c-4 c = search needs
-
 ticked-requires : tie.Need-ticked-requires
 ticked-requires c κs = search needs
 
@@ -45,23 +33,15 @@ returns c = rw (c .freed .ensures, c .before .enum-told .given .1)
 
 returns-2 : tie.Need-returns-2
 unfolding changedBy
-returns-2 c = rw (c .closed .ensures, c .before .enum-told2 .given .1)
+returns-2 c = rw (c .opened .ensures, c .before .before .c .given .1)
 
 returns-3 : tie.Need-returns-3
 unfolding changedBy
-returns-3 c = rw (c .opened .ensures, c .before .before .c .given .1)
+returns-3 c = rw (c .moved .ensures, c .before .before .c2 .given .1)
 
 returns-4 : tie.Need-returns-4
 unfolding changedBy
-returns-4 c = rw (c .moved .ensures, c .before .before .c2 .given .1)
-
-returns-5 : tie.Need-returns-5
-unfolding changedBy
-returns-5 c = rw (c .sent .ensures, c .before .before .c3 .given .1)
-
-returns-6 : tie.Need-returns-6
-unfolding changedBy
-returns-6 c = rw (c .ticked .ensures, c .before .before .c4 .given .1)
+returns-4 c = rw (c .ticked .ensures, c .before .before .c3 .given .1)
 
 pub changed-spec : {M : Type 1} → statement M
 changed-spec =
@@ -69,19 +49,13 @@ changed-spec =
     (tie.spec
     enum-told
     freed-requires
-    enum-told-2
-    closed-requires
     enum-known-c
     opened-requires
     enum-known-c-2
     moved-requires
     enum-known-c-3
-    sent-requires
-    enum-known-c-4
     ticked-requires
     returns
     returns-2
     returns-3
-    returns-4
-    returns-5
-    returns-6)
+    returns-4)

@@ -9,12 +9,6 @@ enum-told c = search needs
 is-free-requires : tie.Need-is-free-requires
 is-free-requires c κs = search needs
 
-enum-told-2 : tie.Need-enum-told-2
-enum-told-2 c = search needs
-
-is-due-requires : tie.Need-is-due-requires
-is-due-requires c κs = search needs
-
 enum-known-q : tie.Need-enum-known-q
 enum-known-q c = search needs
 
@@ -33,29 +27,11 @@ returns c = rw (c .is-free .ensures, c .before .enum-told .given .1)
 
 returns-2 : tie.Need-returns-2
 unfolding meets
-returns-2 c = rw (c .is-due .ensures, c .before .enum-told2 .given .1)
+returns-2 c = rw (c .has-id .ensures, c .before .before .q .given .1)
 
 returns-3 : tie.Need-returns-3
 unfolding meets
-returns-3 c = rw (c .has-id .ensures, c .before .before .q .given .1)
-
-returns-4 : tie.Need-returns-4
-unfolding meets
-returns-4 c = rw (c .waits-for .ensures, c .before .before .q2 .given .1)
+returns-3 c = rw (c .waits-for .ensures, c .before .before .q2 .given .1)
 
 pub meets-spec : {M : Type 1} → statement M
-meets-spec =
-    tie.close
-    (tie.spec
-    enum-told
-    is-free-requires
-    enum-told-2
-    is-due-requires
-    enum-known-q
-    has-id-requires
-    enum-known-q-2
-    waits-for-requires
-    returns
-    returns-2
-    returns-3
-    returns-4)
+meets-spec = tie.close (tie.spec enum-told is-free-requires enum-known-q has-id-requires enum-known-q-2 waits-for-requires returns returns-2 returns-3)
