@@ -113,11 +113,7 @@ pub says-refused : (d : List ℕ) → (refusalOf d ≡ 0 → ⊥) → Says 0 0 0
 unfolding headerOf headerType headerTeid headerSequence
 says-refused d h = rw (ne-eqb (refusalOf d) 0 h) (record { type-is = refl; teid-is = refl; sequence-is = refl })
 
--- with E or S set the optional part is there
-pub optional-extended : (first : ℕ) → extended first ≡ true → optional first ≡ true
-unfolding optional
-optional-extended first e = rw e
-
+-- with S set the optional part is there
 pub optional-sequenced : (first : ℕ) → sequenced first ≡ true → optional first ≡ true
 unfolding optional
 optional-sequenced first e = rw (e, or-true)

@@ -2,7 +2,7 @@
 -- Assumes nothing.
 use Prim.Native.Nat.{ℕ, _+_, _-_}
 use mathlib.Core.List.{List}
-use mathlib.Core.Path.{_≡_, refl, _∙_, ap}
+use mathlib.Core.Path.{_≡_, _∙_, ap}
 use native.Mathlib.Omega.{arith}
 use lib.ListN.{length, drop, length-drop}
 use lib.Seq.{drop-drop}
@@ -20,9 +20,6 @@ abbrev pub Reads : ℕ → RefT (List ℕ) → RefT (List ℕ) → ℕ → ℕ �
 Reads got r d number size = (got ≡ number) × IsRest r d size
 
 -- ---- laws
-pub rest-all : (d : RefT (List ℕ)) → IsRest d d 0
-rest-all d = record { memory = refl; place = omega arith; octets = refl }
-
 -- a rest of a rest
 pub rest-further : (r m d : RefT (List ℕ)) (n k : ℕ) → IsRest m d n → IsRest r m k → IsRest r d (n + k)
 rest-further r m d n k a b =

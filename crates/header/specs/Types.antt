@@ -1,12 +1,10 @@
 -- Message types: each of the 256 has the T flag that it is taken with, or none.
 -- Assumes nothing.
-use Prim.Native.Nat.{ℕ, _<_}
-use mathlib.Core.Bool.{Bool, true, false, _||_}
+use Prim.Native.Nat.{ℕ}
+use mathlib.Core.Bool.{Bool, false, _||_}
 use mathlib.Core.List.{List, [], _∷_}
-use mathlib.Core.Path.{_≡_, refl}
 use lib.Dec.{eqb}
-use native.Mathlib.Omega.{arith}
-use Rattle.octets.specs.Choice.{pick, split}
+use Rattle.octets.specs.Choice.{pick}
 
 abbrev pub among : ℕ → List ℕ → Bool
 among n [] = false
@@ -25,16 +23,3 @@ notTaken = 2
 
 unfoldable pub flagOf : ℕ → ℕ
 flagOf n = pick {A = ℕ} (among n bareTypes) 0 (pick {A = ℕ} (among n tunnelTypes) 1 notTaken)
-
--- ---- laws: what a flag tells of the type
-pub flag-bare : (n : ℕ) → flagOf n ≡ 0 → among n bareTypes ≡ true
-unfolding flagOf notTaken
-flag-bare n e =
-    split (among n bareTypes) (λ h. h)
-    (λ h. split (among n tunnelTypes) (λ g. let z = rw (h, g) at e in absurd (omega arith)) (λ g. let z = rw (h, g) at e in absurd (omega arith)))
-
-pub flag-tunnel : (n : ℕ) → flagOf n ≡ 1 → among n tunnelTypes ≡ true
-unfolding flagOf notTaken
-flag-tunnel n e =
-    split (among n bareTypes) (λ h. let z = rw h at e in absurd (omega arith))
-    (λ h. split (among n tunnelTypes) (λ g. g) (λ g. let z = rw (h, g) at e in absurd (omega arith)))

@@ -2,15 +2,14 @@
 -- for every number of octets.
 -- Assumes nothing.
 use Prim.Native.Nat.{ℕ, zero, suc, _+_, _*_, _-_, _/_, _%_, _<_, _≤_}
-use mathlib.Core.Bool.{Bool, true, false, not, _&&_, _||_}
+use mathlib.Core.Bool.{Bool, true, not, _&&_, _||_}
 use mathlib.Core.List.{List, [], _∷_, _++_}
-use mathlib.Core.Path.{_≡_, refl, ap, sym, _∙_}
-use native.Mathlib.Numerals.{add-one}
+use mathlib.Core.Path.{_≡_, refl}
 use native.Mathlib.Omega.{arith}
-use lib.ListN.{length, take, drop, getD, drop-of-length-le}
+use lib.ListN.{length, drop, getD, drop-of-length-le}
 use lib.Dec.{eqb, ltb, leb}
-use borrow.Author.Tests.{leb-true, leb-false, ltb-true, ltb-false, lt-ltb, le-ltb, le-leb, lt-leb}
-use Rattle.octets.specs.Choice.{pick, split, and-left, and-right, tests}
+use borrow.Author.Tests.{ltb-true, ltb-false, le-leb, lt-leb}
+use Rattle.octets.specs.Choice.{pick, split, and-left, and-right}
 use Rattle.octets.specs.Every.{every}
 use Rattle.octets.specs.Overlay.{overlay}
 use Rattle.octets.specs.BigEndian.{numberOf, isOctet}
@@ -81,15 +80,6 @@ hex-back (x ∷ l) e =
     let r = hex-back l (and-right (isOctet x) (every isOctet l) e) in
     let n : x / 16 % 16 % 16 * 16 + x % 16 % 16 ≡ x = omega arith in
     rw (half-glyph (x / 16), half-glyph x, n, r)
-
-glyph-good : (d : ℕ) → isHex (glyph d) ≡ true
-unfolding isHex
-glyph-good d = lt-ltb (halfOf (glyph d)) 16 (rw (half-glyph d) (omega arith))
-
-pub hex-good : (l : List ℕ) → every isHex (hexOf l) ≡ true
-unfolding hexOf every
-hex-good [] = refl
-hex-good (x ∷ l) = rw (glyph-good (x / 16), glyph-good x) (hex-good l)
 
 pub length-hex : (l : List ℕ) → length (hexOf l) ≡ 2 * length l
 unfolding hexOf

@@ -1,16 +1,13 @@
 -- Numbers as octets, the most significant first, for every width; the round trips are proved once, over the width.
 -- Assumes nothing.
-use Prim.Native.Nat.{ℕ, zero, suc, _+_, _*_, _/_, _%_, _^_, _<_, _≤_}
-use mathlib.Core.Bool.{Bool, true, false, _&&_}
-use mathlib.Core.List.{List, [], _∷_, _++_, append-assoc, append-nil}
-use mathlib.Core.Path.{_≡_, refl, ap, sym, _∙_}
-use native.Mathlib.Nat.{pow-suc, add-zero, add-suc, suc-add, zero-add}
+use Prim.Native.Nat.{ℕ, zero, suc, _+_, _*_, _/_, _%_, _^_, _<_}
+use mathlib.Core.Bool.{Bool}
+use mathlib.Core.List.{List, [], _∷_, _++_}
+use mathlib.Core.Path.{_≡_, refl}
+use native.Mathlib.Nat.{pow-suc}
 use native.Mathlib.Omega.{arith}
 use lib.ListN.{length, length-append}
 use lib.Dec.{ltb}
-use borrow.Author.Tests.{ltb-true}
-use Rattle.octets.specs.Choice.{and-left, and-right}
-use Rattle.octets.specs.Every.{every}
 
 -- the number that the octets write, behind what was read before
 unfoldable pub numberFrom : ℕ → List ℕ → ℕ
@@ -47,19 +44,3 @@ number-back (suc w) n h =
     let r = number-back w (n / 256) (omega arith) in
     let s = number-last 0 (octetsOf w (n / 256)) (n % 256) in
     omega arith
-
--- octets come back
-pub octets-after : (w n : ℕ) (l : List ℕ) → every isOctet l ≡ true → octetsOf (w + length l) (numberFrom n l) ≡ octetsOf w n ++ l
-unfolding numberFrom octetsOf every isOctet
-octets-after w n [] e = rw (add-zero w) (sym (append-nil _))
-octets-after w n (x ∷ l) e =
-    let b = ltb-true x 256 (and-left (isOctet x) (every isOctet l) e) in
-    let r = octets-after (suc w) (n * 256 + x) l (and-right (isOctet x) (every isOctet l) e) in
-    let k : w + suc (length l) ≡ suc w + length l = omega arith in
-    let q : (n * 256 + x) / 256 ≡ n = omega arith in
-    let m : (n * 256 + x) % 256 ≡ x = omega arith in
-    rw k (r ∙ rw (q, m) (append-assoc (octetsOf w n) (x ∷ []) l))
-
-pub octets-back : (l : List ℕ) → every isOctet l ≡ true → octetsOf (length l) (numberOf l) ≡ l
-unfolding numberOf octetsOf
-octets-back l e = rw (zero-add _) at (octets-after 0 0 l e)

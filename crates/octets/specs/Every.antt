@@ -7,7 +7,7 @@ use mathlib.Core.List.{List, [], _∷_, map}
 use mathlib.Core.Path.{_≡_, refl}
 use native.Mathlib.Numerals.{add-one}
 use native.Mathlib.Omega.{arith}
-use lib.ListN.{length, drop, take, getD, set, replicate, drop-of-length-le}
+use lib.ListN.{length, drop, getD, set, replicate, drop-of-length-le}
 use lib.Seq.{drop-cons}
 use Rattle.octets.specs.Choice.{and-left, and-right, and-no}
 
@@ -87,12 +87,6 @@ module _ {A : Type 0} where
   unfolding every
   every-same p zero s e = refl
   every-same p (suc n) s e = rw e (every-same p n s e)
-
-  pub every-take : (p : A → Bool) (n : ℕ) (l : List A) → every p l ≡ true → every p (take n l) ≡ true
-  unfolding every
-  every-take p zero l e = refl
-  every-take p (suc n) [] e = refl
-  every-take p (suc n) (x ∷ l) e = rw (and-left (p x) (every p l) e) (every-take p n l (and-right (p x) (every p l) e))
 
   -- two places, the first before the second: the test of each with those after it tells of the two
   pub rest-pair : (p : A → A → Bool) (l : List A) (i j : ℕ) (d : A) → everyRest (λ x r. every (p x) r) l ≡ true → i < j → j < length l → p (getD l i d) (getD l j d) ≡ true

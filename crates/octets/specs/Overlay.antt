@@ -6,7 +6,6 @@ use mathlib.Core.Path.{_≡_, refl, ap}
 use native.Mathlib.Numerals.{add-one}
 use native.Mathlib.Omega.{arith}
 use lib.ListN.{length, take, drop, getD, set}
-use lib.Seq.{take-at}
 
 -- a buffer that is shorter takes what it can; none of ours is
 unfoldable pub overlay : List ℕ → List ℕ → List ℕ
@@ -25,10 +24,6 @@ unfolding overlay
 length-overlay [] d = refl
 length-overlay (x ∷ m) [] = refl
 length-overlay (x ∷ m) (y ∷ d) = ap suc (length-overlay m d)
-
--- reading it back: the message stands at the front
-pub overlay-front : (m d : List ℕ) → length m ≤ length d → take (length m) (overlay m d) ≡ m
-overlay-front m d h = rw (overlay-fits m d h) (take-at m (drop (length m) d) (length m) refl)
 
 -- ---- the copying loop that has come to place i
 pub overlay-none : (m d : List ℕ) → overlay (take 0 m) d ≡ d

@@ -1,6 +1,6 @@
 -- Two lists of octets, the same octet by octet or not.
 -- Assumes nothing.
-use Prim.Native.Nat.{ℕ, zero, suc, _+_, _<_, _≤_}
+use Prim.Native.Nat.{ℕ, suc, _+_, _<_, _≤_}
 use mathlib.Core.Bool.{Bool, true, false, _&&_}
 use mathlib.Core.List.{List, [], _∷_}
 use mathlib.Core.Path.{_≡_, refl, ap}
@@ -27,11 +27,6 @@ same-equal (x ∷ a) (y ∷ b) e =
     let h = eqb-true x y (and-left (eqb x y) (sameOctets a b) e) in
     let t = same-equal a b (and-right (eqb x y) (sameOctets a b) e) in
     rw (h, t)
-
-pub same-self : (a : List ℕ) → sameOctets a a ≡ true
-unfolding sameOctets
-same-self [] = refl
-same-self (x ∷ a) = rw (eq-eqb x x refl) (same-self a)
 
 -- ---- a loop that has come to place i
 pub same-unlike : (a b : List ℕ) → (length a ≡ length b → ⊥) → sameOctets a b ≡ false

@@ -33,23 +33,7 @@ pub fn be32(a: u8, b: u8, c: u8, d: u8) -> u32
     ((a as u32 * 256 + b as u32) * 256 + c as u32) * 256 + d as u32
 }
 
-// The octets of a number; of a wider one its last two or three.
-pub fn octets16(n: u32) -> [u8; 2]
-    ensures { λ r. ⌜ r ≡ octetsOf 2 n ⌝ }
-{
-    [(n / 256 % 256) as u8, (n % 256) as u8]
-}
-
-pub fn octets24(n: u32) -> [u8; 3]
-    ensures { λ r. ⌜ r ≡ octetsOf 3 n ⌝ }
-{
-    [
-        (n / 256 / 256 % 256) as u8,
-        (n / 256 % 256) as u8,
-        (n % 256) as u8,
-    ]
-}
-
+// The octets of a number.
 pub fn octets32(n: u32) -> [u8; 4]
     ensures { λ r. ⌜ r ≡ octetsOf 4 n ⌝ }
 {

@@ -10,7 +10,6 @@ use Rattle.octets.specs.Choice.{split, and-left, and-right, and-no, tests}
 use Rattle.octets.specs.Every.{every}
 use Rattle.octets.specs.Sums.{sumOf}
 use Rattle.tunnel.specs.Numbering.{places}
-use Rattle.plan.specs.declared.AccessPoint.{AccessPoint}
 use Rattle.plan.specs.declared.Plan.{Plan}
 use Rattle.plan.specs.Limits.{used, noPlan, mostPoints, mostSends, poolStep, figuresOk, pointOk}
 use Rattle.plan.specs.Names.{namesDiffer}
@@ -51,10 +50,6 @@ accepted-figures p e =
       echoes = omega (arith, tests);
       whole = omega (arith, tests);
     }
-
-pub accepted-names : (p : Plan) → accepted p ≡ true → namesDiffer (used p) ≡ true
-unfolding accepted
-accepted-names p e = search (and-left, and-right)
 
 -- ---- the test made limit by limit: one that is broken refuses the plan, and where the others are kept the figures decide
 module _ (p : Plan) where

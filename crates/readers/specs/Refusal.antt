@@ -1,6 +1,6 @@
 -- Refusals with a cause. For a field: missing 70, short 67, wrong 69, and the field is named; the others name none.
 use Prim.Native.Nat.{ℕ}
-use mathlib.Core.Bool.{Bool, true, false}
+use mathlib.Core.Bool.{true, false}
 use Rattle.readers.specs.declared.Refusal.{Refusal}
 use Rattle.readers.specs.declared.Octet.{Octet}
 use Rattle.readers.specs.declared.Octet.the-variants as O
@@ -20,10 +20,6 @@ wrong kind instance = record { cause = 69; kind = kind; instance = instance; nam
 
 abbrev pub bare : ℕ → Refusal
 bare cause = record { cause = cause; kind = 0; instance = 0; named = false }
-
--- a field runs past the end
-abbrev pub overrun : Refusal
-overrun = bare 67
 
 -- what a read that has no value is refused with; one that has a value is not refused, which the cause 0 stands for
 unfoldable pub octetRefusal : Octet → ℕ → ℕ → Refusal

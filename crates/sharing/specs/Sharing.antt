@@ -5,13 +5,13 @@
 use Prim.Native.Nat.{ℕ, _+_, _<_, _≤_, max}
 use mathlib.Core.Bool.{Bool, true, false, _&&_, _||_}
 use mathlib.Core.List.{map}
-use mathlib.Core.Path.{_≡_, refl, sym, _∙_}
+use mathlib.Core.Path.{_≡_, sym, _∙_}
 use native.Mathlib.Omega.{arith}
-use lib.ListN.{length, getD, length-map, List·getD-eq-default}
+use lib.ListN.{getD, length-map, List·getD-eq-default}
 use lib.Dec.{eqb, leb, ltb}
-use borrow.Author.Tests.{lt-ltb, le-ltb, le-leb, lt-leb, ltb-true, ltb-false, leb-true, leb-false, eqb-true}
+use borrow.Author.Tests.{lt-ltb, le-ltb, le-leb, lt-leb, ltb-true, leb-true, leb-false, eqb-true}
 use mir.Val.{boolByte}
-use Rattle.octets.specs.Choice.{split, or-split, or-true, and-left, and-right, impossible, tests}
+use Rattle.octets.specs.Choice.{split, or-split, or-true, and-left, and-right, tests}
 use Rattle.octets.specs.Every.{every, every-in}
 use Rattle.octets.specs.Sums.{sumOf}
 use Rattle.octets.specs.Below.{sumTo, allTo, all-next, all-in, all-of, all-stop, all-agree, to-start, to-next, to-least, to-equal, to-more, to-fewer, to-list}
@@ -61,10 +61,6 @@ module _ (n : ℕ) (g u : ℕ → ℕ) where
   unfolding sharable
   sharable-some e = omega (arith, tests)
 
-  pub sharable-none : sharable n g u ≡ false → places ≤ share n g u
-  unfolding sharable
-  sharable-none e = omega (arith, tests)
-
   pub some-sharable : share n g u < places → sharable n g u ≡ true
   unfolding sharable
   some-sharable h = lt-ltb (share n g u) places h
@@ -97,15 +93,6 @@ module _ (n : ℕ) (g c : ℕ → ℕ) where
     admitted-how e under some =
         or-split (ltb (u a) (g a)) (sharable n g u) (and-right (ltb (u a) (c a)) (ltb (u a) (g a) || sharable n g u) e)
         (λ q. under (ltb-true (u a) (g a) q)) (λ q. some (sharable-some n g u q))
-
-    -- an access point that is refused is at its ceiling, or has its guarantee and all is shared out
-    pub refused-why : {A : Type 0} → admitted n g c u a ≡ false → (c a ≤ u a → A) → (g a ≤ u a → places ≤ share n g u → A) → A
-    unfolding admitted
-    refused-why e full none =
-        split (ltb (u a) (c a))
-        (λ q. split (ltb (u a) (g a)) (λ r. impossible (sym (rw (q, r) at e)))
-        (λ r. split (sharable n g u) (λ s. impossible (sym (rw (q, r, s) at e))) (λ s. none (ltb-false (u a) (g a) r) (sharable-none n g u s))))
-        (λ q. full (ltb-false (u a) (c a) q))
 
     -- ---- and put together
     -- under its guarantee an access point is always admitted, whatever the others have

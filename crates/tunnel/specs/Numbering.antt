@@ -32,10 +32,6 @@ pub base-some : 0 < base
 unfolding base
 base-some = omega arith
 
-pub places-some : 0 < places
-unfolding places
-places-some = omega arith
-
 pub last-some : 0 < lastUse
 unfolding lastUse
 last-some = omega arith

@@ -1,13 +1,13 @@
 -- Tunnel numbers: the number of a place in one of its uses, for control and for user packets; who holds a number; the next use.
 -- Assumes nothing.
-use Prim.Native.Nat.{ℕ, zero, suc, _+_, _-_, _*_, _/_, _%_, _<_, _≤_}
+use Prim.Native.Nat.{ℕ, _+_, _-_, _*_, _/_, _%_, _<_, _≤_}
 use mathlib.Core.Bool.{Bool, true, false, _&&_}
-use mathlib.Core.Path.{_≡_, refl, sym, _∙_, ap}
-use native.Mathlib.Nat.{mul-add-div-right, mul-add-mod-self-right, mod-eq-of-lt, div-eq-of-lt, div-add-mod', mul-le-mul-right, add-assoc, mod-lt}
+use mathlib.Core.Path.{_≡_, sym, _∙_}
+use native.Mathlib.Nat.{mul-add-div-right, mul-add-mod-self-right, mod-eq-of-lt, div-eq-of-lt, div-add-mod', mul-le-mul-right}
 use native.Mathlib.Omega.{arith}
-use lib.Dec.{eqb, leb, ltb}
+use lib.Dec.{leb, ltb}
 use borrow.Author.Tests.{le-leb, lt-ltb, le-ltb}
-use Rattle.octets.specs.Choice.{pick, split, and-left, and-right, tests, impossible}
+use Rattle.octets.specs.Choice.{pick, split, and-left, and-right, tests}
 use Rattle.tunnel.specs.Numbering.{places, base, controlOffset, userOffset, lastUse, teids, base-some, last-some, control-fits, user-fits, offsets-apart, teids-hold}
 use Rattle.tunnel.specs.declared.Holder.{Holder}
 use Rattle.tunnel.specs.declared.Holder.the-variants.{At, Nobody}
@@ -53,14 +53,6 @@ module _ (offset usage place : ℕ) (fits : offset + places ≤ base) (p : place
   pub number-use : numberAt offset usage place / base ≡ usage
   unfolding numberAt
   number-use = mul-add-div-right base-some usage (offset + place) ∙ rw (div-eq-of-lt {n = offset + place} {m = base} (omega arith)) (omega arith)
-
-  -- of a live session it is never 0
-  pub number-live : 1 ≤ usage → 0 < numberAt offset usage place
-  unfolding numberAt
-  number-live l =
-      let a = mul-le-mul-right base l in
-      let b = base-some in
-      omega arith
 
   -- it gives back its place and its use
   pub number-holder : 1 ≤ usage → holderOf offset (numberAt offset usage place) ≡ At place usage
@@ -113,11 +105,6 @@ holder-held offset n place usage e = split (numbers offset n) held none
         let f : Nobody ≡ At place usage = rw t at e in
         let z : _≡_ {A = ℕ} 0 1 = cc in
         absurd (omega arith)
-
--- no number of a place under one kind's offset: nobody's
-pub holder-none : (offset n : ℕ) → numbers offset n ≡ false → holderOf offset n ≡ Nobody
-unfolding holderOf
-holder-none offset n e = rw e
 
 -- ---- laws of the next use
 pub next-range : (usage : ℕ) → (1 ≤ nextUse usage) × (nextUse usage ≤ lastUse)
