@@ -1,7 +1,7 @@
 // The service bench: reads lines from standard input, puts each to the unit, and prints what it did. The input may be of any length:
 // a buffer is filled, its whole lines are taken, and what is left of the last moves to the front. Started with any argument, it takes
 // many runs one after another: a line N starts a fresh unit, after the lines at the end of the unit before it.
-use benchrun::Bench;
+use benchplan::Bench;
 ghost use Prim.Native.Nat.{_≤_};
 ghost use mathlib.Core.Path.{_≡_};
 ghost use lib.ListN.{length};
@@ -54,7 +54,7 @@ fn start_anew(b: Bench, many: bool, line: &[u8], out: &mut [u8]) -> Bench {
     if line[0] != 78 {
         return b;
     }
-    let e = benchrun::end_of_input(b, out);
+    let e = benchend::end_of_input(b, out);
     let mut next = Bench::start();
     next.made = e.made;
     next
@@ -143,7 +143,7 @@ fn take_rest(b: Bench, many: bool, rest: &[u8], out: &mut [u8]) -> Bench {
 
 fn finish(b: Bench, many: bool, rest: &[u8], out: &mut [u8]) {
     let c = take_rest(b, many, rest, out);
-    let d = benchrun::end_of_input(c, out);
+    let d = benchend::end_of_input(c, out);
     emit(d, out);
 }
 

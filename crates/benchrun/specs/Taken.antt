@@ -1,9 +1,8 @@
--- One line of input by where the run stands, and the end of the input. The plan is taken at the first line that is not one of an access
--- point, or at the end: a refused plan wins over a bad such line, a bad line of an access point over a refused plan.
+-- One line of input by where the run stands. The plan is taken at the first line that is not one of an access point, or at the end: a refused
+-- plan wins over a bad such line, a bad line of an access point over a refused plan.
 -- Assumes nothing.
 use Prim.Native.Nat.{ℕ}
-use mathlib.Core.Bool.{Bool, true, false}
-use mathlib.Core.List.{List, [], _∷_}
+use mathlib.Core.List.{List, []}
 use lib.ListN.{take, replicate}
 use lib.Dec.{eqb}
 use Rattle.octets.specs.Choice.{pick}
@@ -12,9 +11,10 @@ use Rattle.control.specs.Control.{controlTaken}
 use Rattle.benchtext.specs.declared.Line.{Line}
 use Rattle.benchtext.specs.declared.Line.the-variants.{Node, Point, Control, User, Tick, Close, BadPoint, Bad}
 use Rattle.benchtext.specs.Lines.{Told, lineRead}
-use Rattle.benchrun.specs.declared.Bench.{Bench}
-use Rattle.benchrun.specs.Run.{Ran, ran, first, plans, runs, over, lentReply, withLine, endBad, answered, thenSent, userRun, placesPrinted}
-use Rattle.benchrun.specs.Plans.{firstLine, oneMore, planTaken}
+use Rattle.benchplan.specs.declared.Bench.{Bench}
+use Rattle.benchplan.specs.State.{Ran, ran, first, plans, runs, over, lentReply, withLine, endBad, answered}
+use Rattle.benchplan.specs.Plans.{oneMore, planTaken, startLine}
+use Rattle.benchrun.specs.Run.{thenSent, userRun}
 
 -- ---- once the plan is taken
 unfoldable pub runLine : Line → List ℕ → Bench → List ℕ → Ran
@@ -42,17 +42,6 @@ planLine (Close place) octets b out = leavePlan (Close place) octets b out
 planLine (Node control user pool recovery resend sends interval) octets b out = leavePlan (Node control user pool recovery resend sends interval) octets b out
 planLine Bad octets b out = leavePlan Bad octets b out
 
--- ---- the first line has to be N
-unfoldable pub startLine : Line → Bench → List ℕ → Ran
-startLine (Node control user pool recovery resend sends interval) b out = ran (firstLine b control user pool recovery resend sends interval) out
-startLine (Point guarantee ceiling size) b out = endBad b out
-startLine (Control size) b out = endBad b out
-startLine (User size) b out = endBad b out
-startLine Tick b out = endBad b out
-startLine (Close place) b out = endBad b out
-startLine BadPoint b out = endBad b out
-startLine Bad b out = endBad b out
-
 unfoldable pub lentOctets : List ℕ
 lentOctets = replicate 2048 0
 
@@ -65,14 +54,3 @@ toldTaken x b out =
 
 unfoldable pub lineTaken : List ℕ → Bench → List ℕ → Ran
 lineTaken text b out = toldTaken (lineRead text lentOctets) b out
-
--- ---- the end of the input: without any line it is a bad first line
-unfoldable pub endPlan : Bench → List ℕ → Ran
-endPlan b out =
-    pick (eqb (planTaken b out .bench .phase) over) (planTaken b out) (placesPrinted (planTaken b out .bench) (planTaken b out .out))
-
-unfoldable pub ended : Bench → List ℕ → Ran
-ended b out =
-    pick (eqb (b .phase) over) (ran b out)
-    (pick (eqb (b .phase) runs) (placesPrinted b out)
-    (pick (eqb (b .phase) plans) (endPlan b out) (endBad (withLine b) out)))

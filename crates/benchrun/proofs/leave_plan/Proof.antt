@@ -1,5 +1,5 @@
 use borrow.Author.Tests.{eq-eqb, ne-eqb}
-use Rattle.benchrun.specs.Run.{over}
+use Rattle.benchplan.specs.State.{over}
 use Rattle.benchrun.specs.Taken.{leavePlan}
 use borrow.Author.Needs.{needs}
 use Rattle.benchrun.proofs.leave_plan.Statement.{statement}

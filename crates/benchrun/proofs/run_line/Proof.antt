@@ -1,5 +1,7 @@
-use Rattle.benchrun.specs.Run.{lentReply}
+use mathlib.Core.Path.{_∙_}
+use Rattle.benchplan.specs.State.{lentReply}
 use Rattle.benchrun.specs.Taken.{runLine}
+use Rattle.benchrun.proofs.Left.{not-run}
 use borrow.Author.Needs.{needs}
 use Rattle.benchrun.proofs.run_line.Statement.{statement}
 use Rattle.benchrun.proofs.run_line.Tie as tie
@@ -34,29 +36,8 @@ enum-known-line-3 c = search needs
 run-close-requires : tie.Need-run-close-requires
 run-close-requires c κs = search needs
 
-enum-told-2 : tie.Need-enum-told-2
-enum-told-2 c = search needs
-
 end-bad-requires : tie.Need-end-bad-requires
 end-bad-requires c κs = search needs
-
-enum-told-3 : tie.Need-enum-told-3
-enum-told-3 c = search needs
-
-end-bad-requires-2 : tie.Need-end-bad-requires-2
-end-bad-requires-2 c κs = search needs
-
-enum-told-4 : tie.Need-enum-told-4
-enum-told-4 c = search needs
-
-end-bad-requires-3 : tie.Need-end-bad-requires-3
-end-bad-requires-3 c κs = search needs
-
-enum-told-5 : tie.Need-enum-told-5
-enum-told-5 c = search needs
-
-end-bad-requires-4 : tie.Need-end-bad-requires-4
-end-bad-requires-4 c κs = search needs
 
 same-length : tie.Need-same-length
 same-length c = search needs
@@ -90,29 +71,7 @@ same-length-5 : tie.Need-same-length-5
 same-length-5 c = search needs
 
 returns-5 : tie.Need-returns-5
-unfolding runLine
-returns-5 c = rw (c .before .before .before .before .enum-told2 .given .1) (c .before .before .end-bad .ensures)
-
-same-length-6 : tie.Need-same-length-6
-same-length-6 c = search needs
-
-returns-6 : tie.Need-returns-6
-unfolding runLine
-returns-6 c = rw (c .before .before .before .before .enum-told3 .given .1) (c .before .before .end-bad2 .ensures)
-
-same-length-7 : tie.Need-same-length-7
-same-length-7 c = search needs
-
-returns-7 : tie.Need-returns-7
-unfolding runLine
-returns-7 c = rw (c .before .before .before .before .enum-told4 .given .1) (c .before .before .end-bad3 .ensures)
-
-same-length-8 : tie.Need-same-length-8
-same-length-8 c = search needs
-
-returns-8 : tie.Need-returns-8
-unfolding runLine
-returns-8 c = rw (c .before .before .before .before .enum-told5 .given .1) (c .before .before .end-bad4 .ensures)
+returns-5 c = c .before .before .end-bad .ensures ∙ not-run _ _ _ _ (c .before .before .before .before .match .keys5)
 
 pub run-line-spec : {M : Type 1} → statement M
 run-line-spec =
@@ -128,14 +87,7 @@ run-line-spec =
     run-tick-requires
     enum-known-line-3
     run-close-requires
-    enum-told-2
     end-bad-requires
-    enum-told-3
-    end-bad-requires-2
-    enum-told-4
-    end-bad-requires-3
-    enum-told-5
-    end-bad-requires-4
     same-length
     returns
     same-length-2
@@ -145,10 +97,4 @@ run-line-spec =
     same-length-4
     returns-4
     same-length-5
-    returns-5
-    same-length-6
-    returns-6
-    same-length-7
-    returns-7
-    same-length-8
-    returns-8)
+    returns-5)

@@ -1,7 +1,7 @@
 use denote.Ref.{now}
 use Rattle.benchrun.specs.Run.{user-packet, user-answer}
 use mathlib.Core.Path.{_≡_, refl, sym, _∙_}
-use Rattle.benchrun.specs.Run.{lentReply}
+use Rattle.benchplan.specs.State.{lentReply}
 use borrow.Author.Needs.{needs}
 use Rattle.benchrun.proofs.run_user.Statement.{statement}
 use Rattle.benchrun.proofs.run_user.Tie as tie

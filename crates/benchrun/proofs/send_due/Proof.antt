@@ -3,7 +3,8 @@ use mathlib.Core.Path.{_≡_, refl, sym, ap, _∙_}
 use native.Mathlib.Omega.{arith}
 use borrow.Author.Tests.{not-true, not-false}
 use lib.ListN.{length}
-use Rattle.benchrun.specs.Run.{Ran, ran, allSent, dueSent, sent-length, sent-stop, sent-on, sent-end}
+use Rattle.benchplan.specs.State.{Ran, ran}
+use Rattle.benchrun.specs.Run.{allSent, dueSent, sent-length, sent-stop, sent-on, sent-end}
 use Rattle.benchrun.proofs.send_due.Statement.{statement}
 use Rattle.benchrun.proofs.send_due.Tie as tie
 

@@ -1,6 +1,7 @@
 use mathlib.Core.Path.{_≡_, refl, sym, _∙_}
 use borrow.Author.Tests.{eq-eqb, ne-eqb}
-use Rattle.benchrun.specs.Run.{isDue, sentOne, sendTry, lentReply, keptIn, printed-by}
+use Rattle.benchrun.specs.Run.{isDue, sentOne, sendTry}
+use Rattle.benchplan.specs.State.{lentReply, keptIn, printed-by}
 use borrow.Author.Needs.{needs}
 use Rattle.benchrun.proofs.send_one.Statement.{statement}
 use Rattle.benchrun.proofs.send_one.Tie as tie

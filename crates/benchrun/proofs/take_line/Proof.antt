@@ -1,5 +1,5 @@
 use borrow.Author.Tests.{eq-eqb, ne-eqb}
-use Rattle.benchrun.specs.Run.{first, plans, runs, withLine}
+use Rattle.benchplan.specs.State.{first, plans, runs, withLine}
 use Rattle.benchrun.specs.Taken.{lineTaken, toldTaken, lentOctets}
 use borrow.Author.Needs.{needs}
 use Rattle.benchrun.proofs.take_line.Statement.{statement}

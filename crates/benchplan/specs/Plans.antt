@@ -1,0 +1,95 @@
+-- The lines of the plan: N, up to four A, and the plan taken; what is no N line is no first line.
+-- Assumes nothing.
+use Prim.Native.Nat.{ℕ, _+_, _%_}
+use mathlib.Core.List.{List, []}
+use lib.ListN.{length, set, replicate}
+use lib.Dec.{eqb, ltb, leb}
+use Rattle.octets.specs.Choice.{pick}
+use Rattle.octets.specs.Overlay.{overlay}
+use Rattle.plan.specs.declared.AccessPoint.{AccessPoint}
+use Rattle.plan.specs.declared.Plan.{Plan}
+use Rattle.plan.specs.Limits.{noPoint}
+use Rattle.table.specs.declared.Node.{Node}
+use Rattle.table.specs.Own.{freshNode}
+use Rattle.timing.specs.Timing.{outcome, freshOf}
+use Rattle.benchtext.specs.declared.Line.{Line}
+use Rattle.benchtext.specs.declared.Line.the-variants as L
+use Rattle.benchplan.specs.declared.Bench.{Bench}
+use Rattle.benchplan.specs.State.{Ran, ran, plans, runs, over, keptIn, endBad, answered}
+
+-- N: the plan without access points
+unfoldable pub firstLine : Bench → ℕ → ℕ → ℕ → ℕ → ℕ → ℕ → ℕ → Bench
+firstLine b control user pool recovery resend sends interval = record {
+  phase = plans;
+  lines = b .lines;
+  made = b .made;
+  node = freshNode (record {
+    control = control;
+    user = user;
+    pool = pool;
+    recovery = recovery;
+    resend = resend;
+    sends = sends;
+    interval = interval;
+    count = 0;
+    points = replicate 4 noPoint;
+  });
+  table = b .table;
+}
+
+-- A: a name of at most 63 octets, the rest of its 63 zero
+unfoldable pub pointFrom : ℕ → ℕ → List ℕ → AccessPoint
+pointFrom guarantee ceiling octets =
+    record { name = overlay octets (replicate 63 0); size = length octets % 256; guarantee = guarantee; ceiling = ceiling }
+
+-- put into the next slot; there are four
+unfoldable pub withPoint : Plan → AccessPoint → Plan
+withPoint p point =
+    pick (ltb (p .count) 4)
+    (record {
+      control = p .control;
+      user = p .user;
+      pool = p .pool;
+      recovery = p .recovery;
+      resend = p .resend;
+      sends = p .sends;
+      interval = p .interval;
+      count = p .count + 1;
+      points = set (p .points) (p .count) point;
+    })
+    p
+
+unfoldable pub withPlan : Plan → Node → Node
+withPlan p node = record { plan = p; echo = node .echo; next = node .next; heard = node .heard; recovery = node .recovery }
+
+-- a fifth is a bad line
+unfoldable pub oneMore : Bench → ℕ → ℕ → List ℕ → List ℕ → Ran
+oneMore b guarantee ceiling octets out =
+    pick (leb 4 (b .node .plan .count)) (endBad b out)
+    (ran
+    (record {
+      phase = b .phase;
+      lines = b .lines;
+      made = b .made;
+      node = withPlan (withPoint (b .node .plan) (pointFrom guarantee ceiling octets)) (b .node);
+      table = b .table;
+    })
+    out)
+
+-- the plan taken; a refused one prints its number and -, and ends
+unfoldable pub planTaken : Bench → List ℕ → Ran
+planTaken b out =
+    pick (eqb (freshOf (b .node .plan) .number) 0)
+    (ran (keptIn (freshOf (b .node .plan)) runs (b .made) b) out)
+    (answered over (outcome (freshOf (b .node .plan)) []) b out)
+
+-- the first line has to be N
+unfoldable pub startLine : Line → Bench → List ℕ → Ran
+startLine (L.Node control user pool recovery resend sends interval) b out = ran (firstLine b control user pool recovery resend sends interval) out
+startLine (L.Point guarantee ceiling size) b out = endBad b out
+startLine (L.Control size) b out = endBad b out
+startLine (L.User size) b out = endBad b out
+startLine L.Tick b out = endBad b out
+startLine (L.Close place) b out = endBad b out
+startLine L.BadPoint b out = endBad b out
+startLine L.Bad b out = endBad b out

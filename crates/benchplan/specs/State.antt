@@ -1,0 +1,83 @@
+-- Where the bench's run stands, and what is printed for what the unit answers: number and reply in hex, or -. A bad line prints E and ends.
+-- Assumes nothing.
+use Prim.Native.Nat.{ℕ, _+_}
+use mathlib.Core.List.{List}
+use mathlib.Core.Path.{_≡_, refl, ap}
+use lib.ListN.{length, take, replicate}
+use lib.Dec.{ltb}
+use Rattle.octets.specs.Choice.{pick}
+use Rattle.numerals.specs.Laid.{laid, written, Written, laid-length}
+use Rattle.plan.specs.Limits.{noPlan}
+use Rattle.table.specs.Change.{nobody}
+use Rattle.table.specs.Own.{freshNode}
+use Rattle.timing.specs.declared.Answer.{Answer}
+use Rattle.timing.specs.Timing.{Outcome, held}
+use Rattle.benchtext.specs.Prints.{answerText, badText}
+use Rattle.benchplan.specs.declared.Bench.{Bench}
+
+-- the run, and the output buffer
+pub record Ran : Type 0 where
+  pub bench : Bench
+  pub out : List ℕ
+
+abbrev pub ran : Bench → List ℕ → Ran
+ran b out = record { bench = b; out = out }
+
+-- phases: nothing read, the lines of the plan, the plan taken, ended
+unfoldable pub first : ℕ
+first = 0
+
+unfoldable pub plans : ℕ
+plans = 1
+
+unfoldable pub runs : ℕ
+runs = 2
+
+unfoldable pub over : ℕ
+over = 3
+
+unfoldable pub emptyRun : Bench
+emptyRun = record { phase = first; lines = 0; made = 0; node = freshNode noPlan; table = held (replicate 64 nobody) }
+
+-- what a call gets as its reply buffer
+unfoldable pub lentReply : List ℕ
+lentReply = replicate 128 0
+
+-- ---- parts of it changed
+unfoldable pub counted : ℕ → ℕ
+counted n = pick {A = ℕ} (ltb n 18446744073709551615) (n + 1) n
+
+unfoldable pub withLine : Bench → Bench
+withLine b = record { phase = b .phase; lines = counted (b .lines); made = b .made; node = b .node; table = b .table }
+
+unfoldable pub withMade : ℕ → Bench → Bench
+withMade made b = record { phase = b .phase; lines = b .lines; made = made; node = b .node; table = b .table }
+
+unfoldable pub keptIn : Answer → ℕ → ℕ → Bench → Bench
+keptIn a phase made b = record { phase = phase; lines = b .lines; made = made; node = a .node; table = a .table }
+
+-- ---- printing
+-- text behind what was printed before, and the run that is the outcome, by the place behind the text
+unfoldable pub printed : List ℕ → (ℕ → Bench) → ℕ → List ℕ → Ran
+printed text next made out = ran (next (laid made text out .at)) (laid made text out .out)
+
+-- a bad line prints E and its number, and ends
+unfoldable pub badAt : Bench → ℕ → Bench
+badAt b made = record { phase = over; lines = b .lines; made = made; node = b .node; table = b .table }
+
+unfoldable pub endBad : Bench → List ℕ → Ran
+endBad b out = printed (badText (b .lines)) (badAt b) (b .made) out
+
+-- number and reply
+unfoldable pub answered : ℕ → Outcome → Bench → List ℕ → Ran
+answered phase x b out =
+    printed (answerText (x .answer .number) (take (x .answer .size) (x .reply))) (λ made. keptIn (x .answer) phase made b) (b .made) out
+
+-- ---- laws of the printing
+pub printed-by : (text : List ℕ) (next : ℕ → Bench) (made r : ℕ) (out o : List ℕ) → written r o ≡ laid made text out → ran (next r) o ≡ printed text next made out
+unfolding printed
+printed-by text next made r out o e = ap (λ (w : Written). ran (next (w .at)) (w .out)) e
+
+pub printed-length : (text : List ℕ) (next : ℕ → Bench) (made : ℕ) (out : List ℕ) → length (printed text next made out .out) ≡ length out
+unfolding printed
+printed-length text next made out = laid-length made (laid made text out .at) text out (laid made text out .out) refl
