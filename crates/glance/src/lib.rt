@@ -5,7 +5,7 @@ use session::Request;
 use session::Session;
 use table::Node;
 use table::Table;
-ghost use mathlib.Core.Bool.{false};
+ghost use mathlib.Core.Bool.{false, not};
 ghost use mathlib.Core.List.{map};
 ghost use mathlib.Core.Path.{_≡_};
 ghost use lib.Dec.{eqb};
@@ -13,7 +13,7 @@ ghost use lib.ListN.{drop, length};
 ghost use Rattle.table.specs.Rules.{boundsOf};
 ghost use Rattle.rules.specs.Survey.{waitOf};
 ghost use Rattle.distinct.specs.Lacks.{lacks};
-ghost use Rattle.glance.specs.Digest.{freeDigest, takenDigest, keyIn, markOf};
+ghost use Rattle.glance.specs.Digest.{freeDigest, takenDigest, keyIn, idleIn, markOf};
 ghost use Rattle.glance.specs.Glance.{noGlance, glanceOf, keptOf, standingOf, standsBy, waitingOf, sightOf};
 ghost use Rattle.glance.specs.Over.{entersOf, marksOf, flagsIn, talliedIn, packedIn};
 
@@ -112,6 +112,13 @@ pub fn key_in(d: u64) -> u64
     ensures { λ r. ⌜ r ≡ keyIn d ⌝ }
 {
     d % Glance::KEYS
+}
+
+// Whether a digest's record has a request that is due.
+pub fn due_in(d: u64) -> bool
+    ensures { λ r. ⌜ r ≡ not (idleIn d) ⌝ }
+{
+    (d % Glance::KEYS != 0) & (d / Glance::DUE % 2 != 0)
 }
 
 // Whether x is the key of no digest from a place on. The loop goes over all of them: so it needs no test before its first turn where it is
