@@ -36,7 +36,9 @@ pub extern "C" fn grugavorn_send(node: Node, recs: &mut [Session], reply: &mut [
     ensures { λ r. ⌜ outcome (left r (now (recs .exit))) (now (reply .exit)) ≡ sendOf node (held (now (recs .entry))) (now (reply .entry)) ⌝ }
 {
     let seen = lentrules::seen(node, recs);
-    let p = lentstep::next_due(reply.len(), node, seen);
+    let loud = lentstep::loud(seen);
+    let waits = lentrules::awaited(recs, loud);
+    let p = lentstep::next_due(reply.len(), node, seen, waits);
     let place = lentstep::place_of(p);
     let s = lentedit::read(recs, place);
     let t = lentstep::sent_by(p, node, s);

@@ -30,6 +30,7 @@ use Rattle.timing.specs.Timing.{outcome, leastReply, timed, held, refused, step
 use Rattle.glance.specs.declared.Seen.{Seen}
 use Rattle.glance.specs.Digest.{digestOf, idleIn, idle-in}
 use Rattle.glance.specs.Glance.{standsOf, standsBy, stands-kept}
+use Rattle.lentrules.specs.Read.{readOf}
 use Rattle.lentrules.specs.Kept.{seenOf, seen-digests, seen-idle, seen-waits}
 use Rattle.lentcore.specs.declared.Left.{Left}
 use Rattle.lentcore.specs.Lent.{left}
@@ -45,13 +46,17 @@ dueIn d = not (idleIn d)
 unfoldable pub takenAmong : Node → List ℕ → ℕ
 takenAmong node waits = freeAmong (places + 2) (node .next) (waitOf (node .echo)) waits
 
+-- a place awaits a number
+unfoldable pub loudIn : Seen → Bool
+loudIn v = eqb (v .how) 2
+
 -- who is sent next
-unfoldable pub nextDue : ℕ → Node → Seen → Sending
-nextDue room node v =
+unfoldable pub nextDue : ℕ → Node → Seen → List ℕ → Sending
+nextDue room node v waits =
     pick (ltb room leastReply) (Nothing 1)
     (pick (eqb (v .how) 0) (Nothing 2)
-    (pick (eqb (node .echo .timer) 0) (Echo (takenAmong node (v .waits)))
-    (pick (v .idle) (Nothing 17) (pick (ltb (firstOf dueIn (v .digests)) places) (At (firstOf dueIn (v .digests)) (takenAmong node (v .waits))) (Nothing 17)))))
+    (pick (eqb (node .echo .timer) 0) (Echo (takenAmong node waits))
+    (pick (v .idle) (Nothing 17) (pick (ltb (firstOf dueIn (v .digests)) places) (At (firstOf dueIn (v .digests)) (takenAmong node waits)) (Nothing 17)))))
 
 -- ---- what is done with it
 unfoldable pub placeOf : Sending → ℕ
@@ -96,9 +101,9 @@ module _ (node : Node) (l : List Session) (kept : keepsRules node l ≡ true) wh
   abbrev b : Bounds
   b = boundsOf (node .plan)
 
-  taken-is : takenAmong node (seenOf node l .waits) ≡ takenNumber (node .next) (node .echo) l
-  unfolding takenAmong takenNumber
-  taken-is = rw (seen-waits node l kept) (free-among (places + 2) (node .next) (node .echo) l)
+  taken-is : takenAmong node (readOf (λ z. waitOf (z .own)) (loudIn (seenOf node l)) l) ≡ takenNumber (node .next) (node .echo) l
+  unfolding takenAmong takenNumber loudIn
+  taken-is = rw (seen-waits node l kept (eqb (seenOf node l .how) 2) refl) (free-among (places + 2) (node .next) (node .echo) l)
 
   double : (x : Bool) → not (not x) ≡ x
   double true = refl
@@ -161,16 +166,18 @@ module _ (node : Node) (l zs : List Session) (reply after : List ℕ) (p : Sendi
       let g : after ≡ placeLeft node k s reply .reply = ap (λ (x : Posted). x .reply) q in
       rw (f, g, e-z, e-t, e-s, e-i, e)
 
-  pub lent-send : (v : Seen) → v ≡ seenOf node l → p ≡ nextDue (length reply) node v → outcome (left r zs) after ≡ sendOf node (held l) reply
+  pub lent-send : (v : Seen) (loud : Bool) (waits : List ℕ) → v ≡ seenOf node l → loud ≡ loudIn v → waits ≡ readOf (λ z. waitOf (z .own)) loud l
+      → p ≡ nextDue (length reply) node v waits → outcome (left r zs) after ≡ sendOf node (held l) reply
   unfolding nextDue sendOf dueSent duePlace held
-  lent-send v e-v e-p =
+  lent-send v loud waits e-v e-l e-w e-p =
+      let w : waits ≡ readOf (λ z. waitOf (z .own)) (loudIn (seenOf node l)) l = e-w ∙ rw (e-l, e-v) in
       let q = rw e-v at e-p in
       split (ltb (length reply) leastReply)
       (λ b. rw b (sends-nothing 1 (rw b at q)))
       (λ b. split (keepsRules node l)
       (λ m. let n = kept-long node l m in
       let y = stands-yes node l m in
-      let k = taken-is node l m in
+      let k = ap (takenAmong node) w ∙ taken-is node l m in
       let d = due-is node l m in
       split (eqb (node .echo .timer) 0)
       (λ f. rw (b, m, f) (sends-echo (takenNumber (node .next) (node .echo) l) (rw (b, y, f, k) at q)))

@@ -9,7 +9,7 @@ use table::Table;
 use timing::Answer;
 ghost use mathlib.Core.Path.{_≡_};
 ghost use Rattle.octets.specs.Search.{firstOf};
-ghost use Rattle.lentstep.specs.Send.{dueIn, takenAmong, nextDue, placeOf, sentBy, posted, echoLeft, placeLeft, sendLeft};
+ghost use Rattle.lentstep.specs.Send.{dueIn, takenAmong, loudIn, nextDue, placeOf, sentBy, posted, echoLeft, placeLeft, sendLeft};
 ghost use Rattle.lentstep.specs.Step.{refusal, tickChange, tickCount, tickLeft, closedBy, closeLeft};
 
 // What is sent next: nothing, with the number that says why; or the echo; or the request of a place. The number is that of a first send.
@@ -116,9 +116,16 @@ fn taken(node: Node, waits: &[u64]) -> u32
     tally::free_among(node.next, echo, waits)
 }
 
-// Who is sent next: the echo first, then places upward.
-pub fn next_due(room: usize, node: Node, seen: Seen) -> Sending
-    ensures { λ r. ⌜ r ≡ nextDue room node seen ⌝ }
+// Whether a place awaits a number, in a table that keeps the rules.
+pub fn loud(seen: Seen) -> bool
+    ensures { λ r. ⌜ r ≡ loudIn seen ⌝ }
+{
+    seen.how == 2
+}
+
+// Who is sent next, by what was seen of the records and what they await: the echo first, then places upward.
+pub fn next_due(room: usize, node: Node, seen: Seen, waits: [u64; 64]) -> Sending
+    ensures { λ r. ⌜ r ≡ nextDue room node seen waits ⌝ }
 {
     if room < Answer::LEAST_REPLY {
         return Sending::Nothing(1);
@@ -126,7 +133,6 @@ pub fn next_due(room: usize, node: Node, seen: Seen) -> Sending
     if seen.how == 0 {
         return Sending::Nothing(2);
     }
-    let waits = seen.waits;
     let echo = node.echo;
     if echo.timer == 0 {
         let number = taken(node, &waits);
