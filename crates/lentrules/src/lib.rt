@@ -1,16 +1,19 @@
 // Whether the caller's lent records keep the table rules: they are read where they lie, one number of each, and nothing is copied but
 // these. The walks over the lent slice are proved by hand; all else is covered.
+use glance::Seen;
 use session::Bounds;
 use session::Session;
 use table::Node;
 ghost use mathlib.Core.Bool.{true};
 ghost use mathlib.Core.Path.{_≡_};
-ghost use lib.ListN.{replicate};
+ghost use lib.ListN.{getD, replicate};
+ghost use Rattle.session.specs.Session.{blankAt};
 ghost use Rattle.table.specs.Rules.{keepsRules};
 ghost use Rattle.rules.specs.Survey.{waitOf};
 ghost use Rattle.glance.specs.Digest.{digestOf};
 ghost use Rattle.glance.specs.Glance.{standsOf};
 ghost use Rattle.lentrules.specs.Read.{boundOf, readOf};
+ghost use Rattle.lentrules.specs.Kept.{seenOf};
 
 // How many of a count of lent records are read: all where there are as many as places and they are wanted, else none.
 pub fn bound(wanted: bool, count: usize) -> usize
@@ -35,6 +38,21 @@ pub fn zeros() -> [u64; 64]
     [0; 64]
 }
 
+// The digest of the record at a place; where there is none, that of a free one. The record is read anew on each way, so that each loads
+// only the fields that it tests.
+pub fn digest_at(recs: &[Session], i: usize, b: Bounds) -> u64
+    ensures { λ r. ⌜ r ≡ digestOf b (getD (now (recs .entry)) i (blankAt 0)) ⌝ }
+{
+    if recs.len() <= i {
+        return 0;
+    }
+    let free = Session::is_free(recs[i]);
+    if free {
+        return glance::free_digest(recs[i]);
+    }
+    glance::taken_digest(b, recs[i])
+}
+
 // The digests of the records, zeros where there are not 64.
 pub fn digests(recs: &[Session], b: Bounds) -> [u64; 64]
     ensures { λ r. ⌜ r ≡ readOf (digestOf b) true (now (recs .entry)) ⌝ }
@@ -43,7 +61,7 @@ pub fn digests(recs: &[Session], b: Bounds) -> [u64; 64]
     let mut t = zeros();
     let mut i = 0;
     while i < n {
-        let d = glance::digest(b, recs[i]);
+        let d = digest_at(recs, i, b);
         t[i] = d;
         i += 1;
     }
@@ -65,17 +83,28 @@ pub fn awaited(recs: &[Session], wanted: bool) -> [u64; 64]
     t
 }
 
-// How the records stand: 0 where a rule is broken, 1 where all are kept and no place awaits one, else 2.
-pub fn standing(node: Node, recs: &[Session]) -> u8
-    ensures { λ r. ⌜ r ≡ standsOf node (now (recs .entry)) ⌝ }
+// How the records stand, with what is read of them for it. What they await is read only where one awaits a number.
+pub fn seen(node: Node, recs: &[Session]) -> Seen
+    ensures { λ r. ⌜ r ≡ seenOf node (now (recs .entry)) ⌝ }
 {
     let count = recs.len();
     let b = glance::bounds_of(node);
     let ds = digests(recs, b);
     let g = glance::glance_of(ds);
     let wanted = glance::waiting(g);
-    let waits = awaited(recs, wanted);
-    glance::standing(count, node, g, waits)
+    if wanted {
+        let waits = awaited(recs, wanted);
+        return glance::seen_loud(count, node, g, ds, waits);
+    }
+    glance::seen_quiet(count, node, g, ds)
+}
+
+// How they stand: 0 where a rule is broken, 1 where all are kept and no place awaits one, else 2.
+pub fn standing(node: Node, recs: &[Session]) -> u8
+    ensures { λ r. ⌜ r ≡ standsOf node (now (recs .entry)) ⌝ }
+{
+    let v = seen(node, recs);
+    glance::how_of(v)
 }
 
 // Whether the records keep every rule.
