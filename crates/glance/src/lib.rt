@@ -22,6 +22,14 @@ pub struct Glance {
     pub counts: u64,
 }
 
+// STUB
+pub struct Seen {
+    pub how: u8,
+    pub counts: u64,
+    pub digests: [u64; 64],
+    pub waits: [u64; 64],
+}
+
 // What the records are held to of a node's plan.
 pub fn bounds_of(node: Node) -> Bounds
     ensures { λ r. ⌜ r ≡ boundsOf (node .plan) ⌝ }
@@ -95,6 +103,13 @@ fn lacks(ds: &[u64], x: u64, from: usize) -> bool
         i += 1;
     }
     true
+}
+
+// The key of a digest.
+pub fn key_in(d: u64) -> u64
+    ensures { λ r. ⌜ r ≡ keyIn d ⌝ }
+{
+    d / 64
 }
 
 // The mark of a key.
