@@ -1,5 +1,6 @@
--- The digest of a record: its key, two bits for its access point, and a bit for an awaited number. A free record has 0, and one that
--- is not as the rules want it has 2. Of a good record the digest says what the survey of the rules asks.
+-- The digest of a record: its key in the low 58 bits, then a bit each for a request that is due and for an awaited number, and its access
+-- point in the top two. A free record has 0, and one that is not as the rules want it has every bit, that above the key too. Of a good
+-- record the digest says what the survey of the rules asks.
 -- Assumes nothing.
 use Prim.Native.Nat.{ℕ, zero, suc, _+_, _*_, _/_, _%_, _^_, _<_, _≤_}
 use mathlib.Core.Bool.{Bool, true, false, not, _&&_}
@@ -7,50 +8,105 @@ use mathlib.Core.Path.{_≡_, refl, sym, _∙_, ap}
 use native.Mathlib.Omega.{arith}
 use lib.Bits.{bitOr}
 use lib.Dec.{eqb, leb, ltb}
-use borrow.Author.Tests.{eqb-true, eqb-false, eq-eqb, ne-eqb, ltb-true, leb-true, le-ltb}
-use Rattle.octets.specs.Choice.{pick, split, and-left, and-right, tests}
+use borrow.Author.Tests.{eqb-true, eqb-false, eq-eqb, ne-eqb, ltb-true, leb-true, le-leb, not-true, not-false}
+use Rattle.octets.specs.Choice.{pick, split, impossible, and-left, and-right, tests}
 use Rattle.tunnel.specs.Numbering.{lastUse}
 use Rattle.session.specs.declared.Request.{Request}
 use Rattle.session.specs.declared.Session.{Session}
 use Rattle.session.specs.declared.Bounds.{Bounds}
-use Rattle.session.specs.Request.{lastNumber}
-use Rattle.session.specs.Session.{isFree, blank, recordOk, heldOk, phaseOk, readOk, imsis}
+use Rattle.session.specs.Request.{idle, lastNumber, requestOk}
+use Rattle.session.specs.Session.{isFree, isClosing, isDue, blank, recordOk, heldOk, phaseOk, readOk, imsis, blankAt}
 use Rattle.session.specs.Keep.{live-of}
-use Rattle.session.specs.Phase.{live-phase, record-fails, record-on}
+use Rattle.session.specs.Phase.{live-phase, other-phase}
 use Rattle.session.specs.Wide.{or-none}
-use Rattle.rules.specs.Survey.{keyOf, unit, unit-shift, weightOf, silent}
+use Rattle.rules.specs.Survey.{keyOf, unit, weightOf, silent}
 
--- what is behind the key: the access point and whether a number is awaited
-unfoldable pub restOf : Session → ℕ
-restOf s = s .point % 4 * 16 + pick {A = ℕ} (silent s) 0 1
+-- what is above the key: whether its request is due, whether it awaits a number, and the access point
+unfoldable pub flagsOf : Session → ℕ
+flagsOf s = pick {A = ℕ} (isDue s) 576460752303423488 0 + pick {A = ℕ} (silent s) 0 1152921504606846976 + s .point % 4 * 4611686018427387904
+
+-- every bit
+unfoldable pub spoilt : ℕ
+spoilt = 18446744073709551615
 
 unfoldable pub digestOf : Bounds → Session → ℕ
-digestOf b s = pick {A = ℕ} (recordOk b s) (pick {A = ℕ} (isFree s) 0 (keyOf s % 288230376151711744 * 64 + restOf s)) 2
+digestOf b s = pick {A = ℕ} (recordOk b s) (pick {A = ℕ} (isFree s) 0 (keyOf s % 288230376151711744 + flagsOf s)) spoilt
+
+-- the two ways to it, by whether the record is free
+unfoldable pub freeDigest : Session → ℕ
+freeDigest s = pick {A = ℕ} (leb (s .usage) lastUse && blank s) 0 spoilt
+
+unfoldable pub takenDigest : Bounds → Session → ℕ
+takenDigest b s = pick {A = ℕ} (leb (s .usage) lastUse && (heldOk b s && phaseOk b s)) (keyOf s % 288230376151711744 + flagsOf s) spoilt
+
+pub digest-free : (b : Bounds) (s : Session) → isFree s ≡ true → freeDigest s ≡ digestOf b s
+unfolding digestOf freeDigest recordOk
+digest-free b s n = rw n
+
+pub digest-taken : (b : Bounds) (s : Session) → isFree s ≡ false → takenDigest b s ≡ digestOf b s
+unfolding digestOf takenDigest recordOk
+digest-taken b s n = rw n
+
+-- a place that was never taken
+pub digest-blank : (b : Bounds) → 0 ≡ digestOf b (blankAt 0)
+unfolding digestOf recordOk isFree blank blankAt lastUse idle
+digest-blank b = refl
 
 -- a live record's request: none is under way
 unfoldable pub restsOk : Request → Bool
 restsOk r = leb (r .number) lastNumber && eqb (r .sends) 0 && eqb (r .timer) 0
 
-pub rests-bits : (r : Request) → (leb (r .number) lastNumber && eqb (bitOr (r .sends) (r .timer)) 0) ≡ restsOk r
-unfolding restsOk
-rests-bits r = rw (or-none (r .sends) (r .timer)) (split (leb (r .number) lastNumber) (λ e. rw e) (λ e. rw e))
+-- the same as the test of one number: the bits of the number above its range, the sends and the timer
+pub rests-bits : (r : Request) → eqb (bitOr (bitOr (r .number / 8388608 * 36028797018963968) (r .sends * 256)) (r .timer)) 0 ≡ restsOk r
+unfolding restsOk lastNumber
+rests-bits r = rw (or-none (bitOr (r .number / 8388608 * 36028797018963968) (r .sends * 256)) (r .timer), or-none (r .number / 8388608 * 36028797018963968) (r .sends * 256), range, sends)
+  where
+    range : eqb (r .number / 8388608 * 36028797018963968) 0 ≡ leb (r .number) 8388607
+    range = split (leb (r .number) 8388607)
+        (λ e. let h = leb-true (r .number) 8388607 e in rw e (eq-eqb (r .number / 8388608 * 36028797018963968) 0 (omega arith)))
+        (λ e. rw e (ne-eqb (r .number / 8388608 * 36028797018963968) 0 (λ z. impossible (sym e ∙ le-leb (r .number) 8388607 (omega arith)))))
+
+    sends : eqb (r .sends * 256) 0 ≡ eqb (r .sends) 0
+    sends = split (eqb (r .sends) 0)
+        (λ e. let h = eqb-true (r .sends) 0 e in rw e (eq-eqb (r .sends * 256) 0 (omega arith)))
+        (λ e. let h = eqb-false (r .sends) 0 e in rw e (ne-eqb (r .sends * 256) 0 (λ z. h (omega arith))))
 
 -- ---- what is read off a digest
 abbrev pub keyIn : ℕ → ℕ
-keyIn d = d / 64
+keyIn d = d % 288230376151711744
+
+abbrev pub pointIn : ℕ → ℕ
+pointIn d = d / 4611686018427387904
 
 unfoldable pub weightIn : ℕ → ℕ
-weightIn d = pick {A = ℕ} (ltb d 64) 0 (unit (d / 16 % 4))
+weightIn d = pick {A = ℕ} (eqb (keyIn d) 0) 0 (unit (pointIn d))
 
+-- a bit is not set, or the digest has no key: it is that of a free place
+abbrev pub clear : ℕ → ℕ → Bool
+clear bit d = eqb (d / bit % 2) 0
+
+unfoldable pub unset : ℕ → ℕ → Bool
+unset bit d = pick (eqb (keyIn d) 0) true (clear bit d)
+
+-- no number is awaited
 abbrev pub quietIn : ℕ → Bool
-quietIn d = eqb (d % 2) 0
+quietIn d = unset 1152921504606846976 d
+
+-- nothing is due
+abbrev pub idleIn : ℕ → Bool
+idleIn d = unset 576460752303423488 d
 
 abbrev pub goodIn : ℕ → Bool
-goodIn d = eqb (d / 2 % 2) 0
+goodIn d = unset 288230376151711744 d
 
 -- the place of a key's mark among 1,024
 unfoldable pub markOf : ℕ → ℕ
 markOf x = x % 4294967296 * 2654435769 % 4294967296 / 4194304
+
+-- it is in the low 32 bits of the digest
+pub mark-key : (d : ℕ) → markOf (keyIn d) ≡ markOf d
+unfolding markOf
+mark-key d = let e : keyIn d % 4294967296 ≡ d % 4294967296 = omega arith in rw e
 
 pub mark-small : (x : ℕ) → markOf x < 1024
 unfolding markOf
@@ -74,18 +130,14 @@ point-range b s f e n =
     let p : ltb (s .point) (b .parties) ≡ true = search (and-left, and-right) depth 9 in
     omega (arith, tests)
 
-quiet-rest : (s : Session) → silent s ≡ true → restOf s ≡ s .point % 4 * 16
-unfolding restOf
-quiet-rest s e = rw e (omega arith)
-
-loud-rest : (s : Session) → silent s ≡ false → restOf s ≡ s .point % 4 * 16 + 1
-unfolding restOf
-loud-rest s e = rw e
-
-rest-range : (s : Session) → (s .point % 4 * 16 ≤ restOf s) × (restOf s ≤ s .point % 4 * 16 + 1)
-rest-range s = split (silent s)
-    (λ e. let r = quiet-rest s e in (omega arith, omega arith))
-    (λ e. let r = loud-rest s e in (omega arith, omega arith))
+-- each flag is a bit of its own
+flags-parts : (s : Session) → (flagsOf s / 288230376151711744 % 2 ≡ 0) × ((flagsOf s / 576460752303423488 % 2 ≡ pick {A = ℕ} (isDue s) 1 0)
+    × ((flagsOf s / 1152921504606846976 % 2 ≡ pick {A = ℕ} (silent s) 0 1) × ((flagsOf s / 4611686018427387904 ≡ s .point % 4) × (flagsOf s % 288230376151711744 ≡ 0))))
+unfolding flagsOf
+flags-parts s =
+    split (isDue s)
+    (λ d. split (silent s) (λ q. rw (d, q) (omega arith, (omega arith, (omega arith, (omega arith, omega arith))))) (λ q. rw (d, q) (omega arith, (omega arith, (omega arith, (omega arith, omega arith))))))
+    (λ d. split (silent s) (λ q. rw (d, q) (omega arith, (omega arith, (omega arith, (omega arith, omega arith))))) (λ q. rw (d, q) (omega arith, (omega arith, (omega arith, (omega arith, omega arith))))))
 
 free-silent : (b : Bounds) (s : Session) → recordOk b s ≡ true → isFree s ≡ true → silent s ≡ true
 unfolding recordOk blank silent
@@ -94,29 +146,30 @@ free-silent b s e n =
     let g : blank s ≡ true = and-right (leb (s .usage) lastUse) (blank s) f in
     search (and-left, and-right) depth 12
 
+free-idle : (s : Session) → isFree s ≡ true → isDue s ≡ false
+unfolding isDue isClosing isFree
+free-idle s n = let z = eqb-true (s .state) 0 n in rw z
+
 -- what the digest of a session is made of
 module _ (b : Bounds) (s : Session) (ok : recordOk b s ≡ true) (taken : isFree s ≡ false) where
-  pub digest-is : digestOf b s ≡ keyOf s * 64 + restOf s
+  pub digest-is : digestOf b s ≡ keyOf s + flagsOf s
   unfolding digestOf
   digest-is = let k = key-range b s ok taken .0 in let m : keyOf s % 288230376151711744 ≡ keyOf s = omega arith in rw (ok, taken, m)
 
-  digest-large : ltb (digestOf b s) 64 ≡ false
-  digest-large = let k = key-range b s ok taken .1 in let d = digest-is in le-ltb (digestOf b s) 64 (omega arith)
+  key-part : keyIn (digestOf b s) ≡ keyOf s
+  key-part = let d = digest-is in let k = key-range b s ok taken .0 in let f = flags-parts s .1 .1 .1 .1 in omega arith
 
-  key-part : digestOf b s / 64 ≡ keyOf s
-  key-part = let d = digest-is in let r = rest-range s in omega arith
+  point-part : b .parties ≤ 4 → pointIn (digestOf b s) ≡ s .point
+  point-part four = let d = digest-is in let k = key-range b s ok taken .0 in let f = flags-parts s .1 .1 .1 .0 in let z = flags-parts s .1 .1 .1 .1 in let p = point-range b s four ok taken in omega arith
 
-  point-part : b .parties ≤ 4 → digestOf b s / 16 % 4 ≡ s .point
-  point-part four = let d = digest-is in let r = rest-range s in let p = point-range b s four ok taken in omega arith
+  silent-part : digestOf b s / 1152921504606846976 % 2 ≡ pick {A = ℕ} (silent s) 0 1
+  silent-part = let d = digest-is in let k = key-range b s ok taken .0 in let f = flags-parts s .1 .1 .0 in let z = flags-parts s .1 .1 .1 .1 in omega arith
 
-  even : silent s ≡ true → digestOf b s % 2 ≡ 0
-  even e = let d = digest-is in let r = quiet-rest s e in omega arith
+  due-part : digestOf b s / 576460752303423488 % 2 ≡ pick {A = ℕ} (isDue s) 1 0
+  due-part = let d = digest-is in let k = key-range b s ok taken .0 in let f = flags-parts s .1 .0 in let z = flags-parts s .1 .1 .1 .1 in omega arith
 
-  odd : silent s ≡ false → digestOf b s % 2 ≡ 0 → ⊥
-  odd e z = let d = digest-is in let r = loud-rest s e in omega arith
-
-  second : digestOf b s / 2 % 2 ≡ 0
-  second = let d = digest-is in let r = rest-range s in omega arith
+  good-part : digestOf b s / 288230376151711744 % 2 ≡ 0
+  good-part = let d = digest-is in let k = key-range b s ok taken .0 in let f = flags-parts s .0 in let z = flags-parts s .1 .1 .1 .1 in omega arith
 
 free-none : (b : Bounds) (s : Session) → recordOk b s ≡ true → isFree s ≡ true → digestOf b s ≡ 0
 unfolding digestOf
@@ -130,61 +183,45 @@ module _ (b : Bounds) (s : Session) (ok : recordOk b s ≡ true) where
   pub key-in : keyIn (digestOf b s) ≡ keyOf s
   key-in = split (isFree s) (λ n. rw (free-none b s ok n, free-key s n)) (λ n. key-part b s ok n)
 
+  -- a free record has 0, no other has
+  pub free-in : eqb (digestOf b s) 0 ≡ isFree s
+  free-in = split (isFree s) (λ n. rw (free-none b s ok n, n))
+      (λ n. let k = key-range b s ok n .1 in let d = digest-is b s ok n in rw n (ne-eqb (digestOf b s) 0 (λ z. omega arith)))
+
+  -- a bit of a taken one
+  bit-in : (bit : ℕ) → isFree s ≡ false → unset bit (digestOf b s) ≡ clear bit (digestOf b s)
+  unfolding unset
+  bit-in bit n = let k = key-range b s ok n .1 in rw (key-part b s ok n, ne-eqb (keyOf s) 0 (λ y. omega arith))
+
+  none-in : (bit : ℕ) → isFree s ≡ true → unset bit (digestOf b s) ≡ true
+  unfolding unset
+  none-in bit n = rw (free-none b s ok n)
+
   pub quiet-in : quietIn (digestOf b s) ≡ silent s
-  quiet-in = split (isFree s) (λ n. rw (free-none b s ok n, free-silent b s ok n))
-      (λ n. split (silent s) (λ e. rw e (eq-eqb (digestOf b s % 2) 0 (even b s ok n e))) (λ e. rw e (ne-eqb (digestOf b s % 2) 0 (odd b s ok n e))))
+  quiet-in = split (isFree s) (λ n. none-in 1152921504606846976 n ∙ sym (free-silent b s ok n))
+      (λ n. bit-in 1152921504606846976 n ∙ rw (silent-part b s ok n) (split (silent s) (λ e. rw e) (λ e. rw e)))
+
+  pub idle-in : idleIn (digestOf b s) ≡ not (isDue s)
+  idle-in = split (isFree s) (λ n. rw (none-in 576460752303423488 n, free-idle s n))
+      (λ n. bit-in 576460752303423488 n ∙ rw (due-part b s ok n) (split (isDue s) (λ e. rw e) (λ e. rw e)))
 
   pub weight-in : b .parties ≤ 4 → weightIn (digestOf b s) ≡ weightOf s
   unfolding weightIn weightOf
-  weight-in four = split (isFree s) (λ n. rw (free-none b s ok n, n)) (λ n. rw (digest-large b s ok n, n) (ap unit (point-part b s ok n four)))
+  weight-in four = split (isFree s) (λ n. rw (free-none b s ok n, n))
+      (λ n. let k = key-range b s ok n .1 in
+      let z : eqb (keyIn (digestOf b s)) 0 ≡ false = rw (key-part b s ok n) (ne-eqb (keyOf s) 0 (λ y. omega arith)) in
+      rw (z, n) (ap unit (point-part b s ok n four)))
 
-bad-two : (b : Bounds) (s : Session) → recordOk b s ≡ false → digestOf b s ≡ 2
+bad-spoilt : (b : Bounds) (s : Session) → recordOk b s ≡ false → digestOf b s ≡ spoilt
 unfolding digestOf
-bad-two b s e = rw e
+bad-spoilt b s e = rw e
+
+spoilt-bad : goodIn spoilt ≡ false
+unfolding spoilt unset
+spoilt-bad = refl
 
 pub good-in : (b : Bounds) (s : Session) → goodIn (digestOf b s) ≡ recordOk b s
 good-in b s = split (recordOk b s)
-    (λ e. rw e (split (isFree s) (λ n. rw (free-none b s e n)) (λ n. eq-eqb (digestOf b s / 2 % 2) 0 (second b s e n))))
-    (λ e. rw (bad-two b s e, e))
-
--- ---- the digest by the tests that make it, in their order
-module _ (b : Bounds) (s : Session) where
-  pub digest-free : s .state ≡ 0 → (leb (s .usage) lastUse && blank s) ≡ true → digestOf b s ≡ 0
-  unfolding digestOf recordOk isFree
-  digest-free n e = rw (eq-eqb (s .state) 0 n, e)
-
-  pub digest-spoilt : s .state ≡ 0 → (leb (s .usage) lastUse && blank s) ≡ false → digestOf b s ≡ 2
-  unfolding digestOf recordOk isFree
-  digest-spoilt n e = rw (eq-eqb (s .state) 0 n, e)
-
-  module _ (taken : s .state ≡ 0 → ⊥) (held : Bool) (is : held ≡ heldOk b s) where
-    pub digest-unheld : not (leb (s .usage) lastUse && held) ≡ true → digestOf b s ≡ 2
-    digest-unheld e = bad-two b s (record-fails b s held taken is e)
-
-    module _ (on : not (leb (s .usage) lastUse && held) ≡ false) where
-      made : phaseOk b s ≡ true → digestOf b s ≡ keyOf s % 288230376151711744 * 64 + restOf s
-      unfolding digestOf isFree
-      made fits = rw (record-on b s held taken is on ∙ fits, ne-eqb (s .state) 0 taken)
-
-      pub digest-still : phaseOk b s ≡ true → s .own .sends ≡ 0 → digestOf b s ≡ keyOf s % 288230376151711744 * 64 + s .point % 4 * 16
-      unfolding silent
-      digest-still fits e = made fits ∙ rw (quiet-rest s (eq-eqb (s .own .sends) 0 e))
-
-      pub digest-loud : phaseOk b s ≡ true → (s .own .sends ≡ 0 → ⊥) → digestOf b s ≡ keyOf s % 288230376151711744 * 64 + s .point % 4 * 16 + 1
-      unfolding silent
-      digest-loud fits e = made fits ∙ rw (loud-rest s (ne-eqb (s .own .sends) 0 e)) (omega arith)
-
-      -- of a live record
-      module _ (live : s .state ≡ 1) where
-        pub digest-unrest : restsOk (s .own) ≡ false → digestOf b s ≡ 2
-        unfolding restsOk
-        digest-unrest e = bad-two b s (record-on b s held taken is on ∙ live-phase b s live ∙ e)
-
-        pub digest-rests : restsOk (s .own) ≡ true → digestOf b s ≡ keyOf s % 288230376151711744 * 64 + s .point % 4 * 16
-        unfolding restsOk
-        digest-rests e =
-            let z : eqb (s .own .sends) 0 ≡ true = search (and-left, and-right) in
-            digest-still (live-phase b s live ∙ e) (eqb-true (s .own .sends) 0 z)
-
-      pub digest-unfit : phaseOk b s ≡ false → digestOf b s ≡ 2
-      digest-unfit e = bad-two b s (record-on b s held taken is on ∙ e)
+    (λ e. rw e (split (isFree s) (λ n. none-in b s e 288230376151711744 n)
+    (λ n. bit-in b s e 288230376151711744 n ∙ eq-eqb (digestOf b s / 288230376151711744 % 2) 0 (good-part b s e n))))
+    (λ e. rw (bad-spoilt b s e, e) spoilt-bad)

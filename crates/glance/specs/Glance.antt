@@ -7,7 +7,6 @@ use mathlib.Core.Path.{_≡_, refl, sym, _∙_, ap}
 use native.Mathlib.Omega.{arith}
 use lib.ListN.{length, getD}
 use lib.Dec.{eqb, leb}
-use lib.Bits.{bitOr, or-mod, or-shr}
 use borrow.Author.Tests.{eqb-true, eq-eqb}
 use Rattle.octets.specs.Choice.{pick, split, impossible, and-left, and-right, and-no}
 use Rattle.octets.specs.Every.{every}
@@ -19,23 +18,22 @@ use Rattle.distinct.specs.Apart.{noneClash, pairwise, sameKey}
 use Rattle.session.specs.declared.Session.{Session}
 use Rattle.session.specs.declared.Bounds.{Bounds}
 use Rattle.session.specs.Request.{lastNumber, requestOk}
-use Rattle.session.specs.Session.{recordOk}
-use Rattle.session.specs.Wide.{or-none}
+use Rattle.session.specs.Session.{isDue, recordOk}
 use Rattle.table.specs.declared.Node.{Node}
 use Rattle.table.specs.Rules.{boundsOf, keepsRules, rules-of}
 use Rattle.rules.specs.declared.Survey.{Survey}
 use Rattle.rules.specs.Survey.{keyOf, waitOf, weightOf, silent, waitsOf, noSurvey, surveyOf}
 use Rattle.rules.specs.Check.{unpackedOf, parties-four, waits-keys, checked, checked-is, checked-bad, checked-quiet}
 use Rattle.glance.specs.declared.Glance.{Glance}
-use Rattle.glance.specs.Digest.{digestOf, keyIn, weightIn, quietIn, goodIn, key-in, quiet-in, weight-in, good-in}
+use Rattle.glance.specs.Digest.{digestOf, keyIn, weightIn, quietIn, idleIn, goodIn, key-in, quiet-in, idle-in, weight-in, good-in}
 
 unfoldable pub noGlance : Glance
-noGlance = record { good = false; quiet = false; counts = 0 }
+noGlance = record { good = false; quiet = false; idle = false; counts = 0 }
 
 unfoldable pub glanceOf : List ℕ → Glance
 glanceOf ds =
     pick (pairwise sameKey (map keyIn ds))
-    (record { good = every goodIn ds; quiet = every quietIn ds; counts = sumOf weightIn ds })
+    (record { good = every goodIn ds; quiet = every quietIn ds; idle = every idleIn ds; counts = sumOf weightIn ds })
     noGlance
 
 unfoldable pub waitingOf : Glance → Bool
@@ -69,13 +67,6 @@ pub stands-kept : (node : Node) (l : List Session) → standsBy (standsOf node l
 unfolding standsBy standsOf
 stands-kept node l = split (keepsRules node l) (λ k. split (every silent l) (λ q. rw (k, q)) (λ q. rw (k, q))) (λ k. rw k)
 
--- ---- bits of all digests together
-pub quiet-both : (d f : ℕ) → quietIn (bitOr d f) ≡ (quietIn d && quietIn f)
-quiet-both d f = rw (or-mod d f 1) (or-none (d % 2) (f % 2))
-
-pub good-both : (d f : ℕ) → goodIn (bitOr d f) ≡ (goodIn d && goodIn f)
-good-both d f = rw (or-shr d f 1, or-mod (d / 2) (f / 2) 1) (or-none (d / 2 % 2) (f / 2 % 2))
-
 -- ---- the digests of a list of records
 module _ (b : Bounds) where
   goods : (l : List Session) → every goodIn (map (digestOf b) l) ≡ every (recordOk b) l
@@ -87,6 +78,11 @@ module _ (b : Bounds) where
   unfolding every
   quiets [] e = refl
   quiets (s ∷ l) e = rw (quiet-in b s (and-left (recordOk b s) (every (recordOk b) l) e), quiets l (and-right (recordOk b s) (every (recordOk b) l) e))
+
+  idles : (l : List Session) → every (recordOk b) l ≡ true → every idleIn (map (digestOf b) l) ≡ every (λ s. not (isDue s)) l
+  unfolding every
+  idles [] e = refl
+  idles (s ∷ l) e = rw (idle-in b s (and-left (recordOk b s) (every (recordOk b) l) e), idles l (and-right (recordOk b s) (every (recordOk b) l) e))
 
   keys : (l : List Session) → every (recordOk b) l ≡ true → map keyIn (map (digestOf b) l) ≡ map keyOf l
   unfolding every
@@ -118,9 +114,9 @@ module _ (node : Node) (l : List Session) (waits : List ℕ) (planned : accepted
   bad-rules e = checked-bad node l planned size (rw e)
 
   module _ (each : every (recordOk b) l ≡ true) where
-    good-seen : seen ≡ pick (pairwise sameKey (map keyOf l)) (record { good = true; quiet = every silent l; counts = sumOf weightOf l }) noGlance
+    good-seen : seen ≡ pick (pairwise sameKey (map keyOf l)) (record { good = true; quiet = every silent l; idle = every (λ s. not (isDue s)) l; counts = sumOf weightOf l }) noGlance
     unfolding glanceOf
-    good-seen = rw (keys b l each, goods b l, quiets b l each, weights b few l each, each)
+    good-seen = rw (keys b l each, goods b l, quiets b l each, idles b l each, weights b few l each, each)
 
     -- a key twice
     twice-seen : pairwise sameKey (map keyOf l) ≡ false → seen .good ≡ false
@@ -132,7 +128,7 @@ module _ (node : Node) (l : List Session) (waits : List ℕ) (planned : accepted
     twice-rules p = sym (checked-is node l planned size) ∙ rw (each, p)
 
     module _ (apart : pairwise sameKey (map keyOf l) ≡ true) where
-      apart-seen : seen ≡ record { good = true; quiet = every silent l; counts = sumOf weightOf l }
+      apart-seen : seen ≡ record { good = true; quiet = every silent l; idle = every (λ s. not (isDue s)) l; counts = sumOf weightOf l }
       apart-seen = good-seen ∙ rw apart
 
       same-check : fromCounts node (seen .counts) ≡ checked node (surveyOf b l)

@@ -1,3 +1,4 @@
 pub mod Digest
+pub mod Ways
 pub mod Glance
 pub mod Over

@@ -8,19 +8,21 @@ use mathlib.Core.Path.{_≡_, refl, sym, _∙_, ap}
 use native.Mathlib.Omega.{arith}
 use lib.ListN.{length, getD, drop, set, length-map, length-set}
 use lib.Seq.{getD-set-same, getD-set-other}
-use lib.Dec.{eqb, ltb}
-use lib.Bits.{bitOr}
-use borrow.Author.Tests.{eqb-true, eqb-false, ne-eqb, lt-ltb}
-use Rattle.octets.specs.Choice.{pick, split, impossible}
+use lib.Dec.{eqb, leb}
+use lib.Bits.{bitOr, or-mod, or-shr}
+use mir.Val.{boolByte}
+use borrow.Author.Tests.{eqb-true, eqb-false, ne-eqb, leb-true, leb-false, le-leb}
+use Rattle.octets.specs.Choice.{pick, split, impossible, and-left, and-right}
 use Rattle.octets.specs.Every.{every, everyRest, rest-fails}
 use Rattle.octets.specs.Places.{next-of, map-at}
-use Rattle.octets.specs.Sums.{sumOf}
+use Rattle.octets.specs.Sums.{sumOf, countOf, count-most}
 use Rattle.distinct.specs.Apart.{noneClash, pairwise, sameKey}
 use Rattle.distinct.specs.Lacks.{lacks, lacks-hit, lacks-on, lacks-end, none-same, none-zero}
-use Rattle.rules.specs.Survey.{unit, unit-most}
+use Rattle.session.specs.Wide.{or-none}
+use Rattle.rules.specs.Survey.{unit}
 use Rattle.glance.specs.declared.Glance.{Glance}
-use Rattle.glance.specs.Digest.{keyIn, weightIn, quietIn, goodIn, markOf, mark-small}
-use Rattle.glance.specs.Glance.{noGlance, glanceOf, quiet-both, good-both}
+use Rattle.glance.specs.Digest.{keyIn, pointIn, weightIn, clear, unset, quietIn, idleIn, goodIn, markOf, mark-small}
+use Rattle.glance.specs.Glance.{noGlance, glanceOf}
 
 pub record Marked (marks l : List ℕ) : Type 0 where
   pub new : (x : ℕ) → (x ≡ 0 → ⊥) → getD marks (markOf x) 0 ≡ 0 → lacks x l ≡ true
@@ -58,47 +60,141 @@ pub length-marks : (x : ℕ) (marks : List ℕ) → length (marksOf x marks) ≡
 unfolding marksOf
 length-marks x marks = split (eqb x 0) (λ e. rw e) (λ e. split (eqb (getD marks (markOf x) 0) 0) (λ f. rw (e, f) (length-set marks (markOf x) 1)) (λ f. rw (e, f)))
 
-pub record Over (es marks : List ℕ) (flags counts : ℕ) : Type 0 where
+-- ---- flags and counts of the digests that have a key
+unfoldable pub flagsIn : ℕ → ℕ → ℕ
+flagsIn d flags = pick {A = ℕ} (eqb (keyIn d) 0) flags (bitOr d flags)
+
+clear-both : (d f : ℕ) → (clear 1152921504606846976 (bitOr d f) ≡ (clear 1152921504606846976 d && clear 1152921504606846976 f))
+    × ((clear 576460752303423488 (bitOr d f) ≡ (clear 576460752303423488 d && clear 576460752303423488 f))
+    × (clear 288230376151711744 (bitOr d f) ≡ (clear 288230376151711744 d && clear 288230376151711744 f)))
+clear-both d f = (
+  rw (or-shr d f 60, or-mod (d / 1152921504606846976) (f / 1152921504606846976) 1) (or-none (d / 1152921504606846976 % 2) (f / 1152921504606846976 % 2)),
+  (
+    rw (or-shr d f 59, or-mod (d / 576460752303423488) (f / 576460752303423488) 1) (or-none (d / 576460752303423488 % 2) (f / 576460752303423488 % 2)),
+    rw (or-shr d f 58, or-mod (d / 288230376151711744) (f / 288230376151711744) 1) (or-none (d / 288230376151711744 % 2) (f / 288230376151711744 % 2)),
+  ),
+)
+
+-- a bit that is gathered so
+gathered : (bit : ℕ) → ((d f : ℕ) → clear bit (bitOr d f) ≡ (clear bit d && clear bit f)) → (d flags : ℕ) (rest : Bool)
+    → clear bit flags ≡ rest → clear bit (flagsIn d flags) ≡ (unset bit d && rest)
+unfolding flagsIn unset
+gathered bit both d flags rest e = split (eqb (keyIn d) 0) (λ k. rw (k, e)) (λ k. rw (k, both d flags, e))
+
+-- a digest with a key is one for its access point
+unfoldable pub onIn : ℕ → ℕ → Bool
+onIn a d = not (eqb (keyIn d) 0) && eqb (pointIn d) a
+
+unfoldable pub talliesOf : List ℕ → List ℕ
+talliesOf es = countOf (onIn 0) es ∷ countOf (onIn 1) es ∷ countOf (onIn 2) es ∷ countOf (onIn 3) es ∷ []
+
+unfoldable pub talliedIn : ℕ → List ℕ → List ℕ
+talliedIn d us = pick (eqb (keyIn d) 0) us (set us (pointIn d) ((getD us (pointIn d) 0 + 1) % 18446744073709551616))
+
+unfoldable pub packedIn : List ℕ → ℕ
+packedIn us = getD us 0 0 % 65536 + getD us 1 0 % 65536 * 65536 + getD us 2 0 % 65536 * 4294967296 + getD us 3 0 % 65536 * 281474976710656
+
+pub length-tallied : (d : ℕ) (us : List ℕ) → length (talliedIn d us) ≡ length us
+unfolding talliedIn
+length-tallied d us = split (eqb (keyIn d) 0) (λ e. rw e) (λ e. rw e (length-set us (pointIn d) ((getD us (pointIn d) 0 + 1) % 18446744073709551616)))
+
+more-none : (n : ℕ) → 0 + n ≡ n
+more-none n = omega arith
+
+more-one : (n : ℕ) → n ≤ 64 → (n + 1) % 18446744073709551616 ≡ 1 + n
+more-one n h = omega arith
+
+tallied-more : (d : ℕ) (es : List ℕ) → length es ≤ 64 → talliedIn d (talliesOf es) ≡ talliesOf (d ∷ es)
+unfolding talliedIn talliesOf onIn sumOf
+tallied-more d es n = split (eqb (keyIn d) 0)
+    (λ k. rw (k, more-none (countOf (onIn 0) es), more-none (countOf (onIn 1) es), more-none (countOf (onIn 2) es), more-none (countOf (onIn 3) es)))
+    (λ k. first k ∙ one k (pointIn d) refl)
+  where
+    first : eqb (keyIn d) 0 ≡ false → talliedIn d (talliesOf es) ≡ set (talliesOf es) (pointIn d) ((getD (talliesOf es) (pointIn d) 0 + 1) % 18446744073709551616)
+    first k = rw k
+
+    most : (a : ℕ) → countOf (onIn a) es ≤ 64
+    most a = let m = count-most (onIn a) es in omega arith
+
+    one : eqb (keyIn d) 0 ≡ false → (p : ℕ) → pointIn d ≡ p → set (talliesOf es) p ((getD (talliesOf es) p 0 + 1) % 18446744073709551616) ≡ talliesOf (d ∷ es)
+    one k zero e =
+        rw (k, e, more-one (countOf (onIn 0) es) (most 0), more-none (countOf (onIn 1) es), more-none (countOf (onIn 2) es), more-none (countOf (onIn 3) es))
+    one k (suc zero) e =
+        rw (k, e, more-one (countOf (onIn 1) es) (most 1), more-none (countOf (onIn 0) es), more-none (countOf (onIn 2) es), more-none (countOf (onIn 3) es))
+    one k (suc (suc zero)) e =
+        rw (k, e, more-one (countOf (onIn 2) es) (most 2), more-none (countOf (onIn 0) es), more-none (countOf (onIn 1) es), more-none (countOf (onIn 3) es))
+    one k (suc (suc (suc zero))) e =
+        rw (k, e, more-one (countOf (onIn 3) es) (most 3), more-none (countOf (onIn 0) es), more-none (countOf (onIn 1) es), more-none (countOf (onIn 2) es))
+    one k (suc (suc (suc (suc p)))) e =
+        rw (
+          k,
+          ne-eqb (pointIn d) 0 (λ z. omega arith),
+          ne-eqb (pointIn d) 1 (λ z. omega arith),
+          ne-eqb (pointIn d) 2 (λ z. omega arith),
+          ne-eqb (pointIn d) 3 (λ z. omega arith),
+          more-none (countOf (onIn 0) es),
+          more-none (countOf (onIn 1) es),
+          more-none (countOf (onIn 2) es),
+          more-none (countOf (onIn 3) es),
+        )
+
+weight-tally : (d : ℕ) → weightIn d ≡ boolByte (onIn 0 d) + 65536 * boolByte (onIn 1 d) + 4294967296 * boolByte (onIn 2 d) + 281474976710656 * boolByte (onIn 3 d)
+unfolding weightIn unit onIn
+weight-tally d =
+    split (eqb (keyIn d) 0) (λ n. rw n (omega arith))
+    (λ n. split (eqb (pointIn d) 0) (λ e. rw (n, eqb-true (pointIn d) 0 e) (omega arith))
+    (λ e. split (eqb (pointIn d) 1) (λ f. rw (n, eqb-true (pointIn d) 1 f) (omega arith))
+    (λ f. split (eqb (pointIn d) 2) (λ g. rw (n, eqb-true (pointIn d) 2 g) (omega arith))
+    (λ g. split (eqb (pointIn d) 3) (λ h. rw (n, eqb-true (pointIn d) 3 h) (omega arith)) (λ h. rw (n, e, f, g, h) (omega arith))))))
+
+weights-tally : (es : List ℕ) → sumOf weightIn es ≡ countOf (onIn 0) es + 65536 * countOf (onIn 1) es + 4294967296 * countOf (onIn 2) es + 281474976710656 * countOf (onIn 3) es
+unfolding sumOf
+weights-tally [] = omega arith
+weights-tally (d ∷ es) = let w = weight-tally d in let r = weights-tally es in omega arith
+
+packed-tallies : (es : List ℕ) → length es ≤ 64 → packedIn (talliesOf es) ≡ sumOf weightIn es
+unfolding packedIn talliesOf
+packed-tallies es n =
+    let w = weights-tally es in
+    let a = count-most (onIn 0) es in
+    let b = count-most (onIn 1) es in
+    let c = count-most (onIn 2) es in
+    let d = count-most (onIn 3) es in
+    omega arith
+
+pub record Over (es marks : List ℕ) (flags : ℕ) (tallies : List ℕ) : Type 0 where
   pub apart : pairwise sameKey (map keyIn es) ≡ true
   pub marked : Marked marks (map keyIn es)
-  pub quiet : quietIn flags ≡ every quietIn es
-  pub good : goodIn flags ≡ every goodIn es
-  pub counted : counts ≡ sumOf weightIn es
-  pub few : counts ≤ length es * 281474976710656
+  pub quiet : clear 1152921504606846976 flags ≡ every quietIn es
+  pub idle : clear 576460752303423488 flags ≡ every idleIn es
+  pub good : clear 288230376151711744 flags ≡ every goodIn es
+  pub tallied : tallies ≡ talliesOf es
 
-pub over-none : (marks : List ℕ) → Over [] marks 0 0
-unfolding pairwise everyRest lacks every sumOf
-over-none marks = record { apart = refl; marked = record { new = λ x h e. refl }; quiet = refl; good = refl; counted = refl; few = omega arith }
+pub over-none : (marks : List ℕ) → Over [] marks 0 (0 ∷ 0 ∷ 0 ∷ 0 ∷ [])
+unfolding pairwise everyRest lacks every sumOf talliesOf
+over-none marks = record { apart = refl; marked = record { new = λ x h e. refl }; quiet = refl; idle = refl; good = refl; tallied = refl }
 
-pub weight-few : (d : ℕ) → weightIn d ≤ 281474976710656
-unfolding weightIn
-weight-few d = let u = unit-most (d / 16 % 4) in split (ltb d 64) (λ e. rw e (omega arith)) (λ e. rw e u)
-
-module _ (d : ℕ) (es marks : List ℕ) (flags counts : ℕ) (v : Over es marks flags counts) where
-  more : (marks′ : List ℕ) → noneClash sameKey (keyIn d) (map keyIn es) ≡ true → Marked marks′ (map keyIn (d ∷ es)) → Over (d ∷ es) marks′ (bitOr d flags) (counts + weightIn d)
-  unfolding pairwise everyRest every sumOf
-  more marks′ n m =
-      let w = weight-few d in
-      let c = v .counted in
-      let f = v .few in
-      record {
-        apart = rw n (v .apart);
-        marked = m;
-        quiet = quiet-both d flags ∙ ap (λ (t : Bool). quietIn d && t) (v .quiet);
-        good = good-both d flags ∙ ap (λ (t : Bool). goodIn d && t) (v .good);
-        counted = omega arith;
-        few = omega arith;
-      }
+module _ (d : ℕ) (es marks : List ℕ) (flags : ℕ) (tallies : List ℕ) (v : Over es marks flags tallies) (few : length es ≤ 64) where
+  more : (marks′ : List ℕ) → noneClash sameKey (keyIn d) (map keyIn es) ≡ true → Marked marks′ (map keyIn (d ∷ es)) → Over (d ∷ es) marks′ (flagsIn d flags) (talliedIn d tallies)
+  unfolding pairwise everyRest every
+  more marks′ n m = record {
+    apart = rw n (v .apart);
+    marked = m;
+    quiet = gathered 1152921504606846976 (λ x y. clear-both x y .0) d flags (every quietIn es) (v .quiet);
+    idle = gathered 576460752303423488 (λ x y. clear-both x y .1 .0) d flags (every idleIn es) (v .idle);
+    good = gathered 288230376151711744 (λ x y. clear-both x y .1 .1) d flags (every goodIn es) (v .good);
+    tallied = rw (v .tallied) (tallied-more d es few);
+  }
 
   -- on to the digest before
-  pub over-more : length marks ≡ 1024 → entersOf (keyIn d) (map keyIn es) marks ≡ true → Over (d ∷ es) (marksOf (keyIn d) marks) (bitOr d flags) (counts + weightIn d)
+  pub over-more : length marks ≡ 1024 → entersOf (keyIn d) (map keyIn es) marks ≡ true → Over (d ∷ es) (marksOf (keyIn d) marks) (flagsIn d flags) (talliedIn d tallies)
   unfolding entersOf marksOf
   over-more n e = split (eqb (keyIn d) 0) zero′
       (λ h. split (eqb (getD marks (markOf (keyIn d)) 0) 0)
       (λ m. let b = mark-small (keyIn d) in rw (h, m) (more (set marks (markOf (keyIn d)) 1) (fresh h (v .marked .new (keyIn d) (eqb-false (keyIn d) 0 h) (eqb-true (getD marks (markOf (keyIn d)) 0) 0 m))) (marked-key marks (map keyIn es) (keyIn d) (omega arith) (v .marked))))
       (λ m. rw (h, m) (more marks (fresh h (rw (h, m) at e)) (marked-again marks (map keyIn es) (keyIn d) (eqb-false (getD marks (markOf (keyIn d)) 0) 0 m) (v .marked)))))
     where
-      zero′ : eqb (keyIn d) 0 ≡ true → Over (d ∷ es) (pick (eqb (keyIn d) 0) marks (pick (eqb (getD marks (markOf (keyIn d)) 0) 0) (set marks (markOf (keyIn d)) 1) marks)) (bitOr d flags) (counts + weightIn d)
+      zero′ : eqb (keyIn d) 0 ≡ true → Over (d ∷ es) (pick (eqb (keyIn d) 0) marks (pick (eqb (getD marks (markOf (keyIn d)) 0) 0) (set marks (markOf (keyIn d)) 1) marks)) (flagsIn d flags) (talliedIn d tallies)
       zero′ h = let z = eqb-true (keyIn d) 0 h in rw h (more marks (rw z (none-zero (map keyIn es))) (rw z (marked-zero marks (map keyIn es) (v .marked))))
 
       fresh : eqb (keyIn d) 0 ≡ false → lacks (keyIn d) (map keyIn es) ≡ true → noneClash sameKey (keyIn d) (map keyIn es) ≡ true
@@ -125,44 +221,66 @@ module _ (ds : List ℕ) (i : ℕ) (some : 0 < i) (inside : i ≤ length ds) whe
   unfolding glanceOf pairwise everyRest
   over-twice e = rw (rest-fails (noneClash sameKey) (i - 1) (map keyIn ds) (rw (drop-map (i - 1) ds, back, e)))
 
-pub over-all : (ds marks : List ℕ) (flags counts : ℕ) → Over ds marks flags counts → glanceOf ds ≡ record { good = goodIn flags; quiet = quietIn flags; counts = counts }
+pub over-all : (ds marks : List ℕ) (flags : ℕ) (tallies : List ℕ) → length ds ≤ 64 → Over ds marks flags tallies
+    → glanceOf ds ≡ record { good = clear 288230376151711744 flags; quiet = clear 1152921504606846976 flags; idle = clear 576460752303423488 flags; counts = packedIn tallies }
 unfolding glanceOf
-over-all ds marks flags counts v = rw (v .apart, v .quiet, v .good, v .counted)
+over-all ds marks flags tallies n v = rw (v .apart, v .quiet, v .good, v .idle, v .tallied, packed-tallies ds n)
 
--- ---- a search among the keys of digests that has come to place i
-module _ (x : ℕ) (ds : List ℕ) (i : ℕ) (inside : i < length ds) where
+-- ---- a search among the keys of digests from a place on, that has come to place i of all of them
+unfoldable pub later : ℕ → ℕ → ℕ
+later from i = pick {A = ℕ} (leb from i) i from
+
+pub later-start : (from : ℕ) → from ≡ later from 0
+unfolding later
+later-start from = split (leb from 0) (λ e. let h = leb-true from 0 e in rw e (omega arith)) (λ e. rw e)
+
+later-least : (from i : ℕ) → i ≤ later from i
+unfolding later
+later-least from i = split (leb from i) (λ e. rw e (omega arith)) (λ e. let h = leb-false from i e in rw e (omega arith))
+
+module _ (x : ℕ) (ds : List ℕ) (from i : ℕ) (inside : i < length ds) where
   at : getD (map keyIn ds) i 0 ≡ keyIn (getD ds i 0)
   at = map-at keyIn ds i 0 0 inside
 
   within : i < length (map keyIn ds)
   within = simp length-map inside
 
-  pub key-hit : x ≡ keyIn (getD ds i 0) → lacks x (drop i (map keyIn ds)) ≡ false
-  key-hit e = lacks-hit x (map keyIn ds) i within (e ∙ sym at)
+  abbrev hit : Bool
+  hit = leb from i && eqb x (keyIn (getD ds i 0))
 
-  pub key-on : (x ≡ keyIn (getD ds i 0) → ⊥) → lacks x (drop i (map keyIn ds)) ≡ lacks x (drop (i + 1) (map keyIn ds))
-  key-on h = lacks-on x (map keyIn ds) i within (λ e. h (e ∙ at))
+  pub key-hit : hit ≡ true → lacks x (drop (later from i) (map keyIn ds)) ≡ false
+  unfolding later
+  key-hit e =
+      rw (and-left (leb from i) (eqb x (keyIn (getD ds i 0))) e)
+      (lacks-hit x (map keyIn ds) i within (eqb-true x (keyIn (getD ds i 0)) (and-right (leb from i) (eqb x (keyIn (getD ds i 0))) e) ∙ sym at))
 
-pub key-end : (x : ℕ) (ds : List ℕ) (i : ℕ) → length ds ≤ i → lacks x (drop i (map keyIn ds)) ≡ true
-key-end x ds i h = lacks-end x (map keyIn ds) i (simp length-map h)
+  pub key-on : hit ≡ false → lacks x (drop (later from i) (map keyIn ds)) ≡ lacks x (drop (later from (i + 1)) (map keyIn ds))
+  unfolding later
+  key-on e = split (leb from i)
+      (λ l. let h = leb-true from i l in
+      rw (l, le-leb from (i + 1) (omega arith)) (lacks-on x (map keyIn ds) i within (λ q. eqb-false x (keyIn (getD ds i 0)) (rw l at e) (q ∙ at))))
+      (λ l. let h = leb-false from i l in rw (l, before h))
+    where
+      before : i < from → pick {A = ℕ} (leb from (i + 1)) (i + 1) from ≡ from
+      before h = split (leb from (i + 1)) (λ m. let k = leb-true from (i + 1) m in rw m (omega arith)) (λ m. rw m)
 
--- ---- a digest without a key: nothing is marked, nothing counted
-module _ (d : ℕ) (small : d < 64) where
-  no-key : keyIn d ≡ 0
-  no-key = omega arith
+pub key-end : (x : ℕ) (ds : List ℕ) (from i : ℕ) → length ds ≤ i → lacks x (drop (later from i) (map keyIn ds)) ≡ true
+key-end x ds from i h = let m = later-least from i in lacks-end x (map keyIn ds) (later from i) (simp length-map (omega arith))
 
+-- ---- a digest without a key: nothing is marked, nothing gathered, nothing counted
+module _ (d : ℕ) (none : keyIn d ≡ 0) where
   pub enters-none : (l marks : List ℕ) → entersOf (keyIn d) l marks ≡ true
   unfolding entersOf
-  enters-none l marks = rw no-key
+  enters-none l marks = rw none
 
   pub marks-none : (marks : List ℕ) → marksOf (keyIn d) marks ≡ marks
   unfolding marksOf
-  marks-none marks = rw no-key
+  marks-none marks = rw none
 
--- the counts with a digest
-unfoldable pub countedIn : ℕ → ℕ → ℕ
-countedIn d n = pick {A = ℕ} (ltb d 64) n ((n + weightIn d) % 18446744073709551616)
+  pub flags-none : (flags : ℕ) → flagsIn d flags ≡ flags
+  unfolding flagsIn
+  flags-none flags = rw none
 
-pub counted-in : (d n : ℕ) → n + weightIn d < 18446744073709551616 → countedIn d n ≡ n + weightIn d
-unfolding countedIn weightIn
-counted-in d n h = split (ltb d 64) (λ e. rw e (omega arith)) (λ e. let g = rw e at h in rw e (omega arith))
+  pub tallied-none : (us : List ℕ) → talliedIn d us ≡ us
+  unfolding talliedIn
+  tallied-none us = rw none

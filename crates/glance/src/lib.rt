@@ -5,20 +5,23 @@ use session::Request;
 use session::Session;
 use table::Node;
 use table::Table;
+ghost use mathlib.Core.Bool.{false};
 ghost use mathlib.Core.List.{map};
 ghost use mathlib.Core.Path.{_≡_};
+ghost use lib.Dec.{eqb};
 ghost use lib.ListN.{drop, length};
 ghost use Rattle.table.specs.Rules.{boundsOf};
 ghost use Rattle.rules.specs.Survey.{waitOf};
 ghost use Rattle.distinct.specs.Lacks.{lacks};
-ghost use Rattle.glance.specs.Digest.{restsOk, digestOf, keyIn, weightIn, markOf};
+ghost use Rattle.glance.specs.Digest.{freeDigest, takenDigest, keyIn, markOf};
 ghost use Rattle.glance.specs.Glance.{noGlance, glanceOf, keptOf, standingOf, standsBy, waitingOf};
-ghost use Rattle.glance.specs.Over.{entersOf, marksOf, countedIn};
+ghost use Rattle.glance.specs.Over.{entersOf, marksOf, flagsIn, talliedIn, packedIn};
 
-// What the digests of a table say: every record good and no key twice, no number awaited, the counts packed.
+// What the digests of a table say: every record good and no key twice, no number awaited, nothing due, the counts packed.
 pub struct Glance {
     pub good: bool,
     pub quiet: bool,
+    pub idle: bool,
     pub counts: u64,
 }
 
@@ -30,6 +33,20 @@ pub struct Seen {
     pub waits: [u64; 64],
 }
 
+impl Glance {
+    // the bits of a digest: the key has the low ones, the access point the top two
+    pub const KEYS: u64 = 288230376151711744;
+
+    pub const DUE: u64 = 576460752303423488;
+
+    pub const AWAITS: u64 = 1152921504606846976;
+
+    pub const POINT: u64 = 4611686018427387904;
+
+    // the digest of a record that is not as the rules want it
+    pub const SPOILT: u64 = 18446744073709551615;
+}
+
 // What the records are held to of a node's plan.
 pub fn bounds_of(node: Node) -> Bounds
     ensures { λ r. ⌜ r ≡ boundsOf (node .plan) ⌝ }
@@ -38,49 +55,56 @@ pub fn bounds_of(node: Node) -> Bounds
     rules::bounds(plan)
 }
 
-// Whether a live record has no request of its own under way.
-fn rests(own: Request) -> bool
-    ensures { λ r. ⌜ r ≡ restsOk own ⌝ }
+// The digest of a free record: zero but for its use. The use and the control TEID are tested as one number, then the others by their
+// bits.
+pub fn free_digest(s: Session) -> u64
+    ensures { λ r. ⌜ r ≡ freeDigest s ⌝ }
 {
-    (own.number <= Request::LAST_NUMBER) & (own.sends | own.timer == 0)
-}
-
-// The digest of a record: 0 for a free one, 2 for one that is not as the rules want it. Most records are live: they have a way of
-// their own.
-pub fn digest(b: Bounds, s: Session) -> u64
-    ensures { λ r. ⌜ r ≡ digestOf b s ⌝ }
-{
-    let counted = s.usage <= tunnel::Holder::LAST_USE;
-    if s.state == Session::FREE {
-        let blank = s.blank();
-        if counted & blank {
+    let own = s.own;
+    let first = s.usage as u64 + s.control as u64 * 4294967296;
+    let words = s.controladdr | s.user | s.useraddr | s.created | own.number;
+    let octets = s.point | s.ebi | own.timer | own.sends;
+    if first <= tunnel::Holder::LAST_USE as u64 {
+        if s.imsi | words as u64 | octets as u64 == 0 {
             return 0;
         }
-        return 2;
     }
+    Glance::SPOILT
+}
+
+// The digest of a record that is not free. Most are live with nothing under way, so this is asked first: the bits of the number past its
+// range, the sends and the timer, as one number.
+pub fn taken_digest(b: Bounds, s: Session) -> u64
+    ensures { λ r. ⌜ r ≡ takenDigest b s ⌝ }
+{
+    let counted = s.usage <= tunnel::Holder::LAST_USE;
     let held = s.held(b);
     if !(counted & held) {
-        return 2;
+        return Glance::SPOILT;
     }
     let own = s.own;
-    let k = rules::key(s);
-    let point = (s.point % 4) as u64;
-    let quiet = k % 288230376151711744 * 64 + point * 16;
-    if s.state == Session::LIVE {
-        let rests = rests(own);
-        if rests {
+    let key = rules::key(s);
+    let quiet = std::num::wrapping_add_u64(key, (s.point % 4) as u64 * Glance::POINT);
+    let under_way = (own.number / 8388608) as u64 * 36028797018963968
+        | own.sends as u64 * 256
+        | own.timer as u64;
+    if under_way == 0 {
+        if s.state == Session::LIVE {
             return quiet;
         }
-        return 2;
+        if s.state == Session::CLOSING {
+            return std::num::wrapping_add_u64(quiet, Glance::DUE);
+        }
+        return Glance::SPOILT;
     }
-    let fits = s.phase(b);
-    if !fits {
-        return 2;
+    let fits = own.fits(0, b.resend, b.sends);
+    if !(fits & (s.state == Session::CLOSING)) {
+        return Glance::SPOILT;
     }
-    if own.sends == 0 {
-        return quiet;
+    if own.timer == 0 {
+        return std::num::wrapping_add_u64(quiet, Glance::DUE + Glance::AWAITS);
     }
-    quiet + 1
+    std::num::wrapping_add_u64(quiet, Glance::AWAITS)
 }
 
 // What a record's own request awaits, as a key.
@@ -91,25 +115,27 @@ pub fn wait_of(s: Session) -> u64
     rules::wait(own)
 }
 
-// Whether x is the key of no digest from a place on.
+// The key in a digest; 0 is none.
+pub fn key_in(d: u64) -> u64
+    ensures { λ r. ⌜ r ≡ keyIn d ⌝ }
+{
+    d % Glance::KEYS
+}
+
+// Whether x is the key of no digest from a place on. The loop goes over all of them: so it needs no test before its first turn where it is
+// not called for.
 fn lacks(ds: &[u64], x: u64, from: usize) -> bool
     ensures { λ r. ⌜ r ≡ lacks x (drop from (map keyIn (now (ds .entry)))) ⌝ }
 {
-    let mut i = from;
+    let mut i: usize = 0;
     while i < ds.len() {
-        if x == ds[i] / 64 {
+        let k = key_in(ds[i]);
+        if (from <= i) & (x == k) {
             return false;
         }
         i += 1;
     }
     true
-}
-
-// The key of a digest.
-pub fn key_in(d: u64) -> u64
-    ensures { λ r. ⌜ r ≡ keyIn d ⌝ }
-{
-    d / 64
 }
 
 // The mark of a key.
@@ -119,44 +145,55 @@ fn mark(x: u64) -> usize
     (x % 4294967296 * 2654435769 % 4294967296 / 4194304) as usize
 }
 
-// Whether a key is none of those from a place on; it is marked. It is looked for only where its mark was met before. 0 is no key.
-fn enters(ds: &[u64], x: u64, from: usize, marks: &mut [u8]) -> bool
-    requires { ⌜ length (now marks) ≡ 1024 ⌝ }
-    ensures { λ r. ⌜ (r ≡ entersOf x (drop from (map keyIn (now (ds .entry)))) (now (marks .entry))) × (now (marks .exit) ≡ marksOf x (now (marks .entry))) ⌝ }
+// Whether a digest's key is none of those from a place on; it is marked. It is looked for only where its mark was met before.
+fn enters(ds: &[u64], d: u64, from: usize, marks: &mut [u8]) -> bool
+    requires { ⌜ (length (now marks) ≡ 1024) × (eqb (keyIn d) 0 ≡ false) ⌝ }
+    ensures { λ r. ⌜ (r ≡ entersOf (keyIn d) (drop from (map keyIn (now (ds .entry)))) (now (marks .entry)))
+        × (now (marks .exit) ≡ marksOf (keyIn d) (now (marks .entry))) ⌝ }
 {
-    if x == 0 {
-        return true;
-    }
-    let h = mark(x);
+    let h = mark(d);
     if marks[h] == 0 {
         marks[h] = 1;
         return true;
     }
-    lacks(ds, x, from)
+    let key = key_in(d);
+    lacks(ds, key, from)
 }
 
-// One in the count of a digest's access point.
-fn weight(d: u64) -> u64
-    ensures { λ r. ⌜ r ≡ weightIn d ⌝ }
-{
-    if d < 64 {
-        return 0;
-    }
-    1u64 << (d / 16 % 4 * 16)
-}
-
-// A digest entered: its access point counted, its key marked. The answer is whether the key is none of those from a place on.
-fn note(ds: &[u64], d: u64, from: usize, marks: &mut [u8], counts: &mut u64) -> bool
-    requires { ⌜ length (now marks) ≡ 1024 ⌝ }
+// A digest entered: its key marked, its flags gathered, its access point counted. The answer is whether the key is none of those from a
+// place on. A digest without a key is that of a free place.
+fn note(
+    ds: &[u64],
+    d: u64,
+    from: usize,
+    marks: &mut [u8],
+    flags: &mut u64,
+    tallies: &mut [u64],
+) -> bool
+    requires { ⌜ (length (now marks) ≡ 1024) × (length (now tallies) ≡ 4) ⌝ }
     ensures { λ r. ⌜ (r ≡ entersOf (keyIn d) (drop from (map keyIn (now (ds .entry)))) (now (marks .entry)))
-        × ((now (marks .exit) ≡ marksOf (keyIn d) (now (marks .entry))) × (now (counts .exit) ≡ countedIn d (now (counts .entry)))) ⌝ }
+        × ((now (marks .exit) ≡ marksOf (keyIn d) (now (marks .entry)))
+        × ((now (flags .exit) ≡ flagsIn d (now (flags .entry))) × (now (tallies .exit) ≡ talliedIn d (now (tallies .entry))))) ⌝ }
 {
-    if d < 64 {
+    let key = key_in(d);
+    if key == 0 {
         return true;
     }
-    let w = weight(d);
-    *counts = std::num::wrapping_add_u64(*counts, w);
-    enters(ds, d / 64, from, marks)
+    let new = enters(ds, d, from, marks);
+    *flags = d | *flags;
+    let a = (d / Glance::POINT) as usize;
+    tallies[a] = std::num::wrapping_add_u64(tallies[a], 1);
+    new
+}
+
+// Four tallies as one number.
+fn packed(tallies: [u64; 4]) -> u64
+    ensures { λ r. ⌜ r ≡ packedIn tallies ⌝ }
+{
+    tallies[0] % 65536
+        + tallies[1] % 65536 * 65536
+        + tallies[2] % 65536 * 4294967296
+        + tallies[3] % 65536 * 281474976710656
 }
 
 fn none() -> Glance
@@ -165,6 +202,7 @@ fn none() -> Glance
     Glance {
         good: false,
         quiet: false,
+        idle: false,
         counts: 0,
     }
 }
@@ -175,20 +213,21 @@ pub fn glance_of(ds: [u64; 64]) -> Glance
 {
     let mut marks = [0u8; 1024];
     let mut flags: u64 = 0;
-    let mut counts: u64 = 0;
+    let mut tallies = [0u64; 4];
     let mut i: usize = 64;
     while 0 < i {
         let d = ds[i - 1];
-        let new = note(&ds, d, i, &mut marks, &mut counts);
+        let new = note(&ds, d, i, &mut marks, &mut flags, &mut tallies);
         if !new {
             return none();
         }
-        flags = d | flags;
         i -= 1;
     }
+    let counts = packed(tallies);
     Glance {
-        good: flags / 2 % 2 == 0,
-        quiet: flags % 2 == 0,
+        good: flags / Glance::KEYS % 2 == 0,
+        quiet: flags / Glance::AWAITS % 2 == 0,
+        idle: flags / Glance::DUE % 2 == 0,
         counts,
     }
 }

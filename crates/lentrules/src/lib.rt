@@ -5,7 +5,8 @@ use session::Session;
 use table::Node;
 ghost use mathlib.Core.Bool.{true};
 ghost use mathlib.Core.Path.{_≡_};
-ghost use lib.ListN.{replicate};
+ghost use lib.ListN.{getD, replicate};
+ghost use Rattle.session.specs.Session.{blankAt};
 ghost use Rattle.table.specs.Rules.{keepsRules};
 ghost use Rattle.rules.specs.Survey.{waitOf};
 ghost use Rattle.glance.specs.Digest.{digestOf};
@@ -35,6 +36,21 @@ pub fn zeros() -> [u64; 64]
     [0; 64]
 }
 
+// The digest of the record at a place; where there is none, that of a free one. The record is read anew on each way, so that each loads
+// only the fields that it tests.
+pub fn digest_at(recs: &[Session], i: usize, b: Bounds) -> u64
+    ensures { λ r. ⌜ r ≡ digestOf b (getD (now (recs .entry)) i (blankAt 0)) ⌝ }
+{
+    if recs.len() <= i {
+        return 0;
+    }
+    let free = Session::is_free(recs[i]);
+    if free {
+        return glance::free_digest(recs[i]);
+    }
+    glance::taken_digest(b, recs[i])
+}
+
 // The digests of the records, zeros where there are not 64.
 pub fn digests(recs: &[Session], b: Bounds) -> [u64; 64]
     ensures { λ r. ⌜ r ≡ readOf (digestOf b) true (now (recs .entry)) ⌝ }
@@ -43,7 +59,7 @@ pub fn digests(recs: &[Session], b: Bounds) -> [u64; 64]
     let mut t = zeros();
     let mut i = 0;
     while i < n {
-        let d = glance::digest(b, recs[i]);
+        let d = digest_at(recs, i, b);
         t[i] = d;
         i += 1;
     }

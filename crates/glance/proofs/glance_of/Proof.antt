@@ -4,83 +4,92 @@ use mathlib.Core.List.{[], map}
 use mathlib.Core.Path.{_≡_, refl, sym, _∙_}
 use native.Mathlib.Omega.{arith}
 use borrow.Author.Tests.{not-true, not-false}
-use lib.ListN.{length, drop, getD, length-replicate, length-drop, drop-of-length-le}
-use Rattle.glance.specs.Digest.{keyIn, weightIn}
-use Rattle.glance.specs.Over.{Over, over-none, over-more, over-twice, over-all, clash, back, drop-map, length-marks, weight-few, entersOf, countedIn, counted-in}
 use borrow.Author.Needs.{needs}
+use lib.ListN.{length, drop, getD, length-replicate, length-drop, drop-of-length-le}
+use Rattle.glance.specs.Digest.{keyIn}
+use Rattle.glance.specs.Over.{Over, over-none, over-more, over-twice, over-all, clash, back, drop-map, length-marks, length-tallied, entersOf}
 use Rattle.glance.proofs.glance_of.Statement.{statement}
 use Rattle.glance.proofs.glance_of.Tie as tie
 use Rattle.glance.proofs.glance_of.Reads as reads
 use Rattle.glance.proofs.glance_of.Lts as lts
 use Rattle.glance.proofs.none.Reads as none-reads
 use Rattle.glance.proofs.note.Reads as note-reads
+use Rattle.glance.proofs.packed.Reads as packed-reads
 
 abbrev Inv-loop : tie.InvT-loop
-Inv-loop ds marks₀ flags₀ counts₀ i₀ marks flags counts i = (length ds ≡ 64) × ((i ≤ 64) × ((length marks ≡ 1024) × Over (drop i ds) marks flags counts))
+Inv-loop ds marks₀ flags₀ tallies₀ i₀ marks flags tallies i = (length ds ≡ 64) × ((i ≤ 64) × ((length marks ≡ 1024) × ((length tallies ≡ 4) × Over (drop i ds) marks flags tallies)))
 
 abbrev μ-loop : tie.MeasureT-loop
-μ-loop ds marks₀ flags₀ counts₀ i₀ marks flags counts i = i
+μ-loop ds marks₀ flags₀ tallies₀ i₀ marks flags tallies i = i
 
--- src/lib.rt:166:5
+-- src/lib.rt:210:5
 loop-holds : tie.Need-loop-holds Inv-loop μ-loop
 loop-holds c = let l : length (c .args .t1) ≡ 64 = c .good .0 .1 .0 .1 in let h : length (c .args .t1) ≤ 64 = omega arith in
     let d : drop 64 (c .args .t1) ≡ [] = drop-of-length-le (c .args .t1) h in
-    (l, (omega arith, (length-replicate {A = ℕ} 1024 0, rw d (over-none _))))
+    (l, (omega arith, (length-replicate {A = ℕ} 1024 0, (refl, rw d (over-none _)))))
 
--- src/lib.rt:167:20
+-- src/lib.rt:211:20
 sub-d : tie.Need-sub-d Inv-loop μ-loop
 sub-d c = search needs
 
--- src/lib.rt:167:17
+-- src/lib.rt:211:17
 mul-d : tie.Need-mul-d Inv-loop μ-loop
 mul-d c = search needs
 
--- src/lib.rt:167:17
+-- src/lib.rt:211:17
 array-read-d : tie.Need-array-read-d Inv-loop μ-loop
 array-read-d c = search needs
 
--- src/lib.rt:168:24
+-- src/lib.rt:212:24
 slice-aggregate-note : tie.Need-slice-aggregate-note Inv-loop μ-loop
 slice-aggregate-note c = search needs
 
--- src/lib.rt:168:35
+-- src/lib.rt:212:35
 slice-aggregate-note-2 : tie.Need-slice-aggregate-note-2 Inv-loop μ-loop
 slice-aggregate-note-2 c = search needs
 
--- src/lib.rt:168:13
-note-requires : tie.Need-note-requires Inv-loop μ-loop
-note-requires c κs = c .before .before .before .before .loop .inv .1 .1 .0
+-- src/lib.rt:212:59
+slice-aggregate-note-3 : tie.Need-slice-aggregate-note-3 Inv-loop μ-loop
+slice-aggregate-note-3 c = search needs
 
--- src/lib.rt:170:13
+-- src/lib.rt:212:13
+note-requires : tie.Need-note-requires Inv-loop μ-loop
+note-requires c κs = (c .before .before .before .before .before .loop .inv .1 .1 .0, c .before .before .before .before .before .loop .inv .1 .1 .1 .0)
+
+-- src/lib.rt:214:13
 none-requires : tie.Need-none-requires Inv-loop μ-loop
 none-requires c κs = search needs
 
--- src/lib.rt:170:13
+-- src/lib.rt:214:13
 returns : tie.Need-returns Inv-loop μ-loop
-returns c = let a = c .before .before .before .before .before .before .before .before .before .args in let k = c .before .before .before .before .before .before .before .before .loop in
-    let e : entersOf (keyIn (getD (a .t1) (k .i - 1) 0)) (map keyIn (drop (k .i) (a .t1))) (k .marks) ≡ false = rw (← drop-map (k .i) (a .t1), ← c .before .before .before .note .ensures .0) (not-true _ (c .before .if1 .taken)) in
-    c .none .ensures ∙ sym (over-twice (a .t1) (k .i) (omega arith) (omega arith) (clash _ _ _ _ _ (k .inv .1 .1 .1) e))
+returns c = let a = c .before .before .before .before .before .before .before .before .before .before .before .args in let k = c .before .before .before .before .before .before .before .before .before .before .loop in
+    let n : length (drop (k .i) (a .t1)) ≤ 64 = let g = k .inv .0 in simp length-drop (omega arith) in
+    let e : entersOf (keyIn (getD (a .t1) (k .i - 1) 0)) (map keyIn (drop (k .i) (a .t1))) (k .marks) ≡ false = rw (← drop-map (k .i) (a .t1), ← c .before .before .before .before .note .ensures .0) (not-true _ (c .before .if1 .taken)) in
+    c .none .ensures ∙ sym (over-twice (a .t1) (k .i) (omega arith) (omega arith) (clash _ _ _ _ _ (k .inv .1 .1 .1 .1) n e))
 
--- src/lib.rt:173:9
+-- src/lib.rt:216:9
 sub-i : tie.Need-sub-i Inv-loop μ-loop
 sub-i c = search needs
 
--- src/lib.rt:166:5
+-- src/lib.rt:210:5
 loop-less : tie.Need-loop-less Inv-loop μ-loop
 loop-less c = search needs
 
--- src/lib.rt:166:5
+-- src/lib.rt:210:5
 loop-again : tie.Need-loop-again Inv-loop μ-loop
-loop-again c = let a = c .before .before .before .before .before .before .before .before .args in let k = c .before .before .before .before .before .before .before .loop in let v = k .inv in let f = v .1 .1 .1 .few in let g = v .0 in
-    let e : entersOf (keyIn (getD (a .t1) (k .i - 1) 0)) (map keyIn (drop (k .i) (a .t1))) (k .marks) ≡ true = rw (← drop-map (k .i) (a .t1), ← c .before .before .note .ensures .0) (not-false _ (c .if1 .left)) in
+loop-again c = let a = c .before .before .before .before .before .before .before .before .before .before .args in let k = c .before .before .before .before .before .before .before .before .before .loop in let v = k .inv in let g = v .0 in
+    let e : entersOf (keyIn (getD (a .t1) (k .i - 1) 0)) (map keyIn (drop (k .i) (a .t1))) (k .marks) ≡ true = rw (← drop-map (k .i) (a .t1), ← c .before .before .before .note .ensures .0) (not-false _ (c .if1 .left)) in
     let n : length (drop (k .i) (a .t1)) ≤ 64 = simp length-drop (omega arith) in
-    let w = weight-few (getD (a .t1) (k .i - 1) 0) in
-    let q : countedIn (getD (a .t1) (k .i - 1) 0) (k .counts) ≡ k .counts + weightIn (getD (a .t1) (k .i - 1) 0) = counted-in (getD (a .t1) (k .i - 1) 0) (k .counts) (omega arith) in
-    (v .0, (omega arith, (rw (c .before .before .note .ensures .1 .0) (length-marks _ _ ∙ v .1 .1 .0), rw (back (a .t1) (k .i) (omega arith) (omega arith), c .before .before .note .ensures .1 .1, q, c .before .before .note .ensures .1 .0) (over-more _ _ _ _ _ (v .1 .1 .1) (v .1 .1 .0) e))))
+    let m = c .before .before .before .note .ensures .1 in
+    (v .0, (omega arith, (rw (m .0) (length-marks _ _ ∙ v .1 .1 .0), (rw (m .1 .1) (length-tallied _ _ ∙ v .1 .1 .1 .0), rw (back (a .t1) (k .i) (omega arith) (omega arith), m .0, m .1 .0, m .1 .1) (over-more _ _ _ _ _ (v .1 .1 .1 .1) n (v .1 .1 .0) e)))))
 
--- src/lib.rt:159:1
+-- src/lib.rt:218:9
+packed-requires : tie.Need-packed-requires Inv-loop μ-loop
+packed-requires c κs = search needs
+
+-- src/lib.rt:203:1
 returns-2 : tie.Need-returns-2 Inv-loop μ-loop
-returns-2 c = let k = c .before .loop in let e : k .i ≡ 0 = omega arith in sym (over-all (c .before .before .args .t1) _ _ _ (rw e at (k .inv .1 .1 .1)))
+returns-2 c = let k = c .before .before .loop in let e : k .i ≡ 0 = omega arith in let g = k .inv .0 in let n : length (c .before .before .before .args .t1) ≤ 64 = omega arith in rw (c .packed .ensures) (sym (over-all (c .before .before .before .args .t1) _ _ _ n (rw e at (k .inv .1 .1 .1 .1))))
 
 pub glance-of-spec : {M : Type 1} → statement M
 glance-of-spec =
@@ -94,10 +103,12 @@ glance-of-spec =
     array-read-d
     slice-aggregate-note
     slice-aggregate-note-2
+    slice-aggregate-note-3
     note-requires
     none-requires
     returns
     sub-i
     loop-less
     loop-again
+    packed-requires
     returns-2)

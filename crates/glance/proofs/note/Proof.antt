@@ -1,49 +1,79 @@
-use borrow.Author.Tests.{lt-ltb, le-ltb}
+use mathlib.Core.Bool.{false}
+use lib.Dec.{eqb}
 use mathlib.Core.Path.{_≡_, refl, sym, _∙_}
 use native.Mathlib.Omega.{arith}
-use Rattle.glance.specs.Over.{enters-none, marks-none, countedIn}
+use borrow.Author.Tests.{eq-eqb, ne-eqb}
+use borrow.Author.Needs.{needs}
+use lib.ListN.{length}
+use denote.Ref.{now}
+use Rattle.glance.specs.Digest.{keyIn}
+use Rattle.glance.specs.Over.{enters-none, marks-none, flags-none, tallied-none, flagsIn, talliedIn}
 use borrow.Author.Needs.{needs}
 use Rattle.glance.proofs.note.Statement.{statement}
 use Rattle.glance.proofs.note.Tie as tie
 use Rattle.glance.proofs.note.Reads as reads
 use Rattle.glance.proofs.note.Lts as lts
 use Rattle.glance.proofs.enters.Reads as enters-reads
-use Rattle.glance.proofs.weight.Reads as weight-reads
+use Rattle.glance.proofs.key_in.Reads as key-in-reads
 use Rattle.std.proofs.num.wrapping_add_u64.Reads as wrapping-add-u64-reads
 
--- src/lib.rt:141:9
+-- src/lib.rt:170:9
+key-in-requires : tie.Need-key-in-requires
+key-in-requires c κs = search needs
+
+-- src/lib.rt:172:9
 returns : tie.Need-returns
-unfolding countedIn
-returns c = (sym (enters-none _ (c .if1 .taken) _ _), (sym (marks-none _ (c .if1 .taken) _), rw (lt-ltb _ _ (c .if1 .taken))))
+returns c = let z : keyIn (c .before .before .before .before .before .args .d) ≡ 0 = sym (c .before .key-in .ensures) ∙ c .if1 .taken in let d = c .before .before .before .before .before .args .d in (sym (enters-none d z _ _), (sym (marks-none d z _), (sym (flags-none d z _), sym (tallied-none d z _))))
 
--- src/lib.rt:143:9
-weight-requires : tie.Need-weight-requires
-weight-requires c κs = search needs
+-- src/lib.rt:174:9
+enters-requires : tie.Need-enters-requires
+enters-requires c κs = (c .before .before .before .before .before .before .pre .0, rw (← c .before .before .key-in .ensures) (ne-eqb _ _ (c .before .if1 .left)))
 
--- src/lib.rt:144:15
+-- src/lib.rt:177:45
+mul-wrapping-add-u64 : tie.Need-mul-wrapping-add-u64
+mul-wrapping-add-u64 c = search needs
+
+-- src/lib.rt:177:45
+slice-read-wrapping-add-u64 : tie.Need-slice-read-wrapping-add-u64
+slice-read-wrapping-add-u64 c = search needs
+
+-- src/lib.rt:177:18
 wrapping-add-u64-requires : tie.Need-wrapping-add-u64-requires
 wrapping-add-u64-requires c κs = search needs
 
--- src/lib.rt:145:5
-enters-requires : tie.Need-enters-requires
-enters-requires c κs = search needs
+-- src/lib.rt:177:5
+mul-tallies : tie.Need-mul-tallies
+mul-tallies c = search needs
 
--- src/lib.rt:135:1
+-- src/lib.rt:177:5
+slice-write-tallies : tie.Need-slice-write-tallies
+slice-write-tallies c = search needs
+
+-- src/lib.rt:157:1
 same-length : tie.Need-same-length
 same-length c = search needs
 
--- src/lib.rt:135:1
+-- src/lib.rt:157:1
+same-length-2 : tie.Need-same-length-2
+same-length-2 c = search needs
+
+-- src/lib.rt:157:1
 returns-2 : tie.Need-returns-2
-unfolding countedIn
-returns-2 c = (c .before .before .enters .ensures .0, (c .before .before .enters .ensures .1, rw (le-ltb _ _ (c .before .before .before .before .before .before .before .if1 .left), ← c .before .before .before .before .before .before .weight .ensures) (c .before .before .before .before .wrapping-add-u64 .ensures)))
+unfolding flagsIn talliedIn
+returns-2 c = let z : eqb (keyIn (c .before .before .before .before .before .before .before .before .before .before .before .before .args .d)) 0 ≡ false = rw (← c .before .before .before .before .before .before .before .before .key-in .ensures) (ne-eqb _ _ (c .before .before .before .before .before .before .before .if1 .left)) in (c .before .before .before .before .before .enters .ensures .0, (c .before .before .before .before .before .enters .ensures .1, (rw z, rw (z, ← c .wrapping-add-u64 .ensures))))
 
 pub note-spec : {M : Type 1} → statement M
 note-spec =
     tie.close
     (tie.spec
+    key-in-requires
     returns
-    weight-requires
-    wrapping-add-u64-requires
     enters-requires
+    mul-wrapping-add-u64
+    slice-read-wrapping-add-u64
+    wrapping-add-u64-requires
+    mul-tallies
+    slice-write-tallies
     same-length
+    same-length-2
     returns-2)

@@ -1,0 +1,227 @@
+-- The digest of a record that is taken, and that of a free one, by the tests that make it, in their order.
+-- Assumes nothing.
+use Prim.Native.Nat.{ℕ, _+_, _*_, _/_, _%_, _<_, _≤_}
+use mathlib.Core.Bool.{Bool, true, false, not, _&&_}
+use mathlib.Core.Path.{_≡_, refl, sym, _∙_}
+use native.Mathlib.Omega.{arith}
+use lib.Bits.{bitOr, or-lt}
+use lib.Dec.{eqb, leb, ltb}
+use borrow.Author.Tests.{eqb-true, eqb-false, eq-eqb, ne-eqb, ltb-true, leb-true, le-leb, lt-leb, not-true, not-false}
+use Rattle.octets.specs.Choice.{pick, split, impossible, and-left, and-right, and-no, tests}
+use Rattle.tunnel.specs.Numbering.{lastUse}
+use Rattle.session.specs.declared.Request.{Request}
+use Rattle.session.specs.declared.Session.{Session}
+use Rattle.session.specs.declared.Bounds.{Bounds}
+use Rattle.session.specs.Request.{lastNumber, requestOk}
+use Rattle.session.specs.Session.{isFree, isClosing, isDue, blank, heldOk, phaseOk, readOk, imsis}
+use Rattle.session.specs.Phase.{live-phase, other-phase}
+use Rattle.session.specs.Wide.{or-none, both-ways, blank-bits}
+use Rattle.rules.specs.Survey.{keyOf, silent}
+use Rattle.glance.specs.Digest.{flagsOf, spoilt, freeDigest, takenDigest, restsOk, rests-bits}
+
+-- ---- a record that is taken
+-- what a session holds has a key of 58 bits
+held-key : (b : Bounds) (s : Session) → heldOk b s ≡ true → keyOf s < 288230376151711744
+unfolding keyOf heldOk readOk imsis
+held-key b s h =
+    let i : ltb (s .imsi) 1000000000000000 ≡ true = search (and-left, and-right) depth 9 in
+    let m : leb (s .ebi) 15 ≡ true = search (and-left, and-right) depth 9 in
+    split (isFree s) (λ n. rw n (omega arith)) (λ n. rw n (omega (arith, tests)))
+
+-- a request with which nothing is under way, and one with which something is
+rests-off : (r : Request) → restsOk r ≡ true → (eqb (r .sends) 0 ≡ true) × (eqb (r .timer) 0 ≡ true)
+unfolding restsOk
+rests-off r e =
+    let s : eqb (r .sends) 0 ≡ true = search (and-left, and-right) in
+    let t : eqb (r .timer) 0 ≡ true = search (and-left, and-right) in
+    (s, t)
+
+rests-fit : (r : Request) (resend most : ℕ) → restsOk r ≡ true → requestOk 0 resend most r ≡ true
+unfolding restsOk requestOk
+rests-fit r resend most e =
+    let n : leb (r .number) lastNumber ≡ true = search (and-left, and-right) in
+    let t = eqb-true (r .timer) 0 (rests-off r e .1) in
+    rw (n, rests-off r e .0, t)
+
+rests-on : (r : Request) (resend most : ℕ) → restsOk r ≡ false → requestOk 0 resend most r ≡ true → eqb (r .sends) 0 ≡ false
+unfolding restsOk requestOk
+rests-on r resend most e f = split (eqb (r .sends) 0)
+    (λ z. impossible (sym e ∙ still z))
+    (λ z. z)
+  where
+    still : eqb (r .sends) 0 ≡ true → (leb (r .number) lastNumber && eqb (r .sends) 0 && eqb (r .timer) 0) ≡ true
+    still z =
+        let g = rw z at f in
+        let n : leb (r .number) lastNumber ≡ true = and-left (leb (r .number) lastNumber) (leb (r .timer) 0) g in
+        let t = leb-true (r .timer) 0 (and-right (leb (r .number) lastNumber) (leb (r .timer) 0) g) in
+        rw (n, z, eq-eqb (r .timer) 0 (omega arith))
+
+-- whether a request is due
+due-yes : (s : Session) → s .state ≡ 2 → eqb (s .own .timer) 0 ≡ true → isDue s ≡ true
+unfolding isDue isClosing
+due-yes s h t = rw (eq-eqb (s .state) 2 h, t)
+
+due-live : (s : Session) → s .state ≡ 1 → isDue s ≡ false
+unfolding isDue isClosing
+due-live s h = rw (ne-eqb (s .state) 2 (λ z. omega arith))
+
+due-later : (s : Session) → s .state ≡ 2 → (s .own .timer ≡ 0 → ⊥) → isDue s ≡ false
+unfolding isDue isClosing
+due-later s h t = rw (eq-eqb (s .state) 2 h, ne-eqb (s .own .timer) 0 t)
+
+module _ (b : Bounds) (s : Session) (held : Bool) (is : held ≡ heldOk b s) where
+  pub taken-unheld : not (leb (s .usage) lastUse && held) ≡ true → spoilt ≡ takenDigest b s
+  unfolding takenDigest
+  taken-unheld e = rw (← is) (first (leb (s .usage) lastUse) held (not-true (leb (s .usage) lastUse && held) e))
+    where
+      first : (a h : Bool) → (a && h) ≡ false → spoilt ≡ pick {A = ℕ} (a && (h && phaseOk b s)) (keyOf s % 288230376151711744 + flagsOf s) spoilt
+      first true h f = rw f
+      first false h f = refl
+
+  module _ (on : not (leb (s .usage) lastUse && held) ≡ false) where
+    phased : takenDigest b s ≡ pick {A = ℕ} (phaseOk b s) (keyOf s % 288230376151711744 + flagsOf s) spoilt
+    unfolding takenDigest
+    phased = rw (← is) (first (leb (s .usage) lastUse) held (not-false (leb (s .usage) lastUse && held) on))
+      where
+        first : (a h : Bool) → (a && h) ≡ true
+            → pick {A = ℕ} (a && (h && phaseOk b s)) (keyOf s % 288230376151711744 + flagsOf s) spoilt ≡ pick {A = ℕ} (phaseOk b s) (keyOf s % 288230376151711744 + flagsOf s) spoilt
+        first true true f = refl
+        first true false f = impossible f
+        first false h f = impossible f
+
+    small : keyOf s < 288230376151711744
+    small = held-key b s (sym is ∙ and-right (leb (s .usage) lastUse) held (not-false (leb (s .usage) lastUse && held) on))
+
+    -- key and access point
+    abbrev quiet : ℕ
+    quiet = (keyOf s + s .point % 4 * 4611686018427387904) % 18446744073709551616
+
+    -- nothing is under way
+    module _ (rests : restsOk (s .own) ≡ true) where
+      still : silent s ≡ true
+      unfolding silent
+      still = rests-off (s .own) rests .0
+
+      pub taken-live : s .state ≡ 1 → quiet ≡ takenDigest b s
+      unfolding flagsOf restsOk
+      taken-live h =
+          let k = small in
+          let p : phaseOk b s ≡ true = live-phase b s h ∙ rests in
+          rw (phased, p, still, due-live s h) (omega arith)
+
+      pub taken-due : (s .state ≡ 1 → ⊥) → s .state ≡ 2 → (quiet + 576460752303423488) % 18446744073709551616 ≡ takenDigest b s
+      unfolding flagsOf isClosing
+      taken-due n h =
+          let k = small in
+          let p : phaseOk b s ≡ true = other-phase b s n ∙ rw (rests-fit (s .own) (b .resend) (b .sends) rests) (eq-eqb (s .state) 2 h) in
+          rw (phased, p, still, due-yes s h (rests-off (s .own) rests .1)) (omega arith)
+
+    -- neither live nor closing
+    pub taken-odd : (s .state ≡ 1 → ⊥) → (s .state ≡ 2 → ⊥) → spoilt ≡ takenDigest b s
+    unfolding isClosing
+    taken-odd n m = let p : phaseOk b s ≡ false = other-phase b s n ∙ rw (ne-eqb (s .state) 2 m) (shut (requestOk 0 (b .resend) (b .sends) (s .own))) in rw (phased, p)
+      where
+        shut : (a : Bool) → (a && false) ≡ false
+        shut true = refl
+        shut false = refl
+
+    -- something is under way: of a closing place, and as it may be
+    module _ (busy : restsOk (s .own) ≡ false) where
+      abbrev fit : Bool
+      fit = requestOk 0 (b .resend) (b .sends) (s .own) && eqb (s .state) 2
+
+      phase-fit : phaseOk b s ≡ fit
+      unfolding isClosing restsOk
+      phase-fit = split (eqb (s .state) 1)
+          (λ h. let e = eqb-true (s .state) 1 h in
+          live-phase b s e ∙ busy ∙ sym (rw e (shut (requestOk 0 (b .resend) (b .sends) (s .own)))))
+          (λ h. other-phase b s (eqb-false (s .state) 1 h))
+        where
+          shut : (a : Bool) → (a && false) ≡ false
+          shut true = refl
+          shut false = refl
+
+      pub taken-unfit : not fit ≡ true → spoilt ≡ takenDigest b s
+      taken-unfit e = rw (phased, phase-fit, not-true fit e)
+
+      module _ (fits : not fit ≡ false) where
+        closing : s .state ≡ 2
+        closing = eqb-true (s .state) 2 (and-right (requestOk 0 (b .resend) (b .sends) (s .own)) (eqb (s .state) 2) (not-false fit fits))
+
+        loud : silent s ≡ false
+        unfolding silent
+        loud = rests-on (s .own) (b .resend) (b .sends) busy (and-left (requestOk 0 (b .resend) (b .sends) (s .own)) (eqb (s .state) 2) (not-false fit fits))
+
+        pub taken-again : s .own .timer ≡ 0 → (quiet + 1729382256910270464) % 18446744073709551616 ≡ takenDigest b s
+        unfolding flagsOf
+        taken-again h = let k = small in rw (phased, phase-fit, not-false fit fits, loud, due-yes s closing (eq-eqb (s .own .timer) 0 h)) (omega arith)
+
+        pub taken-waits : (s .own .timer ≡ 0 → ⊥) → (quiet + 1152921504606846976) % 18446744073709551616 ≡ takenDigest b s
+        unfolding flagsOf
+        taken-waits h = let k = small in rw (phased, phase-fit, not-false fit fits, loud, due-later s closing h) (omega arith)
+
+-- ---- a free record: the use and the control TEID as one number, the other fields by their bits
+first-fits : (u c : ℕ) → u < 4294967296 → leb (u + c * 4294967296) 16777215 ≡ (leb u 16777215 && eqb c 0)
+first-fits u c h = both-ways (leb (u + c * 4294967296) 16777215) (leb u 16777215 && eqb c 0) there back
+  where
+    there : leb (u + c * 4294967296) 16777215 ≡ true → (leb u 16777215 && eqb c 0) ≡ true
+    there e = let l = leb-true (u + c * 4294967296) 16777215 e in rw (le-leb u 16777215 (omega arith), eq-eqb c 0 (omega arith))
+
+    back : (leb u 16777215 && eqb c 0) ≡ true → leb (u + c * 4294967296) 16777215 ≡ true
+    back e =
+        let l = leb-true u 16777215 (and-left (leb u 16777215) (eqb c 0) e) in
+        let z = eqb-true c 0 (and-right (leb u 16777215) (eqb c 0) e) in
+        le-leb (u + c * 4294967296) 16777215 (omega arith)
+
+-- all fields but the use, the control TEID and the state, by their bits
+abbrev pub restBits : Session → ℕ
+restBits s =
+    bitOr (bitOr (s .imsi) (bitOr (bitOr (bitOr (bitOr (s .controladdr) (s .user)) (s .useraddr)) (s .created)) (s .own .number)))
+    (bitOr (bitOr (bitOr (s .point) (s .ebi)) (s .own .timer)) (s .own .sends))
+
+control-first : (c i a u x r n o : Bool) → (c && (i && (a && u && x && r && n) && o)) ≡ (i && (c && a && u && x && r && n) && o)
+control-first true i a u x r n o = refl
+control-first false true a u x r n o = refl
+control-first false false a u x r n o = refl
+
+rest-bits : (s : Session) → (eqb (s .control) 0 && eqb (restBits s) 0) ≡ blank s
+rest-bits s = simp or-none (control-first (eqb (s .control) 0) (eqb (s .imsi) 0) (eqb (s .controladdr) 0) (eqb (s .user) 0) (eqb (s .useraddr) 0) (eqb (s .created) 0) (eqb (s .own .number) 0)
+    (eqb (s .point) 0 && eqb (s .ebi) 0 && eqb (s .own .timer) 0 && eqb (s .own .sends) 0))
+    ∙ (simp or-none at (blank-bits s))
+
+pub words-fit : (s : Session) → s .controladdr < 4294967296 → s .user < 4294967296 → s .useraddr < 4294967296 → s .created < 4294967296 → s .own .number < 4294967296
+    → bitOr (bitOr (bitOr (bitOr (s .controladdr) (s .user)) (s .useraddr)) (s .created)) (s .own .number) < 18446744073709551616
+words-fit s a b c d e =
+    let w = or-lt 32 (bitOr (bitOr (bitOr (s .controladdr) (s .user)) (s .useraddr)) (s .created)) (s .own .number)
+    (or-lt 32 (bitOr (bitOr (s .controladdr) (s .user)) (s .useraddr)) (s .created)
+    (or-lt 32 (bitOr (s .controladdr) (s .user)) (s .useraddr) (or-lt 32 (s .controladdr) (s .user) a b) c) d) e in
+    omega arith
+
+-- the three ways of the two tests
+module _ (s : Session) (word : s .usage < 4294967296) where
+  vacant-is : (leb (s .usage) lastUse && blank s) ≡ (leb (s .usage + s .control * 4294967296) 16777215 && eqb (restBits s) 0)
+  unfolding lastUse
+  vacant-is = rw (← rest-bits s, first-fits (s .usage) (s .control) word) (three (leb (s .usage) 16777215) (eqb (s .control) 0) (eqb (restBits s) 0))
+    where
+      three : (a b c : Bool) → (a && (b && c)) ≡ (a && b && c)
+      three true b c = refl
+      three false b c = refl
+
+  pub free-blank : s .usage + s .control * 4294967296 ≤ 16777215 → restBits s ≡ 0 → 0 ≡ freeDigest s
+  unfolding freeDigest
+  free-blank l e = rw (vacant-is, le-leb (s .usage + s .control * 4294967296) 16777215 l, eq-eqb (restBits s) 0 e)
+
+  pub free-filled : (restBits s ≡ 0 → ⊥) → spoilt ≡ freeDigest s
+  unfolding freeDigest
+  free-filled e = rw (vacant-is, ne-eqb (restBits s) 0 e, and-no (leb (s .usage + s .control * 4294967296) 16777215))
+
+  pub free-used : 16777215 < s .usage + s .control * 4294967296 → spoilt ≡ freeDigest s
+  unfolding freeDigest
+  free-used l = rw (vacant-is, lt-leb (s .usage + s .control * 4294967296) 16777215 l)
+
+-- what is under way, as one number
+pub rests-yes : (r : Request) → bitOr (bitOr (r .number / 8388608 * 36028797018963968) (r .sends * 256)) (r .timer) ≡ 0 → restsOk r ≡ true
+rests-yes r e = sym (rests-bits r) ∙ eq-eqb (bitOr (bitOr (r .number / 8388608 * 36028797018963968) (r .sends * 256)) (r .timer)) 0 e
+
+pub rests-no : (r : Request) → (bitOr (bitOr (r .number / 8388608 * 36028797018963968) (r .sends * 256)) (r .timer) ≡ 0 → ⊥) → restsOk r ≡ false
+rests-no r e = sym (rests-bits r) ∙ ne-eqb (bitOr (bitOr (r .number / 8388608 * 36028797018963968) (r .sends * 256)) (r .timer)) 0 e
