@@ -20,11 +20,12 @@ use Rattle.session.specs.declared.Bounds.{Bounds}
 use Rattle.session.specs.Request.{lastNumber, requestOk}
 use Rattle.session.specs.Session.{isDue, recordOk}
 use Rattle.table.specs.declared.Node.{Node}
-use Rattle.table.specs.Rules.{boundsOf, keepsRules, rules-of}
+use Rattle.table.specs.Rules.{liveOn, boundsOf, keepsRules, rules-of}
 use Rattle.rules.specs.declared.Survey.{Survey}
 use Rattle.rules.specs.Survey.{keyOf, waitOf, weightOf, silent, waitsOf, noSurvey, surveyOf}
-use Rattle.rules.specs.Check.{unpackedOf, parties-four, waits-keys, checked, checked-is, checked-bad, checked-quiet}
+use Rattle.rules.specs.Check.{unpackedOf, unpacked-at, parties-four, waits-keys, checked, checked-is, checked-bad, checked-quiet}
 use Rattle.glance.specs.declared.Glance.{Glance}
+use Rattle.glance.specs.declared.Seen.{Seen}
 use Rattle.glance.specs.Digest.{digestOf, keyIn, weightIn, quietIn, idleIn, goodIn, key-in, quiet-in, idle-in, weight-in, good-in}
 
 unfoldable pub noGlance : Glance
@@ -55,6 +56,10 @@ keptOf count node g waits =
 -- 0: a rule is broken; 1: all are kept, and no place awaits a number; 2: all are kept
 unfoldable pub standingOf : ℕ → Node → Glance → List ℕ → ℕ
 standingOf count node g waits = pick {A = ℕ} (keptOf count node g waits) (pick {A = ℕ} (g .quiet) 1 2) 0
+
+-- with what was read for it
+unfoldable pub sightOf : ℕ → Node → Glance → List ℕ → List ℕ → Seen
+sightOf count node g digests waits = record { how = standingOf count node g waits; idle = g .idle; counts = g .counts; digests = digests; waits = waits }
 
 -- the same of a list of records
 unfoldable pub standsOf : Node → List Session → ℕ
@@ -151,9 +156,27 @@ module _ (node : Node) (l : List Session) (waits : List ℕ) (planned : accepted
           (split (every silent l) (λ e. rw e (quiet-rules e)) (λ e. rw e (loud-rules (f (rw (g, q, e))))))
 
   -- where the rules are kept, quiet is said of every record
-  quiet-seen : keepsRules node l ≡ true → seen .quiet ≡ every silent l
+  pub quiet-seen : keepsRules node l ≡ true → seen .quiet ≡ every silent l
   quiet-seen k = split (every (recordOk b) l)
       (λ e. split (pairwise sameKey (map keyOf l)) (λ p. rw (apart-seen e p)) (λ p. impossible (sym (twice-rules e p) ∙ k)))
+      (λ e. impossible (sym (bad-rules e) ∙ k))
+
+  pub waiting-seen : keepsRules node l ≡ true → waitingOf seen ≡ not (every silent l)
+  unfolding waitingOf
+  waiting-seen k = split (every (recordOk b) l)
+      (λ e. split (pairwise sameKey (map keyOf l)) (λ p. rw (apart-seen e p)) (λ p. impossible (sym (twice-rules e p) ∙ k)))
+      (λ e. impossible (sym (bad-rules e) ∙ k))
+
+  -- and so are what is due and the counts
+  pub idle-seen : keepsRules node l ≡ true → seen .idle ≡ every (λ s. not (isDue s)) l
+  idle-seen k = split (every (recordOk b) l)
+      (λ e. split (pairwise sameKey (map keyOf l)) (λ p. rw (apart-seen e p)) (λ p. impossible (sym (twice-rules e p) ∙ k)))
+      (λ e. impossible (sym (bad-rules e) ∙ k))
+
+  pub counts-seen : keepsRules node l ≡ true → (a : ℕ) → a < 4 → getD (unpackedOf (seen .counts)) a 0 ≡ liveOn a l
+  unfolding places
+  counts-seen k a h = split (every (recordOk b) l)
+      (λ e. split (pairwise sameKey (map keyOf l)) (λ p. rw (apart-seen e p) (unpacked-at l (omega arith) a h)) (λ p. impossible (sym (twice-rules e p) ∙ k)))
       (λ e. impossible (sym (bad-rules e) ∙ k))
 
   kept-none : seen .good ≡ false → keepsRules node l ≡ false → keptOf (length l) node seen waits ≡ keepsRules node l

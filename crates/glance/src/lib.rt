@@ -14,7 +14,7 @@ ghost use Rattle.table.specs.Rules.{boundsOf};
 ghost use Rattle.rules.specs.Survey.{waitOf};
 ghost use Rattle.distinct.specs.Lacks.{lacks};
 ghost use Rattle.glance.specs.Digest.{freeDigest, takenDigest, keyIn, markOf};
-ghost use Rattle.glance.specs.Glance.{noGlance, glanceOf, keptOf, standingOf, standsBy, waitingOf};
+ghost use Rattle.glance.specs.Glance.{noGlance, glanceOf, keptOf, standingOf, standsBy, waitingOf, sightOf};
 ghost use Rattle.glance.specs.Over.{entersOf, marksOf, flagsIn, talliedIn, packedIn};
 
 // What the digests of a table say: every record good and no key twice, no number awaited, nothing due, the counts packed.
@@ -274,6 +274,29 @@ pub fn standing(count: usize, node: Node, g: Glance, waits: [u64; 64]) -> u8
         return 1;
     }
     2
+}
+
+// What the check of a table has read of its records, beside how it stands: whether nothing is due, the counts packed, the digests, and the
+// awaited numbers as keys where one is awaited.
+pub struct Seen {
+    pub how: u8,
+    pub idle: bool,
+    pub counts: u64,
+    pub digests: [u64; 64],
+    pub waits: [u64; 64],
+}
+
+pub fn as_seen(count: usize, node: Node, g: Glance, digests: [u64; 64], waits: [u64; 64]) -> Seen
+    ensures { λ r. ⌜ r ≡ sightOf count node g digests waits ⌝ }
+{
+    let how = standing(count, node, g, waits);
+    Seen {
+        how,
+        idle: g.idle,
+        counts: g.counts,
+        digests,
+        waits,
+    }
 }
 
 // Whether it stands by every rule.

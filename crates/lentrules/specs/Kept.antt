@@ -1,20 +1,35 @@
 -- The check as it is done on lent records, step by step, says how they stand.
 -- Assumes nothing.
-use Prim.Native.Nat.{ℕ}
-use mathlib.Core.Bool.{Bool, true}
-use mathlib.Core.List.{List, map}
-use mathlib.Core.Path.{_≡_, sym, _∙_}
-use lib.ListN.{length}
+use Prim.Native.Nat.{ℕ, _<_}
+use mathlib.Core.Bool.{Bool, true, false, not}
+use mathlib.Core.List.{List, [], _∷_, map}
+use mathlib.Core.Path.{_≡_, refl, sym, ap, _∙_}
+use lib.ListN.{length, getD, replicate}
+use Rattle.octets.specs.Choice.{split, and-left, and-right}
+use Rattle.octets.specs.Every.{every}
 use Rattle.tunnel.specs.Numbering.{places}
 use Rattle.session.specs.declared.Session.{Session}
 use Rattle.session.specs.declared.Bounds.{Bounds}
 use Rattle.table.specs.declared.Node.{Node}
-use Rattle.table.specs.Rules.{boundsOf}
-use Rattle.rules.specs.Survey.{waitOf, waitsOf}
+use Rattle.session.specs.Session.{isDue}
+use Rattle.table.specs.Rules.{liveOn, boundsOf, keepsRules, rules-of}
+use Rattle.rules.specs.Survey.{waitOf, waitsOf, silent}
+use Rattle.rules.specs.Check.{unpackedOf}
 use Rattle.glance.specs.declared.Glance.{Glance}
+use Rattle.glance.specs.declared.Seen.{Seen}
 use Rattle.glance.specs.Digest.{digestOf}
-use Rattle.glance.specs.Glance.{glanceOf, waitingOf, standingOf, standsOf, standing-is}
+use Rattle.glance.specs.Glance.{glanceOf, waitingOf, standingOf, sightOf, standsOf, standing-is, waiting-seen, idle-seen, counts-seen}
 use Rattle.lentrules.specs.Read.{readOf, read-all}
+
+-- what the check reads of the records, beside how they stand
+unfoldable pub seenOf : Node → List Session → Seen
+seenOf node l = record {
+  how = standsOf node l;
+  idle = glanceOf (readOf (digestOf (boundsOf (node .plan))) true l) .idle;
+  counts = glanceOf (readOf (digestOf (boundsOf (node .plan))) true l) .counts;
+  digests = readOf (digestOf (boundsOf (node .plan))) true l;
+  waits = readOf (λ z. waitOf (z .own)) (waitingOf (glanceOf (readOf (digestOf (boundsOf (node .plan))) true l))) l;
+}
 
 -- the numbers read of the records, and what was asked for them
 module _ (node : Node) (l : List Session) (b : Bounds) (ds : List ℕ) (g : Glance) (wanted : Bool) (waits : List ℕ)
@@ -29,3 +44,45 @@ module _ (node : Node) (l : List Session) (b : Bounds) (ds : List ℕ) (g : Glan
 
   pub standing-lent : standingOf (length l) node g waits ≡ standsOf node l
   standing-lent = rw e-g (standing-is node l ds waits digested waited)
+
+  pub seen-lent : sightOf (length l) node g ds waits ≡ seenOf node l
+  unfolding sightOf seenOf
+  seen-lent = let s = standing-lent in rw (s, e-a, e-w, e-g, e-d, e-b)
+
+-- ---- what is seen of records that keep the rules
+module _ (node : Node) (l : List Session) (kept : keepsRules node l ≡ true) where
+  abbrev b : Bounds
+  b = boundsOf (node .plan)
+
+  pub seen-digests : seenOf node l .digests ≡ map (digestOf b) l
+  unfolding seenOf
+  seen-digests = read-all (digestOf b) l (rules-of node l kept .size)
+
+  pub seen-idle : seenOf node l .idle ≡ every (λ s. not (isDue s)) l
+  unfolding seenOf
+  seen-idle = let r = rules-of node l kept in rw (read-all (digestOf b) l (r .size)) (idle-seen node l [] (r .planned) (r .size) kept)
+
+  pub seen-counts : (a : ℕ) → a < 4 → getD (unpackedOf (seenOf node l .counts)) a 0 ≡ liveOn a l
+  unfolding seenOf
+  seen-counts a h = let r = rules-of node l kept in rw (read-all (digestOf b) l (r .size)) (counts-seen node l [] (r .planned) (r .size) kept a h)
+
+  -- where no number is awaited every key is 0
+  quiet-waits : (m : List Session) → every silent m ≡ true → replicate (length m) 0 ≡ waitsOf m
+  unfolding waitsOf waitOf every silent
+  quiet-waits [] e = refl
+  quiet-waits (s ∷ m) e = rw (and-left (silent s) (every silent m) e) (ap (λ (t : List ℕ). 0 ∷ t) (quiet-waits m (and-right (silent s) (every silent m) e)))
+
+  -- none is read where none is awaited
+  unread : every silent l ≡ true → readOf (λ z. waitOf (z .own)) false l ≡ waitsOf l
+  unfolding readOf places
+  unread e = let n : length l ≡ 64 = rules-of node l kept .size in ap (λ (k : ℕ). replicate k 0) (sym n) ∙ quiet-waits l e
+
+  whole : readOf (λ z. waitOf (z .own)) true l ≡ waitsOf l
+  unfolding waitsOf
+  whole = read-all (λ z. waitOf (z .own)) l (rules-of node l kept .size)
+
+  pub seen-waits : seenOf node l .waits ≡ waitsOf l
+  unfolding seenOf
+  seen-waits =
+      let r = rules-of node l kept in
+      rw (read-all (digestOf b) l (r .size), waiting-seen node l [] (r .planned) (r .size) kept) (split (every silent l) (λ e. rw e (unread e)) (λ e. rw e whole))

@@ -1,5 +1,6 @@
 // Whether the caller's lent records keep the table rules: they are read where they lie, one number of each, and nothing is copied but
 // these. The walks over the lent slice are proved by hand; all else is covered.
+use glance::Seen;
 use session::Bounds;
 use session::Session;
 use table::Node;
@@ -12,6 +13,7 @@ ghost use Rattle.rules.specs.Survey.{waitOf};
 ghost use Rattle.glance.specs.Digest.{digestOf};
 ghost use Rattle.glance.specs.Glance.{standsOf};
 ghost use Rattle.lentrules.specs.Read.{boundOf, readOf};
+ghost use Rattle.lentrules.specs.Kept.{seenOf};
 
 // How many of a count of lent records are read: all where there are as many as places and they are wanted, else none.
 pub fn bound(wanted: bool, count: usize) -> usize
@@ -92,6 +94,19 @@ pub fn standing(node: Node, recs: &[Session]) -> u8
     let wanted = glance::waiting(g);
     let waits = awaited(recs, wanted);
     glance::standing(count, node, g, waits)
+}
+
+// The same, with what was read of the records for it.
+pub fn seen(node: Node, recs: &[Session]) -> Seen
+    ensures { λ r. ⌜ r ≡ seenOf node (now (recs .entry)) ⌝ }
+{
+    let count = recs.len();
+    let b = glance::bounds_of(node);
+    let ds = digests(recs, b);
+    let g = glance::glance_of(ds);
+    let wanted = glance::waiting(g);
+    let waits = awaited(recs, wanted);
+    glance::as_seen(count, node, g, ds, waits)
 }
 
 // Whether the records keep every rule.
