@@ -25,14 +25,6 @@ pub struct Glance {
     pub counts: u64,
 }
 
-// STUB
-pub struct Seen {
-    pub how: u8,
-    pub counts: u64,
-    pub digests: [u64; 64],
-    pub waits: [u64; 64],
-}
-
 impl Glance {
     // the bits of a digest: the key has the low ones, the access point the top two
     pub const KEYS: u64 = 288230376151711744;

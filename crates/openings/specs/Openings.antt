@@ -4,7 +4,7 @@
 use Prim.Native.Nat.{ℕ, _+_, _-_, _*_, _%_, _<_, _≤_}
 use mathlib.Core.Bool.{Bool, true, false, _&&_}
 use mathlib.Core.List.{List}
-use mathlib.Core.Path.{_≡_, refl, sym, ap, _∙_}
+use mathlib.Core.Path.{_≡_, ap}
 use native.Mathlib.Omega.{arith}
 use lib.ListN.{length, getD, drop}
 use lib.Dec.{eqb, ltb}
@@ -17,7 +17,6 @@ use Rattle.sharing.specs.Sharing.{admits}
 use Rattle.session.specs.declared.Session.{Session}
 use Rattle.session.specs.Session.{freed, opened}
 use Rattle.table.specs.declared.Node.{Node}
-use Rattle.table.specs.Change.{nobody}
 use Rattle.rules.specs.Survey.{weightOf, weight-most}
 use Rattle.rules.specs.Check.{unpackedOf}
 use Rattle.header.specs.Header.{headerOf}

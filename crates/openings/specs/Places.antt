@@ -1,20 +1,19 @@
 -- What the digests of a table that keeps its rules say of its records: the place of the session with an IMSI and EBI, the first free
 -- place once one place is freed, and the sharing rule then.
 -- Assumes nothing.
-use Prim.Native.Nat.{ℕ, zero, suc, _+_, _-_, _*_, _%_, _<_, _≤_}
-use mathlib.Core.Bool.{Bool, true, false, not, _&&_}
+use Prim.Native.Nat.{ℕ, zero, suc, _+_, _*_, _%_, _<_, _≤_}
+use mathlib.Core.Bool.{Bool, true, false}
 use mathlib.Core.List.{List, [], _∷_, map}
-use mathlib.Core.Path.{_≡_, refl, sym, ap, _∙_}
+use mathlib.Core.Path.{_≡_, refl, _∙_}
 use native.Mathlib.Omega.{arith}
 use lib.ListN.{length, getD, set, length-set, List·getD-eq-default}
 use lib.Seq.{set-out}
 use lib.Dec.{eqb, leb, ltb}
 use borrow.Author.Tests.{eqb-true, eqb-false, eq-eqb, ne-eqb, lt-ltb, le-ltb, ltb-true, ltb-false}
-use Rattle.octets.specs.Choice.{pick, split, impossible, and-left, and-right, tests}
+use Rattle.octets.specs.Choice.{split, and-left, and-right, tests}
 use Rattle.octets.specs.Every.{every}
 use Rattle.octets.specs.Sums.{sumOf, sum-set, count-most}
 use Rattle.octets.specs.Search.{firstOf, first-most}
-use Rattle.tunnel.specs.Numbering.{places}
 use Rattle.plan.specs.declared.Plan.{Plan}
 use Rattle.plan.specs.Limits.{parties}
 use Rattle.sharing.specs.Sharing.{admits}

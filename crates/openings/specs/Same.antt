@@ -1,31 +1,27 @@
 -- What a Create comes to on the digests of the records and on two records is what it comes to on the whole table.
 -- Assumes nothing.
-use Prim.Native.Nat.{ℕ, zero, suc, _+_, _<_, _≤_}
-use mathlib.Core.Bool.{Bool, true, false, not, _&&_}
+use Prim.Native.Nat.{ℕ, _<_, _≤_}
+use mathlib.Core.Bool.{true, false}
 use mathlib.Core.List.{List, map}
-use mathlib.Core.Logic.{_≢_}
 use mathlib.Core.Path.{_≡_, refl, sym, ap, _∙_}
 use native.Mathlib.Omega.{arith}
-use lib.ListN.{length, drop, getD, set, length-set}
+use lib.ListN.{length, getD, set, length-set}
 use lib.Seq.{set-getD, set-out, getD-set-same, getD-set-other}
 use lib.Dec.{eqb, ltb}
 use borrow.Author.Tests.{eqb-true, eqb-false, lt-ltb, le-ltb, ltb-true, ltb-false}
-use Rattle.octets.specs.Choice.{pick, split, impossible}
+use Rattle.octets.specs.Choice.{split, impossible}
 use Rattle.octets.specs.Sums.{sumOf}
 use Rattle.octets.specs.Search.{firstOf, first-most}
 use Rattle.tunnel.specs.Numbering.{places}
-use Rattle.plan.specs.declared.Plan.{Plan}
 use Rattle.plan.specs.Limits.{parties}
 use Rattle.sharing.specs.Sharing.{admits}
 use Rattle.session.specs.declared.Session.{Session}
 use Rattle.session.specs.declared.Opening.{Opening}
-use Rattle.session.specs.declared.Bounds.{Bounds}
 use Rattle.session.specs.Session.{isFree, hasId, freed, opened, blankAt}
 use Rattle.table.specs.declared.Node.{Node}
-use Rattle.table.specs.declared.Found.{Found}
 use Rattle.table.specs.declared.Found.the-variants as F
 use Rattle.table.specs.Rules.{keepsRules, Rules, rules-of, boundsOf, live}
-use Rattle.table.specs.Change.{nobody, changedAt, rules-freed, changed-out, length-changed}
+use Rattle.table.specs.Change.{nobody, changedAt, rules-freed, changed-out}
 use Rattle.table.specs.Find.{foundIn}
 use Rattle.table.specs.Room.{freePlace, place-free}
 use Rattle.table.specs.Own.{hearing}
@@ -42,7 +38,6 @@ use Rattle.requests.specs.declared.Decoded.{Decoded}
 use Rattle.requests.specs.declared.Decoded.the-variants as D
 use Rattle.requests.specs.declared.Request.the-variants as Q
 use Rattle.requests.specs.Create.{createOf, replyTo, CreateSound, create-sound}
-use Rattle.timing.specs.declared.Answer.{Answer}
 use Rattle.timing.specs.Timing.{Outcome, outcome, leastReply, held, refused}
 use Rattle.echoes.specs.Echoes.{restartsBy, heardNode, heardBy, heard-same}
 use Rattle.amends.specs.Amends.{causeTaken}
@@ -55,8 +50,7 @@ use Rattle.openings.specs.declared.Wish.{Wish}
 use Rattle.openings.specs.declared.Wish.the-variants as W
 use Rattle.openings.specs.declared.Sight.{Sight}
 use Rattle.openings.specs.declared.Pair.{Pair}
-use Rattle.openings.specs.declared.Opened.{Opened}
-use Rattle.openings.specs.Openings.{wishBy, restOf, wishOf, inPlace, keyFor, idKey, keyPlace, freeIn, sightOf, repeatsAt, roomFor, lower, openPlace, newPlace, pairBy, Made, made, unmovedOn, fullOn, enteredOn, openOn, wishTaken, takenOn, taken-broken, taken-kept}
+use Rattle.openings.specs.Openings.{wishBy, restOf, wishOf, inPlace, keyFor, sightOf, repeatsAt, roomFor, openPlace, newPlace, pairBy, Made, made, unmovedOn, fullOn, enteredOn, openOn, wishTaken, takenOn, taken-broken, taken-kept}
 use Rattle.openings.specs.Places.{key-place, free-place, free-then, room-then}
 
 -- what was seen of the records: whether they keep the rules, and then their digests and packed counts

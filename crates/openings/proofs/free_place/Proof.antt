@@ -1,5 +1,5 @@
 use Prim.Native.Nat.{_+_, _-_}
-use mathlib.Core.Path.{_≡_, refl, sym, ap, _∙_}
+use mathlib.Core.Path.{_≡_}
 use native.Mathlib.Omega.{arith}
 use borrow.Author.Needs.{needs}
 use borrow.Author.Tests.{eq-eqb, ne-eqb}
@@ -10,8 +10,6 @@ use Rattle.octets.specs.Search.{firstOf}
 use Rattle.openings.specs.Openings.{freeIn, search-hit, search-on, search-end}
 use Rattle.openings.proofs.free_place.Statement.{statement}
 use Rattle.openings.proofs.free_place.Tie as tie
-use Rattle.openings.proofs.free_place.Reads as reads
-use Rattle.openings.proofs.free_place.Lts as lts
 
 abbrev Inv-loop : tie.InvT-loop
 Inv-loop ds i₀ i = firstOf (λ d. eqb d 0) ds ≡ i + firstOf (λ d. eqb d 0) (drop i ds)
@@ -19,36 +17,28 @@ Inv-loop ds i₀ i = firstOf (λ d. eqb d 0) ds ≡ i + firstOf (λ d. eqb d 0) 
 abbrev μ-loop : tie.MeasureT-loop
 μ-loop ds i₀ i = length ds - i
 
--- src/lib.rt:153:5
 loop-holds : tie.Need-loop-holds Inv-loop μ-loop
 loop-holds c = omega arith
 
--- src/lib.rt:154:12
 mul-if1 : tie.Need-mul-if1 Inv-loop μ-loop
 mul-if1 c = search needs
 
--- src/lib.rt:154:12
 shared-slice-read-if1 : tie.Need-shared-slice-read-if1 Inv-loop μ-loop
 shared-slice-read-if1 c = search needs
 
--- src/lib.rt:155:13
 returns : tie.Need-returns Inv-loop μ-loop
 unfolding freeIn
 returns c = let a = c .before .before .before .before .args in let k = c .before .before .before .loop in search-hit (λ d. eqb d 0) (now (a .ds)) (k .i) (k .inv) (omega arith) (eq-eqb (getD (now (a .ds)) (k .i) 0) 0 (c .if1 .taken))
 
--- src/lib.rt:157:9
 add-i : tie.Need-add-i Inv-loop μ-loop
 add-i c = search needs
 
--- src/lib.rt:153:5
 loop-less : tie.Need-loop-less Inv-loop μ-loop
 loop-less c = search needs
 
--- src/lib.rt:153:5
 loop-again : tie.Need-loop-again Inv-loop μ-loop
 loop-again c = let a = c .before .before .before .before .args in let k = c .before .before .before .loop in search-on (λ d. eqb d 0) (now (a .ds)) (k .i) (k .inv) (omega arith) (ne-eqb (getD (now (a .ds)) (k .i) 0) 0 (c .if1 .left))
 
--- src/lib.rt:149:1
 returns-2 : tie.Need-returns-2 Inv-loop μ-loop
 unfolding freeIn
 returns-2 c = let a = c .before .before .args in let k = c .before .loop in search-end (λ d. eqb d 0) (now (a .ds)) (k .i) (k .inv) (omega arith)

@@ -1,17 +1,12 @@
-use mathlib.Core.Path.{_≡_, refl, sym, _∙_}
 use borrow.Author.Tests.{lt-ltb, le-ltb}
 use Rattle.openings.specs.Openings.{lower}
 use Rattle.openings.proofs.lower.Statement.{statement}
 use Rattle.openings.proofs.lower.Tie as tie
-use Rattle.openings.proofs.lower.Reads as reads
-use Rattle.openings.proofs.lower.Lts as lts
 
--- src/lib.rt:204:9
 returns : tie.Need-returns
 unfolding lower
 returns c = rw (lt-ltb _ _ (c .if1 .taken))
 
--- src/lib.rt:200:1
 returns-2 : tie.Need-returns-2
 unfolding lower
 returns-2 c = rw (le-ltb _ _ (c .if1 .left))

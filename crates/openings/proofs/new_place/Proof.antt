@@ -1,40 +1,29 @@
-use mathlib.Core.Path.{_≡_, refl, sym, _∙_}
 use Rattle.tunnel.specs.Numbering.{places}
 use Rattle.openings.specs.Openings.{newPlace}
 use borrow.Author.Needs.{needs}
 use Rattle.openings.proofs.new_place.Statement.{statement}
 use Rattle.openings.proofs.new_place.Tie as tie
-use Rattle.openings.proofs.new_place.Reads as reads
-use Rattle.openings.proofs.new_place.Lts as lts
-use Rattle.openings.proofs.open_place.Reads as open-place-reads
 
--- src/lib.rt:230:24
 enum-told : tie.Need-enum-told
 enum-told c = search needs
 
--- src/lib.rt:235:14
 enum-told-2 : tie.Need-enum-told-2
 enum-told-2 c = search needs
 
--- src/lib.rt:236:22
 enum-known-w : tie.Need-enum-known-w
 enum-known-w c = search needs
 
--- src/lib.rt:236:44
 open-place-requires : tie.Need-open-place-requires
 open-place-requires c κs = search needs
 
--- src/lib.rt:226:1
 returns : tie.Need-returns
 unfolding newPlace places
 returns c = rw (c .enum-told .given .1)
 
--- src/lib.rt:226:1
 returns-2 : tie.Need-returns-2
 unfolding newPlace places
 returns-2 c = rw (c .enum-told2 .given .1)
 
--- src/lib.rt:226:1
 returns-3 : tie.Need-returns-3
 unfolding newPlace places
 returns-3 c = rw (c .before .before .w .given .1) (c .open-place .ensures)

@@ -1,73 +1,52 @@
 use denote.Ref.{now}
-use mathlib.Core.Path.{_≡_, refl, sym, _∙_}
-use mathlib.Core.Path.{_≡_, refl, sym, _∙_}
 use borrow.Author.Tests.{not-true, not-false}
 use Rattle.openings.specs.Openings.{wishTaken, taken-broken, taken-kept}
 use borrow.Author.Needs.{needs}
 use Rattle.openings.proofs.take.Statement.{statement}
 use Rattle.openings.proofs.take.Tie as tie
-use Rattle.openings.proofs.take.Reads as reads
-use Rattle.openings.proofs.take.Lts as lts
-use Rattle.amends.proofs.write_cause.Reads as write-cause-reads
-use Rattle.openings.proofs.open_on.Reads as open-on-reads
-use Rattle.openings.proofs.unmoved.Reads as unmoved-reads
 
--- src/lib.rt:318:9
 unmoved-requires : tie.Need-unmoved-requires
 unmoved-requires c κs = search needs
 
--- src/lib.rt:318:9
 returns : tie.Need-returns
 unfolding wishTaken
 returns c = let a = c .before .before .before .before .args in rw (taken-broken (a .node) (a .w) (a .p) (now (a .reply)) (not-true (a .p .kept) (c .before .if1 .taken)), c .unmoved .ensures)
 
--- src/lib.rt:321:38
 enum-told : tie.Need-enum-told
 enum-told c = search needs
 
--- src/lib.rt:321:24
 unmoved-requires-2 : tie.Need-unmoved-requires-2
 unmoved-requires-2 c κs = search needs
 
--- src/lib.rt:322:25
 enum-known-w : tie.Need-enum-known-w
 enum-known-w c = search needs
 
--- src/lib.rt:323:17
 write-cause-requires : tie.Need-write-cause-requires
 write-cause-requires c κs = search needs
 
--- src/lib.rt:324:13
 unmoved-requires-3 : tie.Need-unmoved-requires-3
 unmoved-requires-3 c κs = search needs
 
--- src/lib.rt:326:22
 enum-known-w-2 : tie.Need-enum-known-w-2
 enum-known-w-2 c = search needs
 
--- src/lib.rt:326:44
 open-on-requires : tie.Need-open-on-requires
 open-on-requires c κs = search needs
 
--- src/lib.rt:314:1
 returns-2 : tie.Need-returns-2
 unfolding wishTaken
 returns-2 c = let a = c .before .before .before .before .before .before .args in rw (taken-kept (a .node) (a .w) (a .p) (now (a .reply)) (not-false (a .p .kept) (c .before .before .before .if1 .left)), c .before .enum-told .given .1, c .unmoved2 .ensures)
 
--- src/lib.rt:314:1
 same-length : tie.Need-same-length
 same-length c = search needs
 
--- src/lib.rt:314:1
 returns-3 : tie.Need-returns-3
 unfolding wishTaken
 returns-3 c = let a = c .before .before .before .before .before .before .before .before .before .before .before .args in rw (taken-kept (a .node) (a .w) (a .p) (now (a .reply)) (not-false (a .p .kept) (c .before .before .before .before .before .before .before .before .if1 .left)), c .before .before .before .before .before .before .w .given .1, c .unmoved3 .ensures, c .before .before .before .write-cause .ensures .length, c .before .before .before .write-cause .ensures .octets)
 
--- src/lib.rt:314:1
 same-length-2 : tie.Need-same-length-2
 same-length-2 c = search needs
 
--- src/lib.rt:314:1
 returns-4 : tie.Need-returns-4
 unfolding wishTaken
 returns-4 c = let a = c .before .before .before .before .before .before .before .before .before .before .args in rw (taken-kept (a .node) (a .w) (a .p) (now (a .reply)) (not-false (a .p .kept) (c .before .before .before .before .before .before .before .if1 .left)), c .before .before .before .before .before .w2 .given .1) (c .before .before .open-on .ensures)

@@ -1,11 +1,8 @@
-use mathlib.Core.Path.{_≡_, refl, sym, _∙_}
+use mathlib.Core.Path.{refl}
 use Rattle.openings.specs.Openings.{unmovedOn}
 use Rattle.openings.proofs.unmoved.Statement.{statement}
 use Rattle.openings.proofs.unmoved.Tie as tie
-use Rattle.openings.proofs.unmoved.Reads as reads
-use Rattle.openings.proofs.unmoved.Lts as lts
 
--- src/lib.rt:241:1
 returns : tie.Need-returns
 unfolding unmovedOn
 returns c = refl
