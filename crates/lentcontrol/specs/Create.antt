@@ -57,13 +57,15 @@ pub pair-lent : (node : Node) (l : List Session) (w : Wish) (v : Seen) (g : Sigh
 unfolding pairLent pairIn
 pair-lent node l w v g old new s t r e-v e-g e-old e-s e-new e-t e-r = rw (e-r, e-t, e-new, e-s, e-old, e-g, e-v)
 
-pub pair-put : (l ys zs : List Session) (p : Pair) (o : Opened) (i j : ℕ) (s t : Session) → i ≡ p .old → s ≡ o .old → ys ≡ set l i s → j ≡ p .new → t ≡ o .new → zs ≡ set ys j t
+pub pair-put : (l ys zs : List Session) (p : Pair) (o : Opened) (i j : ℕ) (s t : Session)
+    → i ≡ p .old → s ≡ o .old → ys ≡ set l i s → j ≡ p .new → t ≡ o .new → zs ≡ set ys j t
     → zs ≡ pairPut l p o
 unfolding pairPut
 pair-put l ys zs p o i j s t e-i e-s e-ys e-j e-t e-zs = rw (e-zs, e-t, e-j, e-ys, e-s, e-i)
 
 pub create-lent : (node : Node) (l zs : List Session) (w : Wish) (reply after : List ℕ) (p : Pair) (o : Opened) (r : Left)
-    → p ≡ pairLent node l w → made o after ≡ takenOn node w p reply → zs ≡ pairPut l p o → r ≡ leftOpened node o → outcome (left r zs) after ≡ createLent node l w reply
+    → p ≡ pairLent node l w → made o after ≡ takenOn node w p reply → zs ≡ pairPut l p o → r ≡ leftOpened node o
+    → outcome (left r zs) after ≡ createLent node l w reply
 unfolding createLent placedPair pairPut left leftOpened
 create-lent node l zs w reply after p o r e-p e-o e-zs e-r = rw (e-r, e-zs, ← e-p, ← e-o)
 

@@ -2,15 +2,15 @@
 -- place once one place is freed, and the sharing rule then.
 -- Assumes nothing.
 use Prim.Native.Nat.{ℕ, zero, suc, _+_, _*_, _%_, _<_, _≤_}
-use mathlib.Core.Bool.{Bool, true, false}
+use mathlib.Core.Bool.{Bool, true}
 use mathlib.Core.List.{List, [], _∷_, map}
 use mathlib.Core.Path.{_≡_, refl, _∙_}
 use native.Mathlib.Omega.{arith}
 use lib.ListN.{length, getD, set, length-set, List·getD-eq-default}
 use lib.Seq.{set-out}
-use lib.Dec.{eqb, leb, ltb}
+use lib.Dec.{eqb, ltb}
 use borrow.Author.Tests.{eqb-true, eqb-false, eq-eqb, ne-eqb, lt-ltb, le-ltb, ltb-true, ltb-false}
-use Rattle.octets.specs.Choice.{split, and-left, and-right, tests}
+use Rattle.octets.specs.Choice.{split, and-left, and-right}
 use Rattle.octets.specs.Every.{every}
 use Rattle.octets.specs.Sums.{sumOf, sum-set, count-most}
 use Rattle.octets.specs.Search.{firstOf, first-most}
@@ -19,14 +19,13 @@ use Rattle.plan.specs.Limits.{parties}
 use Rattle.sharing.specs.Sharing.{admits}
 use Rattle.session.specs.declared.Session.{Session}
 use Rattle.session.specs.declared.Bounds.{Bounds}
-use Rattle.session.specs.Session.{isFree, isOn, hasId, recordOk, freed, blankAt, heldOk, readOk, imsis}
-use Rattle.session.specs.Keep.{live-of}
+use Rattle.session.specs.Session.{isFree, isOn, hasId, recordOk, freed, blankAt}
 use Rattle.table.specs.Rules.{liveOn, live}
 use Rattle.table.specs.Change.{nobody, changedAt}
 use Rattle.rules.specs.Survey.{keyOf, weightOf}
-use Rattle.rules.specs.Check.{unpackedOf, unpacked-at, packed}
+use Rattle.rules.specs.Check.{unpackedOf, known-id, unpacked-at, packed}
 use Rattle.creates.specs.Creates.{admits-agree}
-use Rattle.glance.specs.Digest.{digestOf, keyIn, key-in, key-range}
+use Rattle.glance.specs.Digest.{digestOf, keyIn, key-in, free-in}
 use Rattle.openings.specs.Openings.{idKey, keyPlace, freeIn, countsLess, roomFor, lower}
 
 -- ---- a search among what is read of the elements, and one by a test that agrees
@@ -55,39 +54,24 @@ first-set p (y ∷ l) (suc i) x e h =
 
 -- ---- one record and its digest
 module _ (b : Bounds) (s : Session) (ok : recordOk b s ≡ true) where
-  free-digest : isFree s ≡ true → digestOf b s ≡ 0
-  unfolding digestOf
-  free-digest n = rw (ok, n)
-
-  pub free-in : eqb (digestOf b s) 0 ≡ isFree s
-  free-in = split (isFree s) (λ n. rw (free-digest n, n))
-      (λ n. let k = key-range b s ok n .1 in
-      let i = key-in b s ok in
-      rw n (ne-eqb (digestOf b s) 0 (λ e. let z : keyIn 0 ≡ keyOf s = rw e at i in omega arith)))
-
-  known : isFree s ≡ false → (s .imsi < 1000000000000000) × ((5 ≤ s .ebi) × (s .ebi ≤ 15))
-  unfolding heldOk readOk imsis
-  known n =
-      let h = live-of b s ok n .held in
-      let i : ltb (s .imsi) 1000000000000000 ≡ true = search (and-left, and-right) depth 9 in
-      let l : leb 5 (s .ebi) ≡ true = search (and-left, and-right) depth 9 in
-      let m : leb (s .ebi) 15 ≡ true = search (and-left, and-right) depth 9 in
-      (omega (arith, tests), (omega (arith, tests), omega (arith, tests)))
-
   id-in : (imsi ebi : ℕ) → imsi < 1000000000000000 → 5 ≤ ebi → ebi ≤ 15 → eqb (keyIn (digestOf b s)) (idKey imsi ebi) ≡ hasId imsi ebi s
   unfolding keyOf idKey hasId
   id-in imsi ebi h low high = rw (key-in b s ok) (split (isFree s)
       (λ n. rw n (ne-eqb 0 (imsi % 36028797018963968 * 256 + ebi) (λ q. omega arith)))
-      (λ n. let k = known n in rw n
-      (split (eqb (s .imsi) imsi)
-      (λ t. let x = eqb-true (s .imsi) imsi t in split (eqb (s .ebi) ebi)
-      (λ u. let y = eqb-true (s .ebi) ebi u in rw (t, u, eq-eqb (s .imsi % 36028797018963968 * 256 + s .ebi) (imsi % 36028797018963968 * 256 + ebi) (omega arith)))
-      (λ u. let y = eqb-false (s .ebi) ebi u in rw (t, u, ne-eqb (s .imsi % 36028797018963968 * 256 + s .ebi) (imsi % 36028797018963968 * 256 + ebi) (λ q. omega arith))))
-      (λ t. let x = eqb-false (s .imsi) imsi t in rw (t, ne-eqb (s .imsi % 36028797018963968 * 256 + s .ebi) (imsi % 36028797018963968 * 256 + ebi) (λ q. omega arith))))))
+      (λ n. let k = known-id b s ok n in
+      let mine = s .imsi % 36028797018963968 * 256 + s .ebi in
+      let theirs = imsi % 36028797018963968 * 256 + ebi in
+      rw n (split (eqb (s .imsi) imsi)
+      (λ t. let x = eqb-true (s .imsi) imsi t in
+      split (eqb (s .ebi) ebi)
+      (λ u. let y = eqb-true (s .ebi) ebi u in rw (t, u, eq-eqb mine theirs (omega arith)))
+      (λ u. let y = eqb-false (s .ebi) ebi u in rw (t, u, ne-eqb mine theirs (λ q. omega arith))))
+      (λ t. let x = eqb-false (s .imsi) imsi t in rw (t, ne-eqb mine theirs (λ q. omega arith))))))
 
 -- ---- the places that the digests say
 module _ (b : Bounds) (l : List Session) (each : every (recordOk b) l ≡ true) where
-  pub key-place : (imsi ebi : ℕ) → imsi < 1000000000000000 → 5 ≤ ebi → ebi ≤ 15 → keyPlace (map (digestOf b) l) (idKey imsi ebi) ≡ firstOf (hasId imsi ebi) l
+  pub key-place : (imsi ebi : ℕ) → imsi < 1000000000000000 → 5 ≤ ebi → ebi ≤ 15
+      → keyPlace (map (digestOf b) l) (idKey imsi ebi) ≡ firstOf (hasId imsi ebi) l
   unfolding keyPlace
   key-place imsi ebi h low high =
       first-map (λ d. eqb (keyIn d) (idKey imsi ebi)) (digestOf b) l
@@ -124,7 +108,9 @@ module _ (l : List Session) (i : ℕ) (inside : i ≤ length l) where
   weight-then : sumOf weightOf (changedAt freed i l) + weightOf (getD l i nobody) ≡ sumOf weightOf l
   unfolding changedAt
   weight-then = split (ltb i (length l))
-      (λ e. let s = rw (freed-weight (getD l i nobody)) at (sum-set weightOf l i (freed (getD l i nobody)) nobody (ltb-true i (length l) e)) in omega arith)
+      (λ e. let h = ltb-true i (length l) e in
+      let s = rw (freed-weight (getD l i nobody)) at (sum-set weightOf l i (freed (getD l i nobody)) nobody h) in
+      omega arith)
       (λ e. let h = ltb-false i (length l) e in
       let d : getD l i nobody ≡ nobody = List·getD-eq-default l nobody h in
       let w = nobody-weight in
@@ -153,7 +139,8 @@ module _ (l : List Session) (i : ℕ) (inside : i ≤ length l) (size : length l
       let f = few (changedAt freed i l) (omega arith) in
       omega arith
 
-  pub room-then : (p : Plan) (point : ℕ) → parties p ≤ 4 → roomFor p (sumOf weightOf l) (getD l i nobody) point ≡ admits p (live (changedAt freed i l)) point
+  pub room-then : (p : Plan) (point : ℕ) → parties p ≤ 4
+      → roomFor p (sumOf weightOf l) (getD l i nobody) point ≡ admits p (live (changedAt freed i l)) point
   unfolding roomFor
   room-then p point four =
       let n = length-then i l in

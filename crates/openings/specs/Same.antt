@@ -59,9 +59,12 @@ pub record Told (node : Node) (l : List Session) (v : Seen) : Type 0 where
   pub digests : keepsRules node l ≡ true → v .digests ≡ map (digestOf (boundsOf (node .plan))) l
   pub counts : keepsRules node l ≡ true → v .counts ≡ sumOf weightOf l
 
--- the two records that a Create concerns
+-- the two records that a Create concerns, the second at place q
+abbrev pub pairWith : Sight → List Session → ℕ → Pair
+pairWith g l q = pairBy g (getD l (g .old) nobody) q (getD l q nobody)
+
 unfoldable pub pairIn : Sight → Node → List Session → Wish → Pair
-pairIn g node l w = pairBy g (getD l (g .old) nobody) (newPlace g node w (getD l (g .old) nobody)) (getD l (newPlace g node w (getD l (g .old) nobody)) nobody)
+pairIn g node l w = pairWith g l (newPlace g node w (getD l (g .old) nobody))
 
 -- the answer with the node, and with the two records put back in their places
 unfoldable pub placedPair : Node → Pair → List Session → Made → Outcome
@@ -91,7 +94,9 @@ opened-freed o s = refl
 
 opened-then : (o : Opening) (l : List Session) (p q : ℕ) → opened o (getD (changedAt freed p l) q nobody) ≡ opened o (getD l q nobody)
 unfolding changedAt
-opened-then o l p q = split (eqb p q) (λ e. let z = eqb-true p q e in rw (← z) same) (λ e. rw (getD-set-other l p q (freed (getD l p nobody)) nobody (λ z. eqb-false p q e (sym z))))
+opened-then o l p q = split (eqb p q)
+    (λ e. let z = eqb-true p q e in rw (← z) same)
+    (λ e. rw (getD-set-other l p q (freed (getD l p nobody)) nobody (λ z. eqb-false p q e (sym z))))
   where
     same : opened o (getD (set l p (freed (getD l p nobody))) p nobody) ≡ opened o (getD l p nobody)
     same = split (ltb p (length l))
@@ -105,7 +110,8 @@ stays l p q = rw (set-getD l p nobody) (set-getD l q nobody)
 -- ---- a sound Create that says no restart, on a table that keeps its rules
 module _ (node : Node) (l : List Session) (k : keepsRules node l ≡ true) (c : C.Create) (seq : ℕ) (sound : CreateSound (parties (node .plan)) c)
     (still : restartsBy (c .recovery) node ≡ false) (g : Sight)
-    (old : g .old ≡ firstOf (hasId (c .imsi) (c .ebi)) l) (free : g .free ≡ firstOf isFree l) (counts : g .counts ≡ sumOf weightOf l) (reply : List ℕ) where
+    (old : g .old ≡ firstOf (hasId (c .imsi) (c .ebi)) l) (free : g .free ≡ firstOf isFree l)
+    (counts : g .counts ≡ sumOf weightOf l) (reply : List ℕ) where
   abbrev s : Session
   s = getD l (g .old) nobody
 
@@ -120,7 +126,7 @@ module _ (node : Node) (l : List Session) (k : keepsRules node l ≡ true) (c : 
 
   -- the two records where q is the place that is opened, and what that comes to
   abbrev pairAt : ℕ → Pair
-  pairAt q = pairBy g s q (getD l q nobody)
+  pairAt q = pairWith g l q
 
   abbrev comes : ℕ → Outcome
   comes q = placedPair node (pairAt q) l (openOn c seq node (pairAt q) reply)
@@ -142,7 +148,9 @@ module _ (node : Node) (l : List Session) (k : keepsRules node l ≡ true) (c : 
   sixty-four = rules .size
 
   room : roomFor (node .plan) (g .counts) s (c .point) ≡ admits (node .plan) (live then′) (c .point)
-  room = let n = sixty-four in rw counts (room-then l (g .old) inside (omega arith) (node .plan) (c .point) (parties-four (node .plan) (rules .planned)))
+  room =
+      let n = sixty-four in
+      rw counts (room-then l (g .old) inside (omega arith) (node .plan) (c .point) (parties-four (node .plan) (rules .planned)))
 
   -- ---- the three ways that it can go
   repeat-same : repeatsAt (g .old) c seq s ≡ true → acceptedTaken seq (g .old) s after (held l) reply ≡ comes places
@@ -180,7 +188,8 @@ module _ (node : Node) (l : List Session) (k : keepsRules node l ≡ true) (c : 
 
   shared-in : admits (node .plan) (live then′) (c .point) ≡ true
       → shared c seq after (held then′) node (held l) reply
-      ≡ acceptedTaken seq (firstOf isFree then′) (opened o (getD then′ (firstOf isFree then′) nobody)) after (held (changedAt (opened o) (firstOf isFree then′) then′)) reply
+      ≡ acceptedTaken seq (firstOf isFree then′) (opened o (getD then′ (firstOf isFree then′) nobody)) after
+      (held (changedAt (opened o) (firstOf isFree then′) then′)) reply
   unfolding shared openedAt foundIn held
   shared-in a = rw (heard-plan (c .recovery) node, a, lt-ltb (firstOf isFree then′) (length then′) (place-in a))
 
@@ -221,7 +230,8 @@ module _ (node : Node) (l : List Session) (k : keepsRules node l ≡ true) (c : 
       (λ r. let t = met e ∙ r in rw r (repeat-same t ∙ ap (λ (q : ℕ). comes q) (sym (new-repeat t))))
       (λ r. rw r (shared-same (met e ∙ r)))))
       (λ e. rw (found-no e)
-      (ap (λ (x : List Session). shared c seq after (held x) node (held l) reply) (sym (changed-out freed (g .old) l (ltb-false (g .old) (length l) e)))
+      (ap (λ (x : List Session). shared c seq after (held x) node (held l) reply)
+      (sym (changed-out freed (g .old) l (ltb-false (g .old) (length l) e)))
       ∙ shared-same (unmet e)))
 
   pub heard-create-same : heardCreate c seq (heardBy (c .recovery) node (held l)) node (held l) reply ≡ comes new
@@ -230,8 +240,10 @@ module _ (node : Node) (l : List Session) (k : keepsRules node l ≡ true) (c : 
 
 -- ---- what is asked, on a table that keeps its rules
 -- nothing moves
-still-same : (node : Node) (l : List Session) (p : Pair) (number size : ℕ) (reply : List ℕ) → p .oldrecord ≡ getD l (p .old) nobody → p .newrecord ≡ getD l (p .new) nobody
-    → outcome (record { number = number; size = size; node = node; table = held l }) reply ≡ placedPair node p l (made (unmovedOn number size R.None p) reply)
+still-same : (node : Node) (l : List Session) (p : Pair) (number size : ℕ) (reply : List ℕ)
+    → p .oldrecord ≡ getD l (p .old) nobody → p .newrecord ≡ getD l (p .new) nobody
+    → outcome (record { number = number; size = size; node = node; table = held l }) reply
+    ≡ placedPair node p l (made (unmovedOn number size R.None p) reply)
 unfolding placedPair unmovedOn
 still-same node l p number size reply e f = rw (heard-none node, e, f, stays l (p .old) (p .new))
 
@@ -239,9 +251,13 @@ module _ (node : Node) (l : List Session) (v : Seen) (told : Told node l v) (rep
   abbrev pairFor : Wish → Pair
   pairFor w = pairIn (sightOf v w) node l w
 
+  -- what a wish comes to where the rules are kept
+  abbrev wishedTo : Wish → Outcome
+  wishedTo w = placedPair node (pairFor w) l (wishTaken node w (pairFor w) reply)
+
   module _ (k : keepsRules node l ≡ true) where
     open-same : (c : C.Create) (seq : ℕ) → CreateSound (parties (node .plan)) c → restartsBy (c .recovery) node ≡ false
-        → heardCreate c seq (heardBy (c .recovery) node (held l)) node (held l) reply ≡ placedPair node (pairFor (W.Open c seq)) l (wishTaken node (W.Open c seq) (pairFor (W.Open c seq)) reply)
+        → heardCreate c seq (heardBy (c .recovery) node (held l)) node (held l) reply ≡ wishedTo (W.Open c seq)
     unfolding pairIn newPlace wishTaken sightOf keyFor
     open-same c seq sound still =
         let r = rules-of node l k in
@@ -251,18 +267,18 @@ module _ (node : Node) (l : List Session) (v : Seen) (told : Told node l v) (rep
         (told .counts k) reply
 
     refused-same : (w : Refusal) (to seq : ℕ)
-        → causeTaken 33 to seq w node (held l) reply ≡ placedPair node (pairFor (W.Refused w to seq)) l (wishTaken node (W.Refused w to seq) (pairFor (W.Refused w to seq)) reply)
+        → causeTaken 33 to seq w node (held l) reply ≡ wishedTo (W.Refused w to seq)
     unfolding causeTaken wishTaken pairIn pairBy
     refused-same w to seq = still-same node l (pairFor (W.Refused w to seq)) (w .cause) _ _ refl refl
 
     taken-same : (seq : ℕ) (rest : List ℕ) → inPlace (wishBy (createOf (node .plan) rest) seq node rest) ≡ true
         → createTaken node (held l) seq rest reply
-        ≡ placedPair node (pairFor (wishBy (createOf (node .plan) rest) seq node rest)) l (wishTaken node (wishBy (createOf (node .plan) rest) seq node rest) (pairFor (wishBy (createOf (node .plan) rest) seq node rest)) reply)
+        ≡ wishedTo (wishBy (createOf (node .plan) rest) seq node rest)
     unfolding createTaken createBy wishBy inPlace
     taken-same seq rest e = by (createOf (node .plan) rest) refl e
       where
         by : (d : Decoded) → createOf (node .plan) rest ≡ d → inPlace (wishBy d seq node rest) ≡ true
-            → createBy d seq (replyTo rest) node (held l) reply ≡ placedPair node (pairFor (wishBy d seq node rest)) l (wishTaken node (wishBy d seq node rest) (pairFor (wishBy d seq node rest)) reply)
+            → createBy d seq (replyTo rest) node (held l) reply ≡ wishedTo (wishBy d seq node rest)
         by (D.Refused w) q e = refused-same w (replyTo rest) seq
         by (D.Sound (Q.Create c)) q e = split (restartsBy (c .recovery) node)
             (λ x. impossible (rw x at e))
@@ -281,15 +297,17 @@ module _ (node : Node) (l : List Session) (v : Seen) (told : Told node l v) (rep
   unfolding refused pairIn pairBy
   broken-same w k = rw (taken-broken node w (pairFor w) reply (kept-of w ∙ k)) (still-same node l (pairFor w) 2 0 reply refl refl)
 
-  kept-same : (w : Wish) → keepsRules node l ≡ true → placedPair node (pairFor w) l (wishTaken node w (pairFor w) reply) ≡ comesTo w
+  kept-same : (w : Wish) → keepsRules node l ≡ true → wishedTo w ≡ comesTo w
   kept-same w k = ap (λ (m : Made). placedPair node (pairFor w) l m) (sym (taken-kept node w (pairFor w) reply (kept-of w ∙ k)))
 
-  kind-create : (h : HeaderCursor) (rest : List ℕ) → eqb (h .kind) 32 ≡ true → kindTaken h rest node (held l) reply ≡ createTaken node (held l) (h .sequence) rest reply
+  kind-create : (h : HeaderCursor) (rest : List ℕ) → eqb (h .kind) 32 ≡ true
+      → kindTaken h rest node (held l) reply ≡ createTaken node (held l) (h .sequence) rest reply
   unfolding kindTaken
   kind-create h rest n = let k = eqb-true (h .kind) 32 n in rw (ap (λ (x : ℕ). eqb x 1) k, ap (λ (x : ℕ). eqb x 2) k, n)
 
   module _ (d : List ℕ) (room : ltb (length reply) leastReply ≡ false) where
-    to-kind : eqb (gateOf d) 0 ≡ true → keepsRules node l ≡ true → controlTaken node (held l) d reply ≡ kindTaken (headerOf d) (restOf d) node (held l) reply
+    to-kind : eqb (gateOf d) 0 ≡ true → keepsRules node l ≡ true
+        → controlTaken node (held l) d reply ≡ kindTaken (headerOf d) (restOf d) node (held l) reply
     unfolding controlTaken gateTaken held
     to-kind z k = rw (room, k, z)
 
