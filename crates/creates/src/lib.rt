@@ -22,7 +22,7 @@ ghost use Rattle.timing.specs.Timing.{outcome};
 ghost use Rattle.creates.specs.Creates.{openingOf, acceptedOctets, acceptedTaken, noRoom, openedAt, shared, isRepeat, settledAt, heardCreate, createBy, createTaken};
 
 // What of a Create a session keeps.
-fn opening_of(c: Create, seq: u32) -> Opening
+pub fn opening_of(c: Create, seq: u32) -> Opening
     ensures { λ r. ⌜ r ≡ openingOf c seq ⌝ }
 {
     Opening {
@@ -38,7 +38,7 @@ fn opening_of(c: Create, seq: u32) -> Opening
 }
 
 // The accepted reply, from the record of a place.
-fn write_accepted(plan: Plan, seq: u32, place: usize, s: Session, reply: &mut [u8])
+pub fn write_accepted(plan: Plan, seq: u32, place: usize, s: Session, reply: &mut [u8])
     ensures { λ _. ⌜ now (reply .exit) ≡ overlay (acceptedOctets plan seq place s) (now (reply .entry)) ⌝ }
 {
     let control = ControlTeid::of(s.usage, place);
@@ -80,7 +80,7 @@ fn take_accepted(
     }
 }
 
-fn no_room() -> Refusal
+pub fn no_room() -> Refusal
     ensures { λ r. ⌜ r ≡ noRoom ⌝ }
 {
     Refusal {
@@ -92,7 +92,7 @@ fn no_room() -> Refusal
 }
 
 // A repeat of the Create that made the session.
-fn is_repeat(c: Create, seq: u32, s: Session) -> bool
+pub fn is_repeat(c: Create, seq: u32, s: Session) -> bool
     ensures { λ r. ⌜ r ≡ isRepeat c seq s ⌝ }
 {
     (s.point as usize == c.point) & (s.created == seq)

@@ -189,6 +189,11 @@ module _ (node : Node) (l : List Session) (waits : List ℕ) (planned : accepted
       (λ e. split (pairwise sameKey (map keyOf l)) (λ p. rw (apart-seen e p)) (λ p. impossible (sym (twice-rules e p) ∙ k)))
       (λ e. impossible (sym (bad-rules e) ∙ k))
 
+  pub packed-seen : keepsRules node l ≡ true → seen .counts ≡ sumOf weightOf l
+  packed-seen k = split (every (recordOk b) l)
+      (λ e. split (pairwise sameKey (map keyOf l)) (λ p. rw (apart-seen e p)) (λ p. impossible (sym (twice-rules e p) ∙ k)))
+      (λ e. impossible (sym (bad-rules e) ∙ k))
+
   pub counts-seen : keepsRules node l ≡ true → (a : ℕ) → a < 4 → getD (unpackedOf (seen .counts)) a 0 ≡ liveOn a l
   unfolding places
   counts-seen k a h = split (every (recordOk b) l)

@@ -2,3 +2,4 @@ pub mod Rows
 pub mod Bodies
 pub mod Loans
 pub mod Local
+pub mod Again

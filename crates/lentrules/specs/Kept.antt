@@ -8,18 +8,19 @@ use lib.Dec.{eqb}
 use lib.ListN.{length, getD, replicate}
 use Rattle.octets.specs.Choice.{pick, split, and-left, and-right}
 use Rattle.octets.specs.Every.{every}
+use Rattle.octets.specs.Sums.{sumOf}
 use Rattle.tunnel.specs.Numbering.{places}
 use Rattle.session.specs.declared.Session.{Session}
 use Rattle.session.specs.declared.Bounds.{Bounds}
 use Rattle.table.specs.declared.Node.{Node}
 use Rattle.session.specs.Session.{isDue}
 use Rattle.table.specs.Rules.{liveOn, boundsOf, keepsRules, rules-of}
-use Rattle.rules.specs.Survey.{waitOf, waitsOf, silent}
+use Rattle.rules.specs.Survey.{waitOf, waitsOf, weightOf, silent}
 use Rattle.rules.specs.Check.{unpackedOf}
 use Rattle.glance.specs.declared.Glance.{Glance}
 use Rattle.glance.specs.declared.Seen.{Seen}
 use Rattle.glance.specs.Digest.{digestOf}
-use Rattle.glance.specs.Glance.{glanceOf, waitingOf, keptBut, waitsApart, standingOf, sight, standsOf, quiet-way, loud-way, standing-is, idle-seen, counts-seen}
+use Rattle.glance.specs.Glance.{glanceOf, waitingOf, keptBut, waitsApart, standingOf, sight, standsOf, quiet-way, loud-way, standing-is, idle-seen, packed-seen, counts-seen}
 use Rattle.lentrules.specs.Read.{readOf, read-all}
 
 -- what the check reads of the records, beside how they stand
@@ -70,6 +71,10 @@ module _ (node : Node) (l : List Session) (kept : keepsRules node l ≡ true) wh
   pub seen-idle : seenOf node l .idle ≡ every (λ s. not (isDue s)) l
   unfolding seenOf
   seen-idle = let r = rules-of node l kept in rw (read-all (digestOf b) l (r .size)) (idle-seen node l [] (r .planned) (r .size) kept)
+
+  pub seen-packed : seenOf node l .counts ≡ sumOf weightOf l
+  unfolding seenOf
+  seen-packed = let r = rules-of node l kept in rw (read-all (digestOf b) l (r .size)) (packed-seen node l [] (r .planned) (r .size) kept)
 
   pub seen-counts : (a : ℕ) → a < 4 → getD (unpackedOf (seenOf node l .counts)) a 0 ≡ liveOn a l
   unfolding seenOf

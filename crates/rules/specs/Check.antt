@@ -34,7 +34,7 @@ unfoldable pub unpackedOf : ℕ → List ℕ
 unpackedOf c = c % 65536 ∷ c / 65536 % 65536 ∷ c / 65536 / 65536 % 65536 ∷ c / 65536 / 65536 / 65536 % 65536 ∷ []
 
 -- ---- keys clash where sessions do
-known-id : (b : Bounds) (s : Session) → recordOk b s ≡ true → isFree s ≡ false → (s .imsi < 1000000000000000) × ((5 ≤ s .ebi) × (s .ebi ≤ 15))
+pub known-id : (b : Bounds) (s : Session) → recordOk b s ≡ true → isFree s ≡ false → (s .imsi < 1000000000000000) × ((5 ≤ s .ebi) × (s .ebi ≤ 15))
 unfolding heldOk readOk imsis
 known-id b s e n =
     let h = live-of b s e n .held in

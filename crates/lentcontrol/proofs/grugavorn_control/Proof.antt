@@ -1,5 +1,5 @@
 -- `lentcontrol::grugavorn_control` meets its contract: a walk of its MIR, by hand. Whether the datagram
--- concerns one session at most is asked; on its record, or on all, it is done.
+-- concerns one session at most is asked; it is done on its record, or as what may concern more.
 -- Each statement of the MIR stands over its lines. Assumes nothing.
 use mathlib.Core.Path.{_≡_, refl, sym, ap, _∙_}
 use Prim.Native.Nat.{ℕ}
@@ -53,6 +53,7 @@ use Rattle.control.specs.Control.{controlTaken}
 use Rattle.lentcore.specs.Lent.{left}
 use Rattle.single.specs.Single.{quickOf}
 use Rattle.lentcontrol.specs.Lent.{singleTaken, single-whole}
+use Rattle.lentcontrol.specs.Create.{otherTaken, other-same}
 use Rattle.single.proofs.quick as Quick′
 use Rattle.single.proofs.quick.Symbol as Quick-def
 use Rattle.single.proofs.quick.Symbol.{name as #single·quick}
@@ -61,10 +62,10 @@ use Rattle.lentcontrol.proofs.single_lent as One′
 use Rattle.lentcontrol.proofs.single_lent.Symbol as One-def
 use Rattle.lentcontrol.proofs.single_lent.Symbol.{name as #lentcontrol·single-lent}
 use Rattle.lentcontrol.proofs.single_lent.Met as One-thm
-use Rattle.lentcontrol.proofs.whole_lent as All′
-use Rattle.lentcontrol.proofs.whole_lent.Symbol as All-def
-use Rattle.lentcontrol.proofs.whole_lent.Symbol.{name as #lentcontrol·whole-lent}
-use Rattle.lentcontrol.proofs.whole_lent.Met as All-thm
+use Rattle.lentcontrol.proofs.other_lent as All′
+use Rattle.lentcontrol.proofs.other_lent.Symbol as All-def
+use Rattle.lentcontrol.proofs.other_lent.Symbol.{name as #lentcontrol·other-lent}
+use Rattle.lentcontrol.proofs.other_lent.Met as All-thm
 use Rattle.lentcontrol.proofs.grugavorn_control.Key.{name as #lentcontrol·grugavorn-control}
 use Rattle.lentcontrol.proofs.grugavorn_control as entry′
 use Rattle.lentcontrol.proofs.grugavorn_control.Statement as stated
@@ -153,7 +154,7 @@ module _ {M : Type 1} (𝓤 : URA M) (H : Heap 𝓤) (A : Atoms 𝓤) (W : Given
       suffices ! _ (ends-at 𝓤 H A entry′.ended stayed (entry′.clauses 𝓤 H A mem run) W bound w r (tt, (w-recs, (tt, (w-reply, tt)))) (tt, (l-recs, (tt, (l-reply, tt))))) $ says ! e $ frame ! $
       nothing ! $ move ! (2 ∷ 0 ∷ []) $ fjoin ! $ nothing ! $ fjoin ! $ move ! (1 ∷ 0 ∷ []) $ fjoin ! $ nothing ! $ fjoin ! $ done !
 
-  module _ (C : Calls 𝓤 H) (Λ : Loops 𝓤 H) (fm : FmC 𝓤 H (W .laws) C) (known-Quick : Triple 𝓤 (C #single·quick) (Quick 𝓤 H A mem run)) (known-One : Triple 𝓤 (C #lentcontrol·single-lent) (One 𝓤 H A mem run)) (known-All : Triple 𝓤 (C #lentcontrol·whole-lent) (All 𝓤 H A mem run)) where
+  module _ (C : Calls 𝓤 H) (Λ : Loops 𝓤 H) (fm : FmC 𝓤 H (W .laws) C) (known-Quick : Triple 𝓤 (C #single·quick) (Quick 𝓤 H A mem run)) (known-One : Triple 𝓤 (C #lentcontrol·single-lent) (One 𝓤 H A mem run)) (known-All : Triple 𝓤 (C #lentcontrol·other-lent) (All 𝓤 H A mem run)) where
     walk : Is N.the-row node (v-node ∷ []) → Room S.the-row (length (recs .now)) → Room u8 (length (d .now)) → Room u8 (length (reply .now)) → ent 𝓤 (onEntry 𝓤 H A entry′.signature (κ₀, (κ₁, (κ₂, tt))) (q₀, (q₁, (q₂, tt))) a at) (WpFn 𝓤 H C Λ code.function (v-node ∷ v-recs ∷ v-d ∷ v-reply ∷ []) Post)
     walk is-node room-recs room-d room-reply =
         qed W ((Toks) ∷ ‵ (owns (N.the-row ∷ (MutSlice (named 0) κ₀ S.the-row) ∷ (ShrSlice (named 1) κ₁ u8) ∷ (MutSlice (named 2) κ₂ u8) ∷ []) a at) ∷ []) ∵ enter ! C Λ code.function (v-node ∷ v-recs ∷ v-d ∷ v-reply ∷ []) _ $
@@ -214,15 +215,15 @@ module _ {M : Type 1} (𝓤 : URA M) (H : Heap 𝓤) (A : Atoms 𝓤) (W : Given
         assigns ! (addr ! (from ! (fld ! refl (hop ! (look-in ! 28 (sub ! 0 refl (whole !))) (stop !))))) (from ! (stop !)) (init ! 8 refl (tt, tt)) $
         -- _15 = {_14, _4.1}
         assigns ! (agg ! (and-then ! (load ! (from ! (stop !)) (look ! 8 refl)) (and-then ! (load ! (from ! (fld ! refl (stop !))) (look-in ! 28 (sub ! 1 refl (whole !)))) (no-more !)))) (from ! (stop !)) (init ! 6 refl (tt, (tt, (record { fits = room-reply .0 }, tt)))) $
-        -- _0 = whole_lent(_1, _13, _3, _15)
+        -- _0 = other_lent(_1, _13, _3, _15)
         move ! (1 ∷ []) $ use1 W (‵ Own-d ⊛ ‵ Own-d) (shr-slice-copy 𝓤 H A W (named 1) κ₁ u8 .twice d (v-d ∷ [])) $ split ! $ nothing ! $ move ! (6 ∷ 0 ∷ []) $ join ! $ move ! (3 ∷ 0 ∷ []) $ join ! $ move ! (5 ∷ 0 ∷ []) $ join ! $
         nothing ! $ move ! (4 ∷ 0 ∷ []) $ fjoin ! $ move ! (3 ∷ 0 ∷ []) $ fjoin ! $ move ! (3 ∷ 0 ∷ []) $ fjoin ! $ owned ! N.the-row (Is N.the-row) (LL.makes N.the-type N′.the-plain 𝓤 H A) node _ is-node $ fjoin ! $ move ! (1 ∷ 0 ∷ []) $
         use2 W (raw (All 𝓤 H A mem run .pre (((κ₀, (κ₁, (κ₂, tt))), (q₀, (q₁, (q₂, tt))), tt, (node, (recs, (d, (reply, tt)))), (v-node ∷ [], (v-recs ∷ [], (v-d ∷ [], (v-reply ∷ [], tt))))), tt))) (qed W ((‵ (flft κ₀ q₀) ⊛ ‵ (flft κ₁ q₁) ⊛ ‵ (flft κ₂ q₂) ⊛ ‵ ftrue) ∷ ‵ (fsep (N.the-row .own node (v-node ∷ [])) (fsep Own-recs (fsep Own-d (fsep Own-reply ftrue)))) ∷ []) ∵ join ! $ frame ! $ done !) $
         calls-at ! fm (All 𝓤 H A mem run) known-All (((κ₀, (κ₁, (κ₂, tt))), (q₀, (q₁, (q₂, tt))), tt, (node, (recs, (d, (reply, tt)))), (v-node ∷ [], (v-recs ∷ [], (v-d ∷ [], (v-reply ∷ [], tt))))), tt) (and-then ! (load ! (from ! (stop !)) (look ! 30 refl)) (and-then ! (load ! (from ! (stop !)) (look ! 6 refl)) (and-then ! (load ! (from ! (stop !)) (look ! 26 refl)) (and-then ! (load ! (from ! (stop !)) (look ! 2 refl)) (no-more !))))) (λ w-All.
         use1 W (later (some (λ (r-All : Left). ((‵ (flft κ₀ q₀) ⊛ ‵ (flft κ₁ q₁) ⊛ ‵ (flft κ₂ q₂) ⊛ ‵ ftrue) ⊛ ‵ (Lf.the-row .own r-All (w-All ∷ []))) ⊛ raw (ensured 𝓤 H A All′.ended (All′.clauses 𝓤 H A mem run) (κ₀, (κ₁, (κ₂, tt))) (node, (recs, (d, (reply, tt)))) tt r-All)))) (id⊢ 𝓤 _) $ await ! tt $
         pick ! (λ r-All. split ! $ move ! (1 ∷ []) $
-        use1 W (some (λ (z-All : (Unit {0}) × ((List Session) × ((Unit {0}) × ((List ℕ) × (Unit {0}))))). ‵ (lasts All′.ended (κ₀, (κ₁, (κ₂, tt))) (node, (recs, (d, (reply, tt)))) z-All) ⊛ raw (fact 𝓤 (outcome (left r-All (z-All .1 .0)) (z-All .1 .1 .1 .0) ≡ controlTaken node (held (recs .now)) (d .now) (reply .now))))) (id⊢ 𝓤 _) $
-        pick ! (λ z-All. split ! $ move ! (1 ∷ []) $ heard ! (outcome (left r-All (z-All .1 .0)) (z-All .1 .1 .1 .0) ≡ controlTaken node (held (recs .now)) (d .now) (reply .now)) (λ e-All. fsplit ! $ drop ! $ fsplit ! $ fsplit ! $
+        use1 W (some (λ (z-All : (Unit {0}) × ((List Session) × ((Unit {0}) × ((List ℕ) × (Unit {0}))))). ‵ (lasts All′.ended (κ₀, (κ₁, (κ₂, tt))) (node, (recs, (d, (reply, tt)))) z-All) ⊛ raw (fact 𝓤 (outcome (left r-All (z-All .1 .0)) (z-All .1 .1 .1 .0) ≡ otherTaken node (recs .now) (d .now) (reply .now))))) (id⊢ 𝓤 _) $
+        pick ! (λ z-All. split ! $ move ! (1 ∷ []) $ heard ! (outcome (left r-All (z-All .1 .0)) (z-All .1 .1 .1 .0) ≡ otherTaken node (recs .now) (d .now) (reply .now)) (λ e-All. fsplit ! $ drop ! $ fsplit ! $ fsplit ! $
         move ! (1 ∷ []) $ feqL ! (λ len-recs. move ! (1 ∷ []) $ fsplit ! $ drop ! $ fsplit ! $ fsplit ! $ move ! (1 ∷ []) $ feqL ! (λ len-reply. move ! (1 ∷ []) $ drop ! $ move ! (2 ∷ []) $ split ! $ split ! $ move ! (1 ∷ []) $ split ! $
         move ! (1 ∷ []) $ split ! $ move ! (1 ∷ []) $ drop ! $ move ! (3 ∷ []) $ peeks ! Lf.the-row (Is Lf.the-row) (shows 𝓤 H A Lf.the-row) r-All (w-All ∷ []) (λ is-All.
         land ! (from ! (stop !)) (init ! 37 refl (LL.lawful Lf.the-type Lf′.the-laws 𝓤 H A W .typed r-All _ is-All .0)) $
@@ -230,10 +231,10 @@ module _ {M : Type 1} (𝓤 : URA M) (H : Heap 𝓤) (A : Atoms 𝓤) (W : Given
         returns ! (look ! 37 refl) $
         forget ! 7 refl $ forget ! 9 refl $ forget ! 11 refl $ forget ! 13 refl $ forget ! 23 refl $ forget ! 25 refl $ forget ! 27 refl $ forget ! 29 refl $ forget ! 31 refl $ forget ! 33 refl $ forget ! 35 refl $ forget ! 37 refl $
         move ! (37 ∷ 38 ∷ []) $ free1 ! $ move ! (35 ∷ 36 ∷ []) $ free1 ! $ move ! (33 ∷ 34 ∷ []) $ free1 ! $ move ! (31 ∷ 32 ∷ []) $ free1 ! $ move ! (29 ∷ 30 ∷ []) $ free1 ! $ move ! (27 ∷ 28 ∷ []) $ free1 ! $ move ! (25 ∷ 26 ∷ []) $ free1 ! $ move ! (23 ∷ 24 ∷ []) $ free1 ! $ move ! (21 ∷ 22 ∷ []) $ free1 ! $ move ! (19 ∷ 20 ∷ []) $ free1 ! $ move ! (17 ∷ 18 ∷ []) $ free1 ! $ move ! (15 ∷ 16 ∷ []) $ free1 ! $ move ! (13 ∷ 14 ∷ []) $ free1 ! $ move ! (11 ∷ 12 ∷ []) $ free1 ! $ move ! (9 ∷ 10 ∷ []) $ free1 ! $ move ! (7 ∷ 8 ∷ []) $ free1 ! $ free0 ! $
-        nothing ! $ move ! (2 ∷ 0 ∷ []) $ join ! $ move ! (2 ∷ 0 ∷ []) $ join ! $ move ! (2 ∷ 0 ∷ []) $ join ! $ keep ! (0 ∷ 3 ∷ 2 ∷ 1 ∷ []) $ by ! (exits r-All w-All (z-All .1 .0) (z-All .1 .1 .1 .0) (e-All) len-recs len-reply))))))))))))))))))))))))))))))
+        nothing ! $ move ! (2 ∷ 0 ∷ []) $ join ! $ move ! (2 ∷ 0 ∷ []) $ join ! $ move ! (2 ∷ 0 ∷ []) $ join ! $ keep ! (0 ∷ 3 ∷ 2 ∷ 1 ∷ []) $ by ! (exits r-All w-All (z-All .1 .0) (z-All .1 .1 .1 .0) (e-All ∙ other-same node ys-recs (now d) (now reply) (sym e-Quick ∙ t)) len-recs len-reply))))))))))))))))))))))))))))))
 
 module _ {M : Type 1} (𝓤 : URA M) (H : Heap 𝓤) (A : Atoms 𝓤) (W : Given 𝓤 H A) (mem : Memory → SProp 𝓤) (run : Routine → Fun 𝓤) where
-  grugavorn-control-walks : (C : Calls 𝓤 H) (Λ : Loops 𝓤 H) → FmC 𝓤 H (W .laws) C → Triple 𝓤 (C #single·quick) (Quick 𝓤 H A mem run) → Triple 𝓤 (C #lentcontrol·single-lent) (One 𝓤 H A mem run) → Triple 𝓤 (C #lentcontrol·whole-lent) (All 𝓤 H A mem run)
+  grugavorn-control-walks : (C : Calls 𝓤 H) (Λ : Loops 𝓤 H) → FmC 𝓤 H (W .laws) C → Triple 𝓤 (C #single·quick) (Quick 𝓤 H A mem run) → Triple 𝓤 (C #lentcontrol·single-lent) (One 𝓤 H A mem run) → Triple 𝓤 (C #lentcontrol·other-lent) (All 𝓤 H A mem run)
       → Walks 𝓤 H A entry′.ended stayed (WpFn 𝓤 H C Λ code.function) (entry′.clauses 𝓤 H A mem run)
   grugavorn-control-walks C Λ fm known-Quick known-One known-All = walked 𝓤 H A entry′.ended stayed (entry′.clauses 𝓤 H A mem run) (WpFn 𝓤 H C Λ code.function)
       (λ κs. (LL.vals N.the-type N′.the-laws, (slice-vals, (slice-vals, (slice-vals, tt))))) (λ κs. (LL.tells N.the-type N′.the-laws, (mut-slice-tells (named 0) (κs .0) S.the-row, (shr-slice-tells (named 1) (κs .1 .0) u8, (mut-slice-tells (named 2) (κs .1 .1 .0) u8, tt)))))
@@ -241,7 +242,7 @@ module _ {M : Type 1} (𝓤 : URA M) (H : Heap 𝓤) (A : Atoms 𝓤) (W : Given
       (walk 𝓤 H A W mem run (κs .0) (κs .1 .0) (κs .1 .1 .0) (qs .0) (qs .1 .0) (qs .1 .1 .0) (a .0) (a .1 .0 .ptr .0) (a .1 .0 .ptr .1) (a .1 .0 .name) (a .1 .0 .now) (a .1 .1 .0) (a .1 .1 .1 .0) C Λ fm known-Quick known-One known-All (are .0) (are .1 .0 .0 .1) (are .1 .1 .0 .0 .1) (are .1 .1 .1 .0 .0 .1)))
 
 grugavorn-control-meets : {M : Type 1} (𝓤 : URA M) (H : Heap 𝓤) (A : Atoms 𝓤) → Given 𝓤 H A → (mem : Memory → SProp 𝓤) (run : Routine → Fun 𝓤) (𝓣 : Tables 𝓤 H)
-    → Triple 𝓤 (𝓣 .C #single·quick) (Quick 𝓤 H A mem run) → Triple 𝓤 (𝓣 .C #lentcontrol·single-lent) (One 𝓤 H A mem run) → Triple 𝓤 (𝓣 .C #lentcontrol·whole-lent) (All 𝓤 H A mem run)
+    → Triple 𝓤 (𝓣 .C #single·quick) (Quick 𝓤 H A mem run) → Triple 𝓤 (𝓣 .C #lentcontrol·single-lent) (One 𝓤 H A mem run) → Triple 𝓤 (𝓣 .C #lentcontrol·other-lent) (All 𝓤 H A mem run)
     → Meets 𝓤 H A entry′.signature (WpFn 𝓤 H (𝓣 .C) (𝓣 .Λ) code.function) (entry′.spec 𝓤 H A mem run)
 grugavorn-control-meets 𝓤 H A W mem run 𝓣 known-Quick known-One known-All =
     walk-meets 𝓤 H A entry′.ended stayed W (goes-dropped 𝓤 H A W 3 (plain (λ _. N.the-row)) yes (λ κs x f. refl), (goes-gave-slice 𝓤 H A W 3 0 tt (plain (λ _. S.the-row)), (goes-dropped 𝓤 H A W 3 (shrSliceOf (1 ∷ []) tt (plain (λ _. u8))) yes (λ κs x f. refl), (goes-gave-slice 𝓤 H A W 3 2 tt (plain (λ _. u8)), tt)))) (entry′.clauses 𝓤 H A mem run)
@@ -255,4 +256,4 @@ grugavorn-control-spec 𝓤 H 𝓜 𝓖 𝓡 =
     (grugavorn-control-meets 𝓤 H (𝓖 .A) (givenOf 𝓤 H 𝓜 𝓖) (𝓜 .mem) (𝓡 .run) (tablesOf 𝓤 H 𝓜 (tables 𝓤 H 𝓜 𝓡 code.env))
     (cited 𝓤 H (Quick 𝓤 H (𝓖 .A) (𝓜 .mem) (𝓡 .run)) 𝓜 𝓡 code.env #single·quick Quick-def.routine code.calls-single·quick (Quick-thm.met 𝓤 H 𝓜 𝓖 𝓡))
     (cited 𝓤 H (One 𝓤 H (𝓖 .A) (𝓜 .mem) (𝓡 .run)) 𝓜 𝓡 code.env #lentcontrol·single-lent One-def.routine code.calls-lentcontrol·single-lent (One-thm.met 𝓤 H 𝓜 𝓖 𝓡))
-    (cited 𝓤 H (All 𝓤 H (𝓖 .A) (𝓜 .mem) (𝓡 .run)) 𝓜 𝓡 code.env #lentcontrol·whole-lent All-def.routine code.calls-lentcontrol·whole-lent (All-thm.met 𝓤 H 𝓜 𝓖 𝓡)))
+    (cited 𝓤 H (All 𝓤 H (𝓖 .A) (𝓜 .mem) (𝓡 .run)) 𝓜 𝓡 code.env #lentcontrol·other-lent All-def.routine code.calls-lentcontrol·other-lent (All-thm.met 𝓤 H 𝓜 𝓖 𝓡)))
