@@ -286,6 +286,9 @@ pub fn flag_of(kind: u8) -> u8
 fn teid_octets(d: &[u8]) -> u32
     ensures { λ r. ⌜ r ≡ teidOctets (now (d .entry)) ⌝ }
 {
+    if 8 <= d.len() {
+        return octets::be32(d[4], d[5], d[6], d[7]);
+    }
     let a = fields::octet_at(d, 4);
     let b = fields::octet_at(d, 5);
     let c = fields::octet_at(d, 6);
@@ -296,6 +299,9 @@ fn teid_octets(d: &[u8]) -> u32
 fn sequence_behind(d: &[u8]) -> u32
     ensures { λ r. ⌜ r ≡ sequenceBehind (now (d .entry)) ⌝ }
 {
+    if 11 <= d.len() {
+        return octets::be24(d[8], d[9], d[10]);
+    }
     let a = fields::octet_at(d, 8);
     let b = fields::octet_at(d, 9);
     octets::be24(a, b, fields::octet_at(d, 10))
@@ -304,6 +310,9 @@ fn sequence_behind(d: &[u8]) -> u32
 fn sequence_bare(d: &[u8]) -> u32
     ensures { λ r. ⌜ r ≡ sequenceBare (now (d .entry)) ⌝ }
 {
+    if 7 <= d.len() {
+        return octets::be24(d[4], d[5], d[6]);
+    }
     let a = fields::octet_at(d, 4);
     let b = fields::octet_at(d, 5);
     octets::be24(a, b, fields::octet_at(d, 6))
