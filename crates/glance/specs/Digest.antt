@@ -96,6 +96,10 @@ quietIn d = unset 1152921504606846976 d
 abbrev pub idleIn : ℕ → Bool
 idleIn d = unset 576460752303423488 d
 
+pub due-bits : (d : ℕ) → (not (eqb (keyIn d) 0) && not (clear 576460752303423488 d)) ≡ not (idleIn d)
+unfolding unset
+due-bits d = split (eqb (keyIn d) 0) (λ e. rw e) (λ e. rw e)
+
 abbrev pub goodIn : ℕ → Bool
 goodIn d = unset 288230376151711744 d
 

@@ -7,7 +7,7 @@ use mathlib.Core.Path.{_≡_, refl, sym, _∙_, ap}
 use native.Mathlib.Omega.{arith}
 use lib.ListN.{length, getD}
 use lib.Dec.{eqb, leb}
-use borrow.Author.Tests.{eqb-true, eq-eqb}
+use borrow.Author.Tests.{eqb-true, eq-eqb, not-true, not-false}
 use Rattle.octets.specs.Choice.{pick, split, impossible, and-left, and-right, and-no}
 use Rattle.octets.specs.Every.{every}
 use Rattle.octets.specs.Sums.{sumOf, sum-of-map, sum-agree}
@@ -47,6 +47,13 @@ fromCounts node counts =
     && requestOk (node .plan .interval) (node .plan .resend) (node .plan .sends) (node .echo)
     && leb (node .next) lastNumber
 
+-- every rule but that awaited numbers differ, and that
+unfoldable pub keptBut : ℕ → Node → Glance → Bool
+keptBut count node g = pick (accepted (node .plan) && eqb count places && g .good) (fromCounts node (g .counts)) false
+
+unfoldable pub waitsApart : Node → List ℕ → Bool
+waitsApart node waits = noneClash sameKey (waitOf (node .echo)) waits && pairwise sameKey waits
+
 unfoldable pub keptOf : ℕ → Node → Glance → List ℕ → Bool
 keptOf count node g waits =
     pick (accepted (node .plan) && eqb count places && g .good)
@@ -58,8 +65,23 @@ unfoldable pub standingOf : ℕ → Node → Glance → List ℕ → ℕ
 standingOf count node g waits = pick {A = ℕ} (keptOf count node g waits) (pick {A = ℕ} (g .quiet) 1 2) 0
 
 -- with what was read for it
-unfoldable pub sightOf : ℕ → Node → Glance → List ℕ → List ℕ → Seen
-sightOf count node g digests waits = record { how = standingOf count node g waits; idle = g .idle; counts = g .counts; digests = digests; waits = waits }
+unfoldable pub sight : ℕ → Glance → List ℕ → Seen
+sight how g digests = record { how = how; idle = g .idle; counts = g .counts; digests = digests }
+
+-- the two ways to it
+pub quiet-way : (count : ℕ) (node : Node) (g : Glance) (waits : List ℕ) → waitingOf g ≡ false → pick {A = ℕ} (keptBut count node g) 1 0 ≡ standingOf count node g waits
+unfolding keptBut standingOf keptOf waitingOf
+quiet-way count node g waits e = split (g .good)
+    (λ h. let q : g .quiet ≡ true = not-false (g .quiet) (rw h at e) in rw (h, q))
+    (λ h. rw (h, and-no (accepted (node .plan) && eqb count places)))
+
+pub loud-way : (count : ℕ) (node : Node) (g : Glance) (waits : List ℕ) → waitingOf g ≡ true
+    → pick {A = ℕ} (keptBut count node g && waitsApart node waits) 2 0 ≡ standingOf count node g waits
+unfolding keptBut waitsApart standingOf keptOf waitingOf
+loud-way count node g waits e =
+    let h = and-left (g .good) (not (g .quiet)) e in
+    let q = not-true (g .quiet) (and-right (g .good) (not (g .quiet)) e) in
+    rw (h, q) (split (accepted (node .plan) && eqb count places && true) (λ f. rw f) (λ f. rw f))
 
 -- the same of a list of records
 unfoldable pub standsOf : Node → List Session → ℕ
@@ -158,12 +180,6 @@ module _ (node : Node) (l : List Session) (waits : List ℕ) (planned : accepted
   -- where the rules are kept, quiet is said of every record
   pub quiet-seen : keepsRules node l ≡ true → seen .quiet ≡ every silent l
   quiet-seen k = split (every (recordOk b) l)
-      (λ e. split (pairwise sameKey (map keyOf l)) (λ p. rw (apart-seen e p)) (λ p. impossible (sym (twice-rules e p) ∙ k)))
-      (λ e. impossible (sym (bad-rules e) ∙ k))
-
-  pub waiting-seen : keepsRules node l ≡ true → waitingOf seen ≡ not (every silent l)
-  unfolding waitingOf
-  waiting-seen k = split (every (recordOk b) l)
       (λ e. split (pairwise sameKey (map keyOf l)) (λ p. rw (apart-seen e p)) (λ p. impossible (sym (twice-rules e p) ∙ k)))
       (λ e. impossible (sym (bad-rules e) ∙ k))
 

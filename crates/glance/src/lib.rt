@@ -5,16 +5,18 @@ use session::Request;
 use session::Session;
 use table::Node;
 use table::Table;
-ghost use mathlib.Core.Bool.{false};
+ghost use Prim.Native.Nat.{ℕ};
+ghost use mathlib.Core.Bool.{false, not, _&&_};
 ghost use mathlib.Core.List.{map};
 ghost use mathlib.Core.Path.{_≡_};
 ghost use lib.Dec.{eqb};
+ghost use Rattle.octets.specs.Choice.{pick};
 ghost use lib.ListN.{drop, length};
 ghost use Rattle.table.specs.Rules.{boundsOf};
 ghost use Rattle.rules.specs.Survey.{waitOf};
 ghost use Rattle.distinct.specs.Lacks.{lacks};
-ghost use Rattle.glance.specs.Digest.{freeDigest, takenDigest, keyIn, markOf};
-ghost use Rattle.glance.specs.Glance.{noGlance, glanceOf, keptOf, standingOf, standsBy, waitingOf, sightOf};
+ghost use Rattle.glance.specs.Digest.{freeDigest, takenDigest, keyIn, idleIn, markOf};
+ghost use Rattle.glance.specs.Glance.{noGlance, glanceOf, keptBut, waitsApart, sight, standsBy, waitingOf};
 ghost use Rattle.glance.specs.Over.{entersOf, marksOf, flagsIn, talliedIn, packedIn};
 
 // What the digests of a table say: every record good and no key twice, no number awaited, nothing due, the counts packed.
@@ -114,6 +116,13 @@ pub fn key_in(d: u64) -> u64
     d % Glance::KEYS
 }
 
+// Whether a digest's record has a request that is due.
+pub fn due_in(d: u64) -> bool
+    ensures { λ r. ⌜ r ≡ not (idleIn d) ⌝ }
+{
+    (d % Glance::KEYS != 0) & (d / Glance::DUE % 2 != 0)
+}
+
 // Whether x is the key of no digest from a place on. The loop goes over all of them: so it needs no test before its first turn where it is
 // not called for.
 fn lacks(ds: &[u64], x: u64, from: usize) -> bool
@@ -152,7 +161,7 @@ fn enters(ds: &[u64], d: u64, from: usize, marks: &mut [u8]) -> bool
     lacks(ds, key, from)
 }
 
-// A digest entered: its key marked, its flags gathered, its access point counted. The answer is whether the key is none of those from a
+// A digest entered: its flags gathered, its access point counted, its key marked. The answer is whether the key is none of those from a
 // place on. A digest without a key is that of a free place.
 fn note(
     ds: &[u64],
@@ -171,11 +180,10 @@ fn note(
     if key == 0 {
         return true;
     }
-    let new = enters(ds, d, from, marks);
     *flags = d | *flags;
     let a = (d / Glance::POINT) as usize;
     tallies[a] = std::num::wrapping_add_u64(tallies[a], 1);
-    new
+    enters(ds, d, from, marks)
 }
 
 // Four tallies as one number.
@@ -231,9 +239,9 @@ pub fn waiting(g: Glance) -> bool
     g.good & !g.quiet
 }
 
-// Whether a table of so many records keeps every rule, by the glance over it and, where a number is awaited, by the awaited numbers.
-pub fn kept(count: usize, node: Node, g: Glance, waits: [u64; 64]) -> bool
-    ensures { λ r. ⌜ r ≡ keptOf count node g waits ⌝ }
+// Whether a table of so many records keeps every rule but that awaited numbers differ, by the glance over it.
+fn kept_but(count: usize, node: Node, g: Glance) -> bool
+    ensures { λ r. ⌜ r ≡ keptBut count node g ⌝ }
 {
     let plan = node.plan;
     let planned = plan.accepted();
@@ -244,51 +252,53 @@ pub fn kept(count: usize, node: Node, g: Glance, waits: [u64; 64]) -> bool
     let shared = sharing::within(plan, live);
     let echo = node.echo;
     let echoes = echo.fits(plan.interval, plan.resend, plan.sends);
-    let kept = shared & echoes & (node.next <= Request::LAST_NUMBER);
-    if g.quiet {
-        return kept;
-    }
-    let w = rules::wait(echo);
-    let apart = distinct::absent(&waits, w);
-    let each = distinct::distinct(&waits);
-    kept & (apart & each)
+    shared & echoes & (node.next <= Request::LAST_NUMBER)
 }
 
-// How a table stands: 0 where a rule is broken, 1 where all are kept and no place awaits a number, else 2.
-pub fn standing(count: usize, node: Node, g: Glance, waits: [u64; 64]) -> u8
-    ensures { λ r. ⌜ r ≡ standingOf count node g waits ⌝ }
-{
-    let ok = kept(count, node, g, waits);
-    if !ok {
-        return 0;
-    }
-    if g.quiet {
-        return 1;
-    }
-    2
-}
-
-// What the check of a table has read of its records, beside how it stands: whether nothing is due, the counts packed, the digests, and the
-// awaited numbers as keys where one is awaited.
+// What the check of a table has read of its records, beside how it stands: whether nothing is due, the counts packed, and the digests.
 pub struct Seen {
+    // 0 where a rule is broken, 1 where all are kept and no place awaits a number, else 2
     pub how: u8,
     pub idle: bool,
     pub counts: u64,
     pub digests: [u64; 64],
-    pub waits: [u64; 64],
 }
 
-pub fn as_seen(count: usize, node: Node, g: Glance, digests: [u64; 64], waits: [u64; 64]) -> Seen
-    ensures { λ r. ⌜ r ≡ sightOf count node g digests waits ⌝ }
+// The table where no place awaits a number, or where it is broken anyway.
+pub fn seen_quiet(count: usize, node: Node, g: Glance, digests: [u64; 64]) -> Seen
+    ensures { λ r. ⌜ r ≡ sight (pick {A = ℕ} (keptBut count node g) 1 0) g digests ⌝ }
 {
-    let how = standing(count, node, g, waits);
+    let kept = kept_but(count, node, g);
+    let how = if kept { 1 } else { 0 };
     Seen {
         how,
         idle: g.idle,
         counts: g.counts,
         digests,
-        waits,
     }
+}
+
+// The table where one is awaited: no number twice, the echo's neither.
+pub fn seen_loud(count: usize, node: Node, g: Glance, digests: [u64; 64], waits: [u64; 64]) -> Seen
+    ensures { λ r. ⌜ r ≡ sight (pick {A = ℕ} (keptBut count node g && waitsApart node waits) 2 0) g digests ⌝ }
+{
+    let kept = kept_but(count, node, g);
+    let w = rules::wait(node.echo);
+    let apart = distinct::absent(&waits, w);
+    let each = distinct::distinct(&waits);
+    let how = if kept & (apart & each) { 2 } else { 0 };
+    Seen {
+        how,
+        idle: g.idle,
+        counts: g.counts,
+        digests,
+    }
+}
+
+pub fn how_of(v: Seen) -> u8
+    ensures { λ r. ⌜ r ≡ v .how ⌝ }
+{
+    v.how
 }
 
 // Whether it stands by every rule.

@@ -5,8 +5,6 @@ use table::Node;
 ghost use mathlib.Core.Path.{_≡_};
 ghost use Rattle.timing.specs.Timing.{held, outcome, tickOf, closeOf, sendOf};
 ghost use Rattle.lentcore.specs.Lent.{left};
-ghost use Rattle.lentrules.specs.Read.{readOf};
-ghost use Rattle.lentstep.specs.Send.{sendingOf};
 
 // Tick.
 #[no_mangle]
@@ -32,29 +30,15 @@ pub extern "C" fn grugavorn_close(node: Node, recs: &mut [Session], place: usize
     lentstep::close_left(kept, node, s)
 }
 
-// What a send needs of the records; zeros where it is not wanted, or where there are not 64.
-fn sendings(recs: &[Session], wanted: bool) -> [u64; 64]
-    ensures { λ r. ⌜ r ≡ readOf sendingOf wanted (now (recs .entry)) ⌝ }
-{
-    let n = lentrules::bound(wanted, recs.len());
-    let mut t = lentrules::zeros();
-    let mut i = 0;
-    while i < n {
-        let d = lentstep::sending_of(recs[i]);
-        t[i] = d;
-        i += 1;
-    }
-    t
-}
-
 // Send next due.
 #[no_mangle]
 pub extern "C" fn grugavorn_send(node: Node, recs: &mut [Session], reply: &mut [u8]) -> Left
     ensures { λ r. ⌜ outcome (left r (now (recs .exit))) (now (reply .exit)) ≡ sendOf node (held (now (recs .entry))) (now (reply .entry)) ⌝ }
 {
-    let kept = lentrules::kept(node, recs);
-    let xs = sendings(recs, kept);
-    let p = lentstep::next_due(kept, reply.len(), node, xs);
+    let seen = lentrules::seen(node, recs);
+    let loud = lentstep::loud(seen);
+    let waits = lentrules::awaited(recs, loud);
+    let p = lentstep::next_due(reply.len(), node, seen, waits);
     let place = lentstep::place_of(p);
     let s = lentedit::read(recs, place);
     let t = lentstep::sent_by(p, node, s);

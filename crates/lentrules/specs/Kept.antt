@@ -1,11 +1,12 @@
 -- The check as it is done on lent records, step by step, says how they stand.
 -- Assumes nothing.
 use Prim.Native.Nat.{ℕ, _<_}
-use mathlib.Core.Bool.{Bool, true, false, not}
+use mathlib.Core.Bool.{Bool, true, false, not, _&&_}
 use mathlib.Core.List.{List, [], _∷_, map}
 use mathlib.Core.Path.{_≡_, refl, sym, ap, _∙_}
+use lib.Dec.{eqb}
 use lib.ListN.{length, getD, replicate}
-use Rattle.octets.specs.Choice.{split, and-left, and-right}
+use Rattle.octets.specs.Choice.{pick, split, and-left, and-right}
 use Rattle.octets.specs.Every.{every}
 use Rattle.octets.specs.Sums.{sumOf}
 use Rattle.tunnel.specs.Numbering.{places}
@@ -19,7 +20,7 @@ use Rattle.rules.specs.Check.{unpackedOf}
 use Rattle.glance.specs.declared.Glance.{Glance}
 use Rattle.glance.specs.declared.Seen.{Seen}
 use Rattle.glance.specs.Digest.{digestOf}
-use Rattle.glance.specs.Glance.{glanceOf, waitingOf, standingOf, sightOf, standsOf, standing-is, waiting-seen, idle-seen, packed-seen, counts-seen}
+use Rattle.glance.specs.Glance.{glanceOf, waitingOf, keptBut, waitsApart, standingOf, sight, standsOf, quiet-way, loud-way, standing-is, idle-seen, packed-seen, counts-seen}
 use Rattle.lentrules.specs.Read.{readOf, read-all}
 
 -- what the check reads of the records, beside how they stand
@@ -29,8 +30,11 @@ seenOf node l = record {
   idle = glanceOf (readOf (digestOf (boundsOf (node .plan))) true l) .idle;
   counts = glanceOf (readOf (digestOf (boundsOf (node .plan))) true l) .counts;
   digests = readOf (digestOf (boundsOf (node .plan))) true l;
-  waits = readOf (λ z. waitOf (z .own)) (waitingOf (glanceOf (readOf (digestOf (boundsOf (node .plan))) true l))) l;
 }
+
+pub seen-how : (node : Node) (l : List Session) → seenOf node l .how ≡ standsOf node l
+unfolding seenOf
+seen-how node l = refl
 
 -- the numbers read of the records, and what was asked for them
 module _ (node : Node) (l : List Session) (b : Bounds) (ds : List ℕ) (g : Glance) (wanted : Bool) (waits : List ℕ)
@@ -46,9 +50,14 @@ module _ (node : Node) (l : List Session) (b : Bounds) (ds : List ℕ) (g : Glan
   pub standing-lent : standingOf (length l) node g waits ≡ standsOf node l
   standing-lent = rw e-g (standing-is node l ds waits digested waited)
 
-  pub seen-lent : sightOf (length l) node g ds waits ≡ seenOf node l
-  unfolding sightOf seenOf
-  seen-lent = let s = standing-lent in rw (s, e-a, e-w, e-g, e-d, e-b)
+  -- on the two ways
+  pub seen-apart : wanted ≡ true → sight (pick {A = ℕ} (keptBut (length l) node g && waitsApart node waits) 2 0) g ds ≡ seenOf node l
+  unfolding sight seenOf
+  seen-apart t = let s = loud-way (length l) node g waits (sym e-w ∙ t) ∙ standing-lent in rw (s, e-g, e-d, e-b)
+
+  pub seen-calm : wanted ≡ false → sight (pick {A = ℕ} (keptBut (length l) node g) 1 0) g ds ≡ seenOf node l
+  unfolding sight seenOf
+  seen-calm f = let s = quiet-way (length l) node g waits (sym e-w ∙ f) ∙ standing-lent in rw (s, e-g, e-d, e-b)
 
 -- ---- what is seen of records that keep the rules
 module _ (node : Node) (l : List Session) (kept : keepsRules node l ≡ true) where
@@ -86,8 +95,7 @@ module _ (node : Node) (l : List Session) (kept : keepsRules node l ≡ true) wh
   unfolding waitsOf
   whole = read-all (λ z. waitOf (z .own)) l (rules-of node l kept .size)
 
-  pub seen-waits : seenOf node l .waits ≡ waitsOf l
-  unfolding seenOf
-  seen-waits =
-      let r = rules-of node l kept in
-      rw (read-all (digestOf b) l (r .size), waiting-seen node l [] (r .planned) (r .size) kept) (split (every silent l) (λ e. rw e (unread e)) (λ e. rw e whole))
+  -- what they await, read where one awaits a number
+  pub seen-waits : (loud : Bool) → loud ≡ eqb (seenOf node l .how) 2 → readOf (λ z. waitOf (z .own)) loud l ≡ waitsOf l
+  unfolding seenOf standsOf
+  seen-waits loud e = split (every silent l) (λ q. rw (e, kept, q) (unread q)) (λ q. rw (e, kept, q) whole)

@@ -83,20 +83,7 @@ pub fn awaited(recs: &[Session], wanted: bool) -> [u64; 64]
     t
 }
 
-// How the records stand: 0 where a rule is broken, 1 where all are kept and no place awaits one, else 2.
-pub fn standing(node: Node, recs: &[Session]) -> u8
-    ensures { λ r. ⌜ r ≡ standsOf node (now (recs .entry)) ⌝ }
-{
-    let count = recs.len();
-    let b = glance::bounds_of(node);
-    let ds = digests(recs, b);
-    let g = glance::glance_of(ds);
-    let wanted = glance::waiting(g);
-    let waits = awaited(recs, wanted);
-    glance::standing(count, node, g, waits)
-}
-
-// The same, with what was read of the records for it.
+// How the records stand, with what is read of them for it. What they await is read only where one awaits a number.
 pub fn seen(node: Node, recs: &[Session]) -> Seen
     ensures { λ r. ⌜ r ≡ seenOf node (now (recs .entry)) ⌝ }
 {
@@ -105,8 +92,19 @@ pub fn seen(node: Node, recs: &[Session]) -> Seen
     let ds = digests(recs, b);
     let g = glance::glance_of(ds);
     let wanted = glance::waiting(g);
-    let waits = awaited(recs, wanted);
-    glance::as_seen(count, node, g, ds, waits)
+    if wanted {
+        let waits = awaited(recs, wanted);
+        return glance::seen_loud(count, node, g, ds, waits);
+    }
+    glance::seen_quiet(count, node, g, ds)
+}
+
+// How they stand: 0 where a rule is broken, 1 where all are kept and no place awaits one, else 2.
+pub fn standing(node: Node, recs: &[Session]) -> u8
+    ensures { λ r. ⌜ r ≡ standsOf node (now (recs .entry)) ⌝ }
+{
+    let v = seen(node, recs);
+    glance::how_of(v)
 }
 
 // Whether the records keep every rule.

@@ -1,80 +1,62 @@
 -- Send next due on lent records, in the steps that are taken, and that these steps are the call's own definition on the lent list.
 -- Assumes nothing.
-use Prim.Native.Nat.{ℕ, _+_, _*_, _/_, _%_, _≤_}
+use Prim.Native.Nat.{ℕ, suc, _+_, _≤_}
 use mathlib.Core.Bool.{Bool, true, false, not, _&&_}
 use mathlib.Core.List.{List, [], _∷_, map}
-use mathlib.Core.Path.{_≡_, refl, ap, _∙_}
+use mathlib.Core.Path.{_≡_, refl, sym, ap, _∙_}
 use native.Mathlib.Omega.{arith}
 use lib.ListN.{length, getD, set}
 use lib.Seq.{set-getD}
-use lib.Dec.{eqb, leb, ltb}
-use borrow.Author.Tests.{not-true, eq-eqb, ne-eqb, leb-true, leb-false, lt-ltb, le-ltb}
-use mir.Val.{boolByte}
-use Rattle.octets.specs.Choice.{pick, split, and-left, and-right, bit-most}
+use lib.Dec.{eqb, ltb}
+use borrow.Author.Tests.{not-true, not-false, le-ltb}
+use Rattle.octets.specs.Choice.{pick, split, and-left, and-right}
+use Rattle.octets.specs.Every.{every}
 use Rattle.octets.specs.Overlay.{overlay}
 use Rattle.octets.specs.Search.{firstOf}
 use Rattle.tunnel.specs.Numbering.{places}
 use Rattle.session.specs.declared.Session.{Session}
 use Rattle.session.specs.Request.{sentOnce}
-use Rattle.session.specs.Session.{blankAt, sent, isDue}
+use Rattle.session.specs.declared.Bounds.{Bounds}
+use Rattle.session.specs.Session.{blankAt, sent, isDue, recordOk}
 use Rattle.table.specs.declared.Node.{Node}
-use Rattle.table.specs.Rules.{keepsRules}
+use Rattle.table.specs.Rules.{boundsOf, keepsRules, rules-of}
 use Rattle.table.specs.Change.{nobody, changedAt}
 use Rattle.table.specs.Number.{takenNumber}
 use Rattle.table.specs.Own.{duePlace}
-use Rattle.rules.specs.Survey.{waitOf, waitsOf}
+use Rattle.rules.specs.Survey.{waitOf}
 use Rattle.tally.specs.Tally.{freeAmong, free-among}
 use Rattle.messages.specs.Messages.{echoOf, deleteBearer}
 use Rattle.timing.specs.Timing.{outcome, leastReply, timed, held, refused, stepped, echoSent, placeSent, dueSent, sendOf}
-use Rattle.lentrules.specs.Read.{readOf, read-all}
+use Rattle.glance.specs.declared.Seen.{Seen}
+use Rattle.glance.specs.Digest.{digestOf, idleIn, idle-in}
+use Rattle.glance.specs.Glance.{standsOf, standsBy, stands-kept}
+use Rattle.lentrules.specs.Read.{readOf}
+use Rattle.lentrules.specs.Kept.{seenOf, seen-digests, seen-idle, seen-waits}
 use Rattle.lentcore.specs.declared.Left.{Left}
 use Rattle.lentcore.specs.Lent.{left}
 use Rattle.lentstep.specs.declared.Sending.{Sending}
 use Rattle.lentstep.specs.declared.Sending.the-variants.{Nothing, Echo, At}
 use Rattle.lentstep.specs.Step.{refusal, kept-long}
 
--- what a send needs of a record: what it awaits, as a key, and whether it is due
-unfoldable pub sendingOf : Session → ℕ
-sendingOf s = waitOf (s .own) * 2 + boolByte (isDue s)
-
-unfoldable pub half : ℕ → ℕ
-half x = x / 2
-
-unfoldable pub odd : ℕ → Bool
-odd x = eqb (x % 2) 1
+-- a request is due, by a digest
+abbrev pub dueIn : ℕ → Bool
+dueIn d = not (idleIn d)
 
 -- the number that a first send takes
 unfoldable pub takenAmong : Node → List ℕ → ℕ
-takenAmong node xs = freeAmong (places + 2) (node .next) (waitOf (node .echo)) (map half xs)
+takenAmong node waits = freeAmong (places + 2) (node .next) (waitOf (node .echo)) waits
+
+-- a place awaits a number
+unfoldable pub loudIn : Seen → Bool
+loudIn v = eqb (v .how) 2
 
 -- who is sent next
-unfoldable pub nextDue : Bool → ℕ → Node → List ℕ → Sending
-nextDue kept room node xs =
+unfoldable pub nextDue : ℕ → Node → Seen → List ℕ → Sending
+nextDue room node v waits =
     pick (ltb room leastReply) (Nothing 1)
-    (pick kept
-    (pick (eqb (node .echo .timer) 0) (Echo (takenAmong node xs))
-    (pick (ltb (firstOf odd xs) places) (At (firstOf odd xs) (takenAmong node xs)) (Nothing 17)))
-    (Nothing 2))
-
--- ---- laws in the words of the code
-module _ (room : ℕ) (node : Node) (xs : List ℕ) (enough : leastReply ≤ room) where
-  pub next-none : (not (eqb (node .echo .timer) 0) && leb places (firstOf odd xs)) ≡ true → nextDue true room node xs ≡ Nothing 17
-  unfolding nextDue
-  next-none e =
-      let f = not-true (eqb (node .echo .timer) 0) (and-left (not (eqb (node .echo .timer) 0)) (leb places (firstOf odd xs)) e) in
-      let g = leb-true places (firstOf odd xs) (and-right (not (eqb (node .echo .timer) 0)) (leb places (firstOf odd xs)) e) in
-      rw (le-ltb room leastReply enough, f, le-ltb (firstOf odd xs) places g)
-
-  pub next-echo : eqb (node .echo .timer) 0 ≡ true → nextDue true room node xs ≡ Echo (takenAmong node xs)
-  unfolding nextDue
-  next-echo f = rw (le-ltb room leastReply enough, f)
-
-  pub next-at : eqb (node .echo .timer) 0 ≡ false → (not (eqb (node .echo .timer) 0) && leb places (firstOf odd xs)) ≡ false
-      → nextDue true room node xs ≡ At (firstOf odd xs) (takenAmong node xs)
-  unfolding nextDue
-  next-at f e =
-      let g : leb places (firstOf odd xs) ≡ false = rw f at e in
-      rw (le-ltb room leastReply enough, f, lt-ltb (firstOf odd xs) places (leb-false places (firstOf odd xs) g))
+    (pick (eqb (v .how) 0) (Nothing 2)
+    (pick (eqb (node .echo .timer) 0) (Echo (takenAmong node waits))
+    (pick (v .idle) (Nothing 17) (pick (ltb (firstOf dueIn (v .digests)) places) (At (firstOf dueIn (v .digests)) (takenAmong node waits)) (Nothing 17)))))
 
 -- ---- what is done with it
 unfoldable pub placeOf : Sending → ℕ
@@ -114,29 +96,48 @@ sendLeft (Nothing number) node s reply = posted (refusal number node) reply
 sendLeft (Echo k) node s reply = echoLeft node k reply
 sendLeft (At i k) node s reply = placeLeft node k s reply
 
--- ---- laws of what is read
--- without the bit it is what the record awaits
-key-is : (w : ℕ) (b : Bool) → (w * 2 + boolByte b) / 2 ≡ w
-key-is w b = let m = bit-most b in omega arith
+-- ---- laws of what is seen of records that keep the rules
+module _ (node : Node) (l : List Session) (kept : keepsRules node l ≡ true) where
+  abbrev b : Bounds
+  b = boundsOf (node .plan)
 
--- and the bit says whether it is due
-bit-is : (w : ℕ) (b : Bool) → eqb ((w * 2 + boolByte b) % 2) 1 ≡ b
-bit-is w true = eq-eqb ((w * 2 + 1) % 2) 1 (omega arith)
-bit-is w false = ne-eqb ((w * 2 + 0) % 2) 1 (λ e. omega arith)
+  taken-is : takenAmong node (readOf (λ z. waitOf (z .own)) (loudIn (seenOf node l)) l) ≡ takenNumber (node .next) (node .echo) l
+  unfolding takenAmong takenNumber loudIn
+  taken-is = rw (seen-waits node l kept (eqb (seenOf node l .how) 2) refl) (free-among (places + 2) (node .next) (node .echo) l)
 
-keys-are : (l : List Session) → map half (map sendingOf l) ≡ waitsOf l
-unfolding half sendingOf waitsOf
-keys-are [] = refl
-keys-are (s ∷ l) = rw (key-is (waitOf (s .own)) (isDue s), keys-are l)
+  double : (x : Bool) → not (not x) ≡ x
+  double true = refl
+  double false = refl
 
-due-is : (l : List Session) → firstOf odd (map sendingOf l) ≡ firstOf isDue l
-unfolding firstOf odd sendingOf
-due-is [] = refl
-due-is (s ∷ l) = rw (bit-is (waitOf (s .own)) (isDue s), due-is l)
+  due-each : (m : List Session) → every (recordOk b) m ≡ true → firstOf dueIn (map (digestOf b) m) ≡ firstOf isDue m
+  unfolding firstOf every
+  due-each [] e = refl
+  due-each (s ∷ m) e =
+      rw (idle-in b s (and-left (recordOk b s) (every (recordOk b) m) e), double (isDue s), due-each m (and-right (recordOk b s) (every (recordOk b) m) e))
 
-taken-is : (node : Node) (l : List Session) → takenAmong node (map sendingOf l) ≡ takenNumber (node .next) (node .echo) l
-unfolding takenAmong takenNumber
-taken-is node l = rw (keys-are l) (free-among (places + 2) (node .next) (node .echo) l)
+  due-is : firstOf dueIn (seenOf node l .digests) ≡ firstOf isDue l
+  due-is = rw (seen-digests node l kept) (due-each l (rules-of node l kept .each))
+
+  idle-none : (m : List Session) → every (λ s. not (isDue s)) m ≡ true → firstOf isDue m ≡ length m
+  unfolding firstOf every
+  idle-none [] e = refl
+  idle-none (s ∷ m) e =
+      rw (not-true (isDue s) (and-left (not (isDue s)) (every (λ z. not (isDue z)) m) e)) (ap suc (idle-none m (and-right (not (isDue s)) (every (λ z. not (isDue z)) m) e)))
+
+  -- nothing due anywhere
+  idle-end : seenOf node l .idle ≡ true → ltb (firstOf isDue l) places ≡ false
+  idle-end e =
+      let n = rules-of node l kept .size in
+      let f = idle-none l (sym (seen-idle node l kept) ∙ e) in
+      le-ltb (firstOf isDue l) places (omega arith)
+
+  stands-yes : eqb (seenOf node l .how) 0 ≡ false
+  unfolding seenOf standsBy
+  stands-yes = not-true (eqb (standsOf node l) 0) (stands-kept node l ∙ kept)
+
+stands-no : (node : Node) (l : List Session) → keepsRules node l ≡ false → eqb (seenOf node l .how) 0 ≡ true
+unfolding seenOf standsBy
+stands-no node l e = not-false (eqb (standsOf node l) 0) (stands-kept node l ∙ e)
 
 -- ---- the steps of a send are a send on the lent list
 module _ (node : Node) (l zs : List Session) (reply after : List ℕ) (p : Sending) (i : ℕ) (s t : Session) (r : Left)
@@ -165,19 +166,24 @@ module _ (node : Node) (l zs : List Session) (reply after : List ℕ) (p : Sendi
       let g : after ≡ placeLeft node k s reply .reply = ap (λ (x : Posted). x .reply) q in
       rw (f, g, e-z, e-t, e-s, e-i, e)
 
-  pub lent-send : (kept : Bool) (xs : List ℕ) → kept ≡ keepsRules node l → xs ≡ readOf sendingOf kept l → p ≡ nextDue kept (length reply) node xs
-      → outcome (left r zs) after ≡ sendOf node (held l) reply
+  pub lent-send : (v : Seen) (loud : Bool) (waits : List ℕ) → v ≡ seenOf node l → loud ≡ loudIn v → waits ≡ readOf (λ z. waitOf (z .own)) loud l
+      → p ≡ nextDue (length reply) node v waits → outcome (left r zs) after ≡ sendOf node (held l) reply
   unfolding nextDue sendOf dueSent duePlace held
-  lent-send kept xs e-k e-x e-p = split (ltb (length reply) leastReply)
-      (λ b. rw b (sends-nothing 1 (rw b at e-p)))
+  lent-send v loud waits e-v e-l e-w e-p =
+      let w : waits ≡ readOf (λ z. waitOf (z .own)) (loudIn (seenOf node l)) l = e-w ∙ rw (e-l, e-v) in
+      let q = rw e-v at e-p in
+      split (ltb (length reply) leastReply)
+      (λ b. rw b (sends-nothing 1 (rw b at q)))
       (λ b. split (keepsRules node l)
       (λ m. let n = kept-long node l m in
-      let x : xs ≡ map sendingOf l = e-x ∙ rw (e-k, m) (read-all sendingOf l n) in
-      let k = taken-is node l in
-      let d = due-is l in
+      let y = stands-yes node l m in
+      let k = ap (takenAmong node) w ∙ taken-is node l m in
+      let d = due-is node l m in
       split (eqb (node .echo .timer) 0)
-      (λ f. rw (b, m, f) (sends-echo (takenNumber (node .next) (node .echo) l) (rw (b, e-k, m, f, x, k) at e-p)))
-      (λ f. split (ltb (firstOf isDue l) places)
-      (λ g. rw (b, m, f, n, g) (sends-place (firstOf isDue l) (takenNumber (node .next) (node .echo) l) (rw (b, e-k, m, f, x, k, d, g) at e-p)))
-      (λ g. rw (b, m, f, n, g) (sends-nothing 17 (rw (b, e-k, m, f, x, k, d, g) at e-p)))))
-      (λ m. rw (b, m) (sends-nothing 2 (rw (b, e-k, m) at e-p))))
+      (λ f. rw (b, m, f) (sends-echo (takenNumber (node .next) (node .echo) l) (rw (b, y, f, k) at q)))
+      (λ f. split (seenOf node l .idle)
+      (λ g. rw (b, m, f, n, idle-end node l m g) (sends-nothing 17 (rw (b, y, f, g) at q)))
+      (λ g. split (ltb (firstOf isDue l) places)
+      (λ h. rw (b, m, f, n, h) (sends-place (firstOf isDue l) (takenNumber (node .next) (node .echo) l) (rw (b, y, f, g, k, d, h) at q)))
+      (λ h. rw (b, m, f, n, h) (sends-nothing 17 (rw (b, y, f, g, d, h) at q))))))
+      (λ m. rw (b, m) (sends-nothing 2 (rw (b, stands-no node l m) at q))))

@@ -1,5 +1,6 @@
 // What tick, close and send do beside reading and changing the lent records where they lie, on values: which change is made of how many
 // records or of which one, what becomes of it, and what goes back by value.
+use glance::Seen;
 use lentcore::Left;
 use session::Session;
 use table::Change;
@@ -7,10 +8,8 @@ use table::Node;
 use table::Table;
 use timing::Answer;
 ghost use mathlib.Core.Path.{_≡_};
-ghost use mathlib.Core.List.{map};
-ghost use mir.Val.{boolByte};
 ghost use Rattle.octets.specs.Search.{firstOf};
-ghost use Rattle.lentstep.specs.Send.{sendingOf, half, odd, takenAmong, nextDue, placeOf, sentBy, posted, echoLeft, placeLeft, sendLeft};
+ghost use Rattle.lentstep.specs.Send.{dueIn, takenAmong, loudIn, nextDue, placeOf, sentBy, posted, echoLeft, placeLeft, sendLeft};
 ghost use Rattle.lentstep.specs.Step.{refusal, tickChange, tickCount, tickLeft, closedBy, closeLeft};
 
 // What is sent next: nothing, with the number that says why; or the echo; or the request of a place. The number is that of a first send.
@@ -94,48 +93,14 @@ pub fn close_left(kept: bool, node: Node, s: Session) -> Left
     refusal(0, node)
 }
 
-fn bit(b: bool) -> u64
-    ensures { λ r. ⌜ r ≡ boolByte b ⌝ }
-{
-    if b {
-        return 1;
-    }
-    0
-}
-
-// What a send needs of a record: what it awaits, as a key, and whether it is due.
-pub fn sending_of(s: Session) -> u64
-    ensures { λ r. ⌜ r ≡ sendingOf s ⌝ }
-{
-    let own = s.own;
-    let due = s.is_due();
-    let last = bit(due);
-    if own.sends == 0 {
-        return last;
-    }
-    (own.number as u64 + 1) * 2 + last
-}
-
-// The keys alone.
-fn keys_of(xs: [u64; 64]) -> [u64; 64]
-    ensures { λ r. ⌜ r ≡ map half xs ⌝ }
-{
-    let mut t: [u64; 64] = [0; 64];
-    let mut i: usize = 0;
-    while i < 64 {
-        t[i] = xs[i] / 2;
-        i += 1;
-    }
-    t
-}
-
-// The lowest place that is due, or the number of places.
-fn due_among(xs: [u64; 64]) -> usize
-    ensures { λ r. ⌜ r ≡ firstOf odd xs ⌝ }
+// The lowest place whose request is due, by the digests, or the number of places.
+fn due_among(digests: &[u64]) -> usize
+    ensures { λ r. ⌜ r ≡ firstOf dueIn (now (digests .entry)) ⌝ }
 {
     let mut i: usize = 0;
-    while i < 64 {
-        if xs[i] % 2 == 1 {
+    while i < digests.len() {
+        let due = glance::due_in(digests[i]);
+        if due {
             return i;
         }
         i += 1;
@@ -143,35 +108,45 @@ fn due_among(xs: [u64; 64]) -> usize
     i
 }
 
-// The number that a first send takes.
-fn taken(node: Node, xs: [u64; 64]) -> u32
-    ensures { λ r. ⌜ r ≡ takenAmong node xs ⌝ }
+// The number that a first send takes, by what is awaited.
+fn taken(node: Node, waits: &[u64]) -> u32
+    ensures { λ r. ⌜ r ≡ takenAmong node (now (waits .entry)) ⌝ }
 {
-    let keys = keys_of(xs);
     let echo = rules::wait(node.echo);
-    tally::free_among(node.next, echo, &keys)
+    tally::free_among(node.next, echo, waits)
 }
 
-// Who is sent next: the echo first, then places upward.
-pub fn next_due(kept: bool, room: usize, node: Node, xs: [u64; 64]) -> Sending
-    ensures { λ r. ⌜ r ≡ nextDue kept room node xs ⌝ }
+// Whether a place awaits a number, in a table that keeps the rules.
+pub fn loud(seen: Seen) -> bool
+    ensures { λ r. ⌜ r ≡ loudIn seen ⌝ }
+{
+    seen.how == 2
+}
+
+// Who is sent next, by what was seen of the records and what they await: the echo first, then places upward.
+pub fn next_due(room: usize, node: Node, seen: Seen, waits: [u64; 64]) -> Sending
+    ensures { λ r. ⌜ r ≡ nextDue room node seen waits ⌝ }
 {
     if room < Answer::LEAST_REPLY {
         return Sending::Nothing(1);
     }
-    if !kept {
+    if seen.how == 0 {
         return Sending::Nothing(2);
     }
-    let place = due_among(xs);
     let echo = node.echo;
-    let first = echo.timer == 0;
-    if !first & (Table::PLACES <= place) {
-        return Sending::Nothing(17);
-    }
-    let number = taken(node, xs);
-    if first {
+    if echo.timer == 0 {
+        let number = taken(node, &waits);
         return Sending::Echo(number);
     }
+    if seen.idle {
+        return Sending::Nothing(17);
+    }
+    let digests = seen.digests;
+    let place = due_among(&digests);
+    if Table::PLACES <= place {
+        return Sending::Nothing(17);
+    }
+    let number = taken(node, &waits);
     Sending::At { place, number }
 }
 

@@ -1,4 +1,4 @@
--- `lentrules::standing` meets its contract: a walk of its MIR, by hand. Nothing of it is looked at here: it goes from one call to the next.
+-- `lentrules::standing` meets its contract: a walk of its MIR, by hand. How they stand is asked, and told.
 -- Each statement of the MIR stands over its lines. Assumes nothing.
 use mathlib.Core.Path.{_≡_, refl, sym, ap, subst, _∙_}
 use Prim.Native.Nat.{ℕ, _<_, _≤_, _^_}
@@ -49,42 +49,19 @@ use Rattle.session.proofs.Session.Laws as S′
 use Rattle.table.specs.declared.Node.{Node}
 use Rattle.table.proofs.Node as N
 use Rattle.table.proofs.Node.Laws as N′
-use Rattle.session.specs.declared.Bounds.{Bounds}
-use Rattle.session.proofs.Bounds as B
-use Rattle.session.proofs.Bounds.Laws as B′
-use Rattle.glance.specs.declared.Glance.{Glance}
-use Rattle.glance.proofs.Glance as G
-use Rattle.glance.proofs.Glance.Laws as G′
-use Rattle.table.specs.Rules.{boundsOf}
-use Rattle.rules.specs.Survey.{waitOf}
-use Rattle.glance.specs.Digest.{digestOf}
-use Rattle.glance.specs.Glance.{glanceOf, waitingOf, standingOf, standsOf}
-use Rattle.lentrules.specs.Read.{readOf}
-use Rattle.lentrules.specs.Kept.{standing-lent}
-use Rattle.glance.proofs.bounds_of as Limits′
-use Rattle.glance.proofs.bounds_of.Symbol as Limits-def
-use Rattle.glance.proofs.bounds_of.Symbol.{name as #glance·bounds-of}
-use Rattle.glance.proofs.bounds_of.Met as Limits-thm
-use Rattle.lentrules.proofs.digests as Read′
-use Rattle.lentrules.proofs.digests.Symbol as Read-def
-use Rattle.lentrules.proofs.digests.Symbol.{name as #lentrules·digests}
-use Rattle.lentrules.proofs.digests.Met as Read-thm
-use Rattle.glance.proofs.glance_of as Over′
-use Rattle.glance.proofs.glance_of.Symbol as Over-def
-use Rattle.glance.proofs.glance_of.Symbol.{name as #glance·glance-of}
-use Rattle.glance.proofs.glance_of.Met as Over-thm
-use Rattle.glance.proofs.waiting as Want′
-use Rattle.glance.proofs.waiting.Symbol as Want-def
-use Rattle.glance.proofs.waiting.Symbol.{name as #glance·waiting}
-use Rattle.glance.proofs.waiting.Met as Want-thm
-use Rattle.lentrules.proofs.awaited as Wait′
-use Rattle.lentrules.proofs.awaited.Symbol as Wait-def
-use Rattle.lentrules.proofs.awaited.Symbol.{name as #lentrules·awaited}
-use Rattle.lentrules.proofs.awaited.Met as Wait-thm
-use Rattle.glance.proofs.standing as Stand′
-use Rattle.glance.proofs.standing.Symbol as Stand-def
-use Rattle.glance.proofs.standing.Symbol.{name as #glance·standing}
-use Rattle.glance.proofs.standing.Met as Stand-thm
+use Rattle.glance.specs.declared.Seen.{Seen}
+use Rattle.glance.proofs.Seen as K
+use Rattle.glance.proofs.Seen.Laws as K′
+use Rattle.glance.specs.Glance.{standsOf}
+use Rattle.lentrules.specs.Kept.{seenOf, seen-how}
+use Rattle.lentrules.proofs.seen as Stand′
+use Rattle.lentrules.proofs.seen.Symbol as Stand-def
+use Rattle.lentrules.proofs.seen.Symbol.{name as #lentrules·seen}
+use Rattle.lentrules.proofs.seen.Met as Stand-thm
+use Rattle.glance.proofs.how_of as By′
+use Rattle.glance.proofs.how_of.Symbol as By-def
+use Rattle.glance.proofs.how_of.Symbol.{name as #glance·how-of}
+use Rattle.glance.proofs.how_of.Met as By-thm
 use Rattle.lentrules.proofs.standing.Key.{name as #lentrules·standing}
 use Rattle.lentrules.proofs.standing as entry′
 use Rattle.lentrules.proofs.standing.Statement as stated
@@ -95,23 +72,11 @@ abbrev stayed : Stays (entry′.ended .signature .params) (entry′.ended .kept)
 stayed = (stay-dropped (plain (λ _. N.the-row)) yes, (stay-dropped (shrSliceOf (0 ∷ []) tt (plain (λ _. S.the-row))) yes, tt))
 
 module _ {M : Type 1} (𝓤 : URA M) (H : Heap 𝓤) (A : Atoms 𝓤) (mem : Memory → SProp 𝓤) (run : Routine → Fun 𝓤) where
-  abbrev Limits : Contract 𝓤
-  Limits = tripleOf 𝓤 H A Limits′.signature (Limits′.spec 𝓤 H A mem run)
-
-  abbrev Read : Contract 𝓤
-  Read = tripleOf 𝓤 H A Read′.signature (Read′.spec 𝓤 H A mem run)
-
-  abbrev Over : Contract 𝓤
-  Over = tripleOf 𝓤 H A Over′.signature (Over′.spec 𝓤 H A mem run)
-
-  abbrev Want : Contract 𝓤
-  Want = tripleOf 𝓤 H A Want′.signature (Want′.spec 𝓤 H A mem run)
-
-  abbrev Wait : Contract 𝓤
-  Wait = tripleOf 𝓤 H A Wait′.signature (Wait′.spec 𝓤 H A mem run)
-
   abbrev Stand : Contract 𝓤
   Stand = tripleOf 𝓤 H A Stand′.signature (Stand′.spec 𝓤 H A mem run)
+
+  abbrev By : Contract 𝓤
+  By = tripleOf 𝓤 H A By′.signature (By′.spec 𝓤 H A mem run)
 
 module _ {M : Type 1} (𝓤 : URA M) (H : Heap 𝓤) (A : Atoms 𝓤) (W : Given 𝓤 H A) (mem : Memory → SProp 𝓤) (run : Routine → Fun 𝓤) (κ₀ : Lft) (q₀ : Share) (node : Node) (recs : RefT (List Session)) where
   abbrev v-node : Val
@@ -155,90 +120,49 @@ module _ {M : Type 1} (𝓤 : URA M) (H : Heap 𝓤) (A : Atoms 𝓤) (W : Given
       suffices ! _ (ends-at 𝓤 H A entry′.ended stayed (entry′.clauses 𝓤 H A mem run) W bound w r (tt, (tt, tt)) (tt, (tt, tt))) $ says ! e $ frame ! $
       nothing ! $ nothing ! $ fjoin ! $ nothing ! $ fjoin ! $ done !
 
-  module _ (C : Calls 𝓤 H) (Λ : Loops 𝓤 H) (fm : FmC 𝓤 H (W .laws) C) (known-Limits : Triple 𝓤 (C #glance·bounds-of) (Limits 𝓤 H A mem run)) (known-Read : Triple 𝓤 (C #lentrules·digests) (Read 𝓤 H A mem run)) (known-Over : Triple 𝓤 (C #glance·glance-of) (Over 𝓤 H A mem run)) (known-Want : Triple 𝓤 (C #glance·waiting) (Want 𝓤 H A mem run)) (known-Wait : Triple 𝓤 (C #lentrules·awaited) (Wait 𝓤 H A mem run)) (known-Stand : Triple 𝓤 (C #glance·standing) (Stand 𝓤 H A mem run)) where
+  module _ (C : Calls 𝓤 H) (Λ : Loops 𝓤 H) (fm : FmC 𝓤 H (W .laws) C) (known-Stand : Triple 𝓤 (C #lentrules·seen) (Stand 𝓤 H A mem run)) (known-By : Triple 𝓤 (C #glance·how-of) (By 𝓤 H A mem run)) where
     walk : Is N.the-row node (v-node ∷ []) → Room S.the-row (length (recs .now)) → ent 𝓤 (onEntry 𝓤 H A entry′.signature (κ₀, tt) (q₀, tt) a at) (WpFn 𝓤 H C Λ code.function (v-node ∷ v-recs ∷ []) Post)
     walk is-node room-recs =
-        qed W ((Toks) ∷ ‵ (owns (N.the-row ∷ (ShrSlice (named 0) κ₀ S.the-row) ∷ []) a at) ∷ []) ∵ enter ! C Λ code.function (v-node ∷ v-recs ∷ []) _ $ alloc1 ! (λ l₀. alloc1 ! (λ l₁. alloc1 ! (λ l₂. alloc1 ! (λ l₃. alloc1 ! (λ l₄.
-        alloc1 ! (λ l₅. alloc1 ! (λ l₆. alloc1 ! (λ l₇. alloc1 ! (λ l₈. alloc0 ! $ params1 ! $ pass1 ! (init ! 14 refl (LL.lawful N.the-type N′.the-laws 𝓤 H A W .typed node _ is-node .0)) $
-        pass1 ! (init ! 12 refl (tt, (tt, (record { fits = room-recs .0 }, tt)))) $ pass0 ! $ move ! (18 ∷ []) $ split ! $ move ! (1 ∷ []) $ drop ! $ move ! (19 ∷ []) $ fsplit ! $ drop ! $ fsplit ! $ move ! (1 ∷ []) $ drop ! $
-        -- _3 = _2.1
-        assigns ! (of-opd ! (load ! (from ! (fld ! refl (stop !))) (look-in ! 14 (sub ! 1 refl (whole !))))) (from ! (stop !)) (init ! 12 refl (tt, record { fits = room-recs .0 })) $
-        -- _4 = bounds_of(_1)
-        nothing ! $ nothing ! $ owned ! N.the-row (Is N.the-row) (LL.makes N.the-type N′.the-plain 𝓤 H A) node _ is-node $ fjoin ! $ move ! (1 ∷ 0 ∷ []) $
-        use2 W (raw (Limits 𝓤 H A mem run .pre ((tt, tt, tt, (node, tt), (v-node ∷ [], tt)), tt))) (qed W ((‵ ftrue) ∷ ‵ (fsep (N.the-row .own node (v-node ∷ [])) ftrue) ∷ []) ∵ join ! $ frame ! $ done !) $
-        calls-at ! fm (Limits 𝓤 H A mem run) known-Limits ((tt, tt, tt, (node, tt), (v-node ∷ [], tt)), tt) (and-then ! (load ! (from ! (stop !)) (look ! 17 refl)) (no-more !)) (λ w-Limits.
-        use1 W (later (some (λ (r-Limits : Bounds). ((‵ ftrue) ⊛ ‵ (B.the-row .own r-Limits (w-Limits ∷ []))) ⊛ raw (ensured 𝓤 H A Limits′.ended (Limits′.clauses 𝓤 H A mem run) tt (node, tt) tt r-Limits)))) (id⊢ 𝓤 _) $ await ! tt $
-        pick ! (λ r-Limits. split ! $ move ! (1 ∷ []) $ use1 W (some (λ (z-Limits : (Unit {0}) × (Unit {0})). ‵ (lasts Limits′.ended tt (node, tt) z-Limits) ⊛ raw (fact 𝓤 (r-Limits ≡ boundsOf (node .plan))))) (id⊢ 𝓤 _) $
-        pick ! (λ z-Limits. split ! $ move ! (1 ∷ []) $ heard ! (r-Limits ≡ boundsOf (node .plan)) (λ e-Limits. fsplit ! $ drop ! $ drop ! $ split ! $ drop ! $
-        peeks ! B.the-row (Is B.the-row) (shows 𝓤 H A B.the-row) r-Limits (w-Limits ∷ []) (λ is-Limits. land ! (from ! (stop !)) (init ! 11 refl (LL.lawful B.the-type B′.the-laws 𝓤 H A W .typed r-Limits _ is-Limits .0)) $ drop ! $
-        -- _5 = digests(_2, _4)
-        use1 W (‵ Own-recs ⊛ ‵ Own-recs) (shr-slice-copy 𝓤 H A W (named 0) κ₀ S.the-row .twice recs (v-recs ∷ [])) $ split ! $ nothing ! $ move ! (3 ∷ 0 ∷ []) $ join ! $ nothing ! $
-        owned ! B.the-row (Is B.the-row) (LL.makes B.the-type B′.the-plain 𝓤 H A) r-Limits _ is-Limits $ fjoin ! $ move ! (3 ∷ 0 ∷ []) $ fjoin ! $ move ! (1 ∷ 0 ∷ []) $
-        use2 W (raw (Read 𝓤 H A mem run .pre (((κ₀, tt), (q₀, tt), tt, (recs, (r-Limits, tt)), (v-recs ∷ [], (w-Limits ∷ [], tt))), tt))) (qed W ((‵ (flft κ₀ q₀) ⊛ ‵ ftrue) ∷ ‵ (fsep Own-recs (fsep (B.the-row .own r-Limits (w-Limits ∷ [])) ftrue)) ∷ []) ∵ join ! $ frame ! $ done !) $
-        calls-at ! fm (Read 𝓤 H A mem run) known-Read (((κ₀, tt), (q₀, tt), tt, (recs, (r-Limits, tt)), (v-recs ∷ [], (w-Limits ∷ [], tt))), tt) (and-then ! (load ! (from ! (stop !)) (look ! 14 refl)) (and-then ! (load ! (from ! (stop !)) (look ! 10 refl)) (no-more !))) (λ w-Read.
-        use1 W (later (some (λ (r-Read : (List ℕ)). ((‵ (flft κ₀ q₀) ⊛ ‵ ftrue) ⊛ ‵ ((Array u64 64) .own r-Read (w-Read ∷ []))) ⊛ raw (ensured 𝓤 H A Read′.ended (Read′.clauses 𝓤 H A mem run) (κ₀, tt) (recs, (r-Limits, tt)) tt r-Read)))) (id⊢ 𝓤 _) $ await ! tt $
-        pick ! (λ r-Read. split ! $ move ! (1 ∷ []) $
-        use1 W (some (λ (z-Read : (Unit {0}) × ((Unit {0}) × (Unit {0}))). ‵ (lasts Read′.ended (κ₀, tt) (recs, (r-Limits, tt)) z-Read) ⊛ raw (fact 𝓤 (r-Read ≡ readOf (digestOf r-Limits) true (recs .now))))) (id⊢ 𝓤 _) $ pick ! (λ z-Read.
-        split ! $ move ! (1 ∷ []) $ heard ! (r-Read ≡ readOf (digestOf r-Limits) true (recs .now)) (λ e-Read. fsplit ! $ drop ! $ fsplit ! $ drop ! $ drop ! $ split ! $ split ! $ move ! (1 ∷ []) $ drop ! $ move ! (1 ∷ []) $
-        peeks ! (Array u64 64) (Is (Array u64 64)) (shows 𝓤 H A (Array u64 64)) r-Read (w-Read ∷ []) (λ is-Read. land ! (from ! (stop !)) (init ! 9 refl (array-lawful 𝓤 H A W u64 (uint-lawful 𝓤 H A W w64) 64 .typed r-Read _ is-Read .0)) $
-        drop ! $
-        -- _6 = glance_of(_5)
-        nothing ! $ nothing ! $ owned ! (Array u64 64) (Is (Array u64 64)) (array-makes 𝓤 H A W u64 (uint-makes 𝓤 H A W w64) 64) r-Read _ is-Read $ fjoin ! $ move ! (1 ∷ 0 ∷ []) $
-        use2 W (raw (Over 𝓤 H A mem run .pre ((tt, tt, tt, (r-Read, tt), (w-Read ∷ [], tt)), tt))) (qed W ((‵ ftrue) ∷ ‵ (fsep ((Array u64 64) .own r-Read (w-Read ∷ [])) ftrue) ∷ []) ∵ join ! $ frame ! $ done !) $
-        calls-at ! fm (Over 𝓤 H A mem run) known-Over ((tt, tt, tt, (r-Read, tt), (w-Read ∷ [], tt)), tt) (and-then ! (load ! (from ! (stop !)) (look ! 9 refl)) (no-more !)) (λ w-Over.
-        use1 W (later (some (λ (r-Over : Glance). ((‵ ftrue) ⊛ ‵ (G.the-row .own r-Over (w-Over ∷ []))) ⊛ raw (ensured 𝓤 H A Over′.ended (Over′.clauses 𝓤 H A mem run) tt (r-Read, tt) tt r-Over)))) (id⊢ 𝓤 _) $ await ! tt $ pick ! (λ r-Over.
-        split ! $ move ! (1 ∷ []) $ use1 W (some (λ (z-Over : (Unit {0}) × (Unit {0})). ‵ (lasts Over′.ended tt (r-Read, tt) z-Over) ⊛ raw (fact 𝓤 (r-Over ≡ glanceOf r-Read)))) (id⊢ 𝓤 _) $ pick ! (λ z-Over. split ! $ move ! (1 ∷ []) $
-        heard ! (r-Over ≡ glanceOf r-Read) (λ e-Over. fsplit ! $ drop ! $ drop ! $ split ! $ drop ! $ peeks ! G.the-row (Is G.the-row) (shows 𝓤 H A G.the-row) r-Over (w-Over ∷ []) (λ is-Over.
-        land ! (from ! (stop !)) (init ! 7 refl (LL.lawful G.the-type G′.the-laws 𝓤 H A W .typed r-Over _ is-Over .0)) $ drop ! $
-        -- _7 = waiting(_6)
-        nothing ! $ nothing ! $ owned ! G.the-row (Is G.the-row) (LL.makes G.the-type G′.the-plain 𝓤 H A) r-Over _ is-Over $ fjoin ! $ move ! (1 ∷ 0 ∷ []) $
-        use2 W (raw (Want 𝓤 H A mem run .pre ((tt, tt, tt, (r-Over, tt), (w-Over ∷ [], tt)), tt))) (qed W ((‵ ftrue) ∷ ‵ (fsep (G.the-row .own r-Over (w-Over ∷ [])) ftrue) ∷ []) ∵ join ! $ frame ! $ done !) $
-        calls-at ! fm (Want 𝓤 H A mem run) known-Want ((tt, tt, tt, (r-Over, tt), (w-Over ∷ [], tt)), tt) (and-then ! (load ! (from ! (stop !)) (look ! 7 refl)) (no-more !)) (λ w-Want.
-        use1 W (later (some (λ (r-Want : Bool). ((‵ ftrue) ⊛ ‵ (bool .own r-Want (w-Want ∷ []))) ⊛ raw (ensured 𝓤 H A Want′.ended (Want′.clauses 𝓤 H A mem run) tt (r-Over, tt) tt r-Want)))) (id⊢ 𝓤 _) $ await ! tt $ pick ! (λ r-Want.
-        split ! $ move ! (1 ∷ []) $ use1 W (some (λ (z-Want : (Unit {0}) × (Unit {0})). ‵ (lasts Want′.ended tt (r-Over, tt) z-Want) ⊛ raw (fact 𝓤 (r-Want ≡ waitingOf r-Over)))) (id⊢ 𝓤 _) $ pick ! (λ z-Want. split ! $ move ! (1 ∷ []) $
-        heard ! (r-Want ≡ waitingOf r-Over) (λ e-Want. fsplit ! $ drop ! $ drop ! $ split ! $ drop ! $ peeks ! bool (Is bool) (shows 𝓤 H A bool) r-Want (w-Want ∷ []) (λ is-Want.
-        land ! (from ! (stop !)) (init ! 5 refl (bool-lawful 𝓤 H A W .typed r-Want _ is-Want .0)) $ drop ! $
-        -- _8 = awaited(_2, _7)
-        move ! (1 ∷ []) $ use1 W (‵ Own-recs ⊛ ‵ Own-recs) (shr-slice-copy 𝓤 H A W (named 0) κ₀ S.the-row .twice recs (v-recs ∷ [])) $ split ! $ nothing ! $ move ! (3 ∷ 0 ∷ []) $ join ! $ nothing ! $
-        owned ! bool (Is bool) (bool-makes 𝓤 H A W) r-Want _ is-Want $ fjoin ! $ move ! (3 ∷ 0 ∷ []) $ fjoin ! $ move ! (1 ∷ 0 ∷ []) $
-        use2 W (raw (Wait 𝓤 H A mem run .pre (((κ₀, tt), (q₀, tt), tt, (recs, (r-Want, tt)), (v-recs ∷ [], (w-Want ∷ [], tt))), tt))) (qed W ((‵ (flft κ₀ q₀) ⊛ ‵ ftrue) ∷ ‵ (fsep Own-recs (fsep (bool .own r-Want (w-Want ∷ [])) ftrue)) ∷ []) ∵ join ! $ frame ! $ done !) $
-        calls-at ! fm (Wait 𝓤 H A mem run) known-Wait (((κ₀, tt), (q₀, tt), tt, (recs, (r-Want, tt)), (v-recs ∷ [], (w-Want ∷ [], tt))), tt) (and-then ! (load ! (from ! (stop !)) (look ! 14 refl)) (and-then ! (load ! (from ! (stop !)) (look ! 4 refl)) (no-more !))) (λ w-Wait.
-        use1 W (later (some (λ (r-Wait : (List ℕ)). ((‵ (flft κ₀ q₀) ⊛ ‵ ftrue) ⊛ ‵ ((Array u64 64) .own r-Wait (w-Wait ∷ []))) ⊛ raw (ensured 𝓤 H A Wait′.ended (Wait′.clauses 𝓤 H A mem run) (κ₀, tt) (recs, (r-Want, tt)) tt r-Wait)))) (id⊢ 𝓤 _) $ await ! tt $
-        pick ! (λ r-Wait. split ! $ move ! (1 ∷ []) $
-        use1 W (some (λ (z-Wait : (Unit {0}) × ((Unit {0}) × (Unit {0}))). ‵ (lasts Wait′.ended (κ₀, tt) (recs, (r-Want, tt)) z-Wait) ⊛ raw (fact 𝓤 (r-Wait ≡ readOf (λ z. waitOf (z .own)) r-Want (recs .now))))) (id⊢ 𝓤 _) $
-        pick ! (λ z-Wait. split ! $ move ! (1 ∷ []) $ heard ! (r-Wait ≡ readOf (λ z. waitOf (z .own)) r-Want (recs .now)) (λ e-Wait. fsplit ! $ drop ! $ fsplit ! $ drop ! $ drop ! $ split ! $ split ! $ move ! (1 ∷ []) $ drop ! $
-        move ! (1 ∷ []) $ peeks ! (Array u64 64) (Is (Array u64 64)) (shows 𝓤 H A (Array u64 64)) r-Wait (w-Wait ∷ []) (λ is-Wait.
-        land ! (from ! (stop !)) (init ! 3 refl (array-lawful 𝓤 H A W u64 (uint-lawful 𝓤 H A W w64) 64 .typed r-Wait _ is-Wait .0)) $ drop ! $
-        -- _0 = standing(_3, _1, _6, _8)
-        nothing ! $ nothing ! $ owned ! (Array u64 64) (Is (Array u64 64)) (array-makes 𝓤 H A W u64 (uint-makes 𝓤 H A W w64) 64) r-Wait _ is-Wait $ fjoin ! $
-        owned ! G.the-row (Is G.the-row) (LL.makes G.the-type G′.the-plain 𝓤 H A) r-Over _ is-Over $ fjoin ! $ owned ! N.the-row (Is N.the-row) (LL.makes N.the-type N′.the-plain 𝓤 H A) node _ is-node $ fjoin ! $
-        owned ! usize (Is usize) (uint-makes 𝓤 H A W w64) (length (recs .now)) _ (refl, room-recs .0) $ fjoin ! $ move ! (1 ∷ 0 ∷ []) $
-        use2 W (raw (Stand 𝓤 H A mem run .pre ((tt, tt, tt, ((length (recs .now)), (node, (r-Over, (r-Wait, tt)))), ((vint w64 (length (recs .now))) ∷ [], (v-node ∷ [], (w-Over ∷ [], (w-Wait ∷ [], tt))))), tt))) (qed W ((‵ ftrue) ∷ ‵ (fsep (usize .own (length (recs .now)) ((vint w64 (length (recs .now))) ∷ [])) (fsep (N.the-row .own node (v-node ∷ [])) (fsep (G.the-row .own r-Over (w-Over ∷ [])) (fsep ((Array u64 64) .own r-Wait (w-Wait ∷ [])) ftrue)))) ∷ []) ∵ join ! $ frame ! $ done !) $
-        calls-at ! fm (Stand 𝓤 H A mem run) known-Stand ((tt, tt, tt, ((length (recs .now)), (node, (r-Over, (r-Wait, tt)))), ((vint w64 (length (recs .now))) ∷ [], (v-node ∷ [], (w-Over ∷ [], (w-Wait ∷ [], tt))))), tt) (and-then ! (load ! (from ! (stop !)) (look ! 13 refl)) (and-then ! (load ! (from ! (stop !)) (look ! 17 refl)) (and-then ! (load ! (from ! (stop !)) (look ! 7 refl)) (and-then ! (load ! (from ! (stop !)) (look ! 3 refl)) (no-more !))))) (λ w-Stand.
-        use1 W (later (some (λ (r-Stand : ℕ). ((‵ ftrue) ⊛ ‵ (u8 .own r-Stand (w-Stand ∷ []))) ⊛ raw (ensured 𝓤 H A Stand′.ended (Stand′.clauses 𝓤 H A mem run) tt ((length (recs .now)), (node, (r-Over, (r-Wait, tt)))) tt r-Stand)))) (id⊢ 𝓤 _) $ await ! tt $
+        qed W ((Toks) ∷ ‵ (owns (N.the-row ∷ (ShrSlice (named 0) κ₀ S.the-row) ∷ []) a at) ∷ []) ∵ enter ! C Λ code.function (v-node ∷ v-recs ∷ []) _ $ alloc1 ! (λ l₀. alloc1 ! (λ l₁. alloc1 ! (λ l₂. alloc1 ! (λ l₃. alloc0 ! $ params1 ! $
+        pass1 ! (init ! 4 refl (LL.lawful N.the-type N′.the-laws 𝓤 H A W .typed node _ is-node .0)) $ pass1 ! (init ! 2 refl (tt, (tt, (record { fits = room-recs .0 }, tt)))) $ pass0 ! $ move ! (8 ∷ []) $ split ! $ move ! (1 ∷ []) $
+        drop ! $ move ! (9 ∷ []) $ fsplit ! $ drop ! $ fsplit ! $ move ! (1 ∷ []) $ drop ! $
+        -- _3 = seen(_1, _2)
+        use1 W (‵ Own-recs ⊛ ‵ Own-recs) (shr-slice-copy 𝓤 H A W (named 0) κ₀ S.the-row .twice recs (v-recs ∷ [])) $ split ! $ nothing ! $ move ! (3 ∷ 0 ∷ []) $ join ! $ nothing ! $ move ! (3 ∷ 0 ∷ []) $ fjoin ! $
+        owned ! N.the-row (Is N.the-row) (LL.makes N.the-type N′.the-plain 𝓤 H A) node _ is-node $ fjoin ! $ move ! (1 ∷ 0 ∷ []) $
+        use2 W (raw (Stand 𝓤 H A mem run .pre (((κ₀, tt), (q₀, tt), tt, (node, (recs, tt)), (v-node ∷ [], (v-recs ∷ [], tt))), tt))) (qed W ((‵ (flft κ₀ q₀) ⊛ ‵ ftrue) ∷ ‵ (fsep (N.the-row .own node (v-node ∷ [])) (fsep Own-recs ftrue)) ∷ []) ∵ join ! $ frame ! $ done !) $
+        calls-at ! fm (Stand 𝓤 H A mem run) known-Stand (((κ₀, tt), (q₀, tt), tt, (node, (recs, tt)), (v-node ∷ [], (v-recs ∷ [], tt))), tt) (and-then ! (load ! (from ! (stop !)) (look ! 6 refl)) (and-then ! (load ! (from ! (stop !)) (look ! 4 refl)) (no-more !))) (λ w-Stand.
+        use1 W (later (some (λ (r-Stand : Seen). ((‵ (flft κ₀ q₀) ⊛ ‵ ftrue) ⊛ ‵ (K.the-row .own r-Stand (w-Stand ∷ []))) ⊛ raw (ensured 𝓤 H A Stand′.ended (Stand′.clauses 𝓤 H A mem run) (κ₀, tt) (node, (recs, tt)) tt r-Stand)))) (id⊢ 𝓤 _) $ await ! tt $
         pick ! (λ r-Stand. split ! $ move ! (1 ∷ []) $
-        use1 W (some (λ (z-Stand : (Unit {0}) × ((Unit {0}) × ((Unit {0}) × ((Unit {0}) × (Unit {0}))))). ‵ (lasts Stand′.ended tt ((length (recs .now)), (node, (r-Over, (r-Wait, tt)))) z-Stand) ⊛ raw (fact 𝓤 (r-Stand ≡ standingOf (length (recs .now)) node r-Over r-Wait)))) (id⊢ 𝓤 _) $
-        pick ! (λ z-Stand. split ! $ move ! (1 ∷ []) $ heard ! (r-Stand ≡ standingOf (length (recs .now)) node r-Over r-Wait) (λ e-Stand. fsplit ! $ drop ! $ fsplit ! $ drop ! $ fsplit ! $ drop ! $ fsplit ! $ drop ! $ drop ! $ split ! $
-        drop ! $ peeks ! u8 (Is u8) (shows 𝓤 H A u8) r-Stand (w-Stand ∷ []) (λ is-Stand. land ! (from ! (stop !)) (init ! 19 refl (uint-lawful 𝓤 H A W w8 .typed r-Stand _ is-Stand .0)) $
+        use1 W (some (λ (z-Stand : (Unit {0}) × ((Unit {0}) × (Unit {0}))). ‵ (lasts Stand′.ended (κ₀, tt) (node, (recs, tt)) z-Stand) ⊛ raw (fact 𝓤 (r-Stand ≡ seenOf node (recs .now))))) (id⊢ 𝓤 _) $ pick ! (λ z-Stand. split ! $
+        move ! (1 ∷ []) $ heard ! (r-Stand ≡ seenOf node (recs .now)) (λ e-Stand. fsplit ! $ drop ! $ fsplit ! $ drop ! $ drop ! $ split ! $ split ! $ move ! (1 ∷ []) $ drop ! $ move ! (1 ∷ []) $
+        peeks ! K.the-row (Is K.the-row) (shows 𝓤 H A K.the-row) r-Stand (w-Stand ∷ []) (λ is-Stand. land ! (from ! (stop !)) (init ! 3 refl (LL.lawful K.the-type K′.the-laws 𝓤 H A W .typed r-Stand _ is-Stand .0)) $ drop ! $
+        -- _0 = how_of(_3)
+        nothing ! $ nothing ! $ owned ! K.the-row (Is K.the-row) (LL.makes K.the-type K′.the-plain 𝓤 H A) r-Stand _ is-Stand $ fjoin ! $ move ! (1 ∷ 0 ∷ []) $
+        use2 W (raw (By 𝓤 H A mem run .pre ((tt, tt, tt, (r-Stand, tt), (w-Stand ∷ [], tt)), tt))) (qed W ((‵ ftrue) ∷ ‵ (fsep (K.the-row .own r-Stand (w-Stand ∷ [])) ftrue) ∷ []) ∵ join ! $ frame ! $ done !) $
+        calls-at ! fm (By 𝓤 H A mem run) known-By ((tt, tt, tt, (r-Stand, tt), (w-Stand ∷ [], tt)), tt) (and-then ! (load ! (from ! (stop !)) (look ! 3 refl)) (no-more !)) (λ w-By.
+        use1 W (later (some (λ (r-By : ℕ). ((‵ ftrue) ⊛ ‵ (u8 .own r-By (w-By ∷ []))) ⊛ raw (ensured 𝓤 H A By′.ended (By′.clauses 𝓤 H A mem run) tt (r-Stand, tt) tt r-By)))) (id⊢ 𝓤 _) $ await ! tt $ pick ! (λ r-By. split ! $
+        move ! (1 ∷ []) $ use1 W (some (λ (z-By : (Unit {0}) × (Unit {0})). ‵ (lasts By′.ended tt (r-Stand, tt) z-By) ⊛ raw (fact 𝓤 (r-By ≡ r-Stand .how)))) (id⊢ 𝓤 _) $ pick ! (λ z-By. split ! $ move ! (1 ∷ []) $
+        heard ! (r-By ≡ r-Stand .how) (λ e-By. fsplit ! $ drop ! $ drop ! $ split ! $ drop ! $ peeks ! u8 (Is u8) (shows 𝓤 H A u8) r-By (w-By ∷ []) (λ is-By.
+        land ! (from ! (stop !)) (init ! 9 refl (uint-lawful 𝓤 H A W w8 .typed r-By _ is-By .0)) $
         -- return
-        returns ! (look ! 19 refl) $ forget ! 3 refl $ forget ! 5 refl $ forget ! 7 refl $ forget ! 9 refl $ forget ! 11 refl $ forget ! 13 refl $ forget ! 15 refl $ forget ! 17 refl $ forget ! 19 refl $
-        move ! (19 ∷ 20 ∷ []) $ free1 ! $ move ! (17 ∷ 18 ∷ []) $ free1 ! $ move ! (15 ∷ 16 ∷ []) $ free1 ! $ move ! (13 ∷ 14 ∷ []) $ free1 ! $ move ! (11 ∷ 12 ∷ []) $ free1 ! $ move ! (9 ∷ 10 ∷ []) $ free1 ! $ move ! (7 ∷ 8 ∷ []) $ free1 ! $ move ! (5 ∷ 6 ∷ []) $ free1 ! $ move ! (3 ∷ 4 ∷ []) $ free1 ! $ free0 ! $
-        nothing ! $ move ! (2 ∷ 0 ∷ []) $ join ! $ keep ! (0 ∷ 1 ∷ []) $ by ! (exits r-Stand w-Stand (e-Stand ∙ standing-lent node (recs .now) r-Limits r-Read r-Over r-Want r-Wait e-Limits e-Read e-Over e-Want e-Wait)))))))))))))))))))))))))))))))))))))))))
+        returns ! (look ! 9 refl) $ forget ! 3 refl $ forget ! 5 refl $ forget ! 7 refl $ forget ! 9 refl $
+        move ! (9 ∷ 10 ∷ []) $ free1 ! $ move ! (7 ∷ 8 ∷ []) $ free1 ! $ move ! (5 ∷ 6 ∷ []) $ free1 ! $ move ! (3 ∷ 4 ∷ []) $ free1 ! $ free0 ! $ nothing ! $ move ! (2 ∷ 0 ∷ []) $ join ! $ keep ! (0 ∷ 1 ∷ []) $
+        by ! (exits r-By w-By (e-By ∙ ap (λ (z : Seen). z .how) e-Stand ∙ seen-how node (recs .now)))))))))))))))))
 
 module _ {M : Type 1} (𝓤 : URA M) (H : Heap 𝓤) (A : Atoms 𝓤) (W : Given 𝓤 H A) (mem : Memory → SProp 𝓤) (run : Routine → Fun 𝓤) where
-  standing-walks : (C : Calls 𝓤 H) (Λ : Loops 𝓤 H) → FmC 𝓤 H (W .laws) C → Triple 𝓤 (C #glance·bounds-of) (Limits 𝓤 H A mem run) → Triple 𝓤 (C #lentrules·digests) (Read 𝓤 H A mem run) → Triple 𝓤 (C #glance·glance-of) (Over 𝓤 H A mem run) → Triple 𝓤 (C #glance·waiting) (Want 𝓤 H A mem run) → Triple 𝓤 (C #lentrules·awaited) (Wait 𝓤 H A mem run) → Triple 𝓤 (C #glance·standing) (Stand 𝓤 H A mem run)
+  standing-walks : (C : Calls 𝓤 H) (Λ : Loops 𝓤 H) → FmC 𝓤 H (W .laws) C → Triple 𝓤 (C #lentrules·seen) (Stand 𝓤 H A mem run) → Triple 𝓤 (C #glance·how-of) (By 𝓤 H A mem run)
       → Walks 𝓤 H A entry′.ended stayed (WpFn 𝓤 H C Λ code.function) (entry′.clauses 𝓤 H A mem run)
-  standing-walks C Λ fm known-Limits known-Read known-Over known-Want known-Wait known-Stand = walked 𝓤 H A entry′.ended stayed (entry′.clauses 𝓤 H A mem run) (WpFn 𝓤 H C Λ code.function)
+  standing-walks C Λ fm known-Stand known-By = walked 𝓤 H A entry′.ended stayed (entry′.clauses 𝓤 H A mem run) (WpFn 𝓤 H C Λ code.function)
       (λ κs. (LL.vals N.the-type N′.the-laws, (slice-vals, tt))) (λ κs. (LL.tells N.the-type N′.the-laws, (shr-slice-tells (named 0) (κs .0) S.the-row, tt)))
       (λ κs qs bounds a g are. via 𝓤 _ (fst∗ 𝓤 _ (emp 𝓤))
-      (walk 𝓤 H A W mem run (κs .0) (qs .0) (a .0) (a .1 .0) C Λ fm known-Limits known-Read known-Over known-Want known-Wait known-Stand (are .0) (are .1 .0 .0 .1)))
+      (walk 𝓤 H A W mem run (κs .0) (qs .0) (a .0) (a .1 .0) C Λ fm known-Stand known-By (are .0) (are .1 .0 .0 .1)))
 
 standing-meets : {M : Type 1} (𝓤 : URA M) (H : Heap 𝓤) (A : Atoms 𝓤) → Given 𝓤 H A → (mem : Memory → SProp 𝓤) (run : Routine → Fun 𝓤) (𝓣 : Tables 𝓤 H)
-    → Triple 𝓤 (𝓣 .C #glance·bounds-of) (Limits 𝓤 H A mem run) → Triple 𝓤 (𝓣 .C #lentrules·digests) (Read 𝓤 H A mem run) → Triple 𝓤 (𝓣 .C #glance·glance-of) (Over 𝓤 H A mem run) → Triple 𝓤 (𝓣 .C #glance·waiting) (Want 𝓤 H A mem run) → Triple 𝓤 (𝓣 .C #lentrules·awaited) (Wait 𝓤 H A mem run) → Triple 𝓤 (𝓣 .C #glance·standing) (Stand 𝓤 H A mem run)
+    → Triple 𝓤 (𝓣 .C #lentrules·seen) (Stand 𝓤 H A mem run) → Triple 𝓤 (𝓣 .C #glance·how-of) (By 𝓤 H A mem run)
     → Meets 𝓤 H A entry′.signature (WpFn 𝓤 H (𝓣 .C) (𝓣 .Λ) code.function) (entry′.spec 𝓤 H A mem run)
-standing-meets 𝓤 H A W mem run 𝓣 known-Limits known-Read known-Over known-Want known-Wait known-Stand =
+standing-meets 𝓤 H A W mem run 𝓣 known-Stand known-By =
     walk-meets 𝓤 H A entry′.ended stayed W (goes-dropped 𝓤 H A W 1 (plain (λ _. N.the-row)) yes (λ κs x f. refl), (goes-dropped 𝓤 H A W 1 (shrSliceOf (0 ∷ []) tt (plain (λ _. S.the-row))) yes (λ κs x f. refl), tt)) (entry′.clauses 𝓤 H A mem run)
-    (WpFn 𝓤 H (𝓣 .C) (𝓣 .Λ) code.function) (WpFn-mono 𝓤 H (W .laws) 𝓣 code.function) (standing-walks 𝓤 H A W mem run (𝓣 .C) (𝓣 .Λ) (fmOf 𝓤 H (W .laws) 𝓣) known-Limits known-Read known-Over known-Want known-Wait known-Stand)
+    (WpFn 𝓤 H (𝓣 .C) (𝓣 .Λ) code.function) (WpFn-mono 𝓤 H (W .laws) 𝓣 code.function) (standing-walks 𝓤 H A W mem run (𝓣 .C) (𝓣 .Λ) (fmOf 𝓤 H (W .laws) 𝓣) known-Stand known-By)
 
 pub standing-spec : {M : Type 1} → stated.statement M
 unfolding code.routine tablesOf
@@ -246,9 +170,5 @@ standing-spec 𝓤 H 𝓜 𝓖 𝓡 =
     entered 𝓤 H (tripleOf 𝓤 H (𝓖 .A) entry′.signature (entry′.spec 𝓤 H (𝓖 .A) (𝓜 .mem) (𝓡 .run)))
     (tables 𝓤 H 𝓜 𝓡 code.env .C) (tables 𝓤 H 𝓜 𝓡 code.env .Λ) #lentrules·standing code.function (code.unfolded 𝓤 H 𝓜 𝓡)
     (standing-meets 𝓤 H (𝓖 .A) (givenOf 𝓤 H 𝓜 𝓖) (𝓜 .mem) (𝓡 .run) (tablesOf 𝓤 H 𝓜 (tables 𝓤 H 𝓜 𝓡 code.env))
-    (cited 𝓤 H (Limits 𝓤 H (𝓖 .A) (𝓜 .mem) (𝓡 .run)) 𝓜 𝓡 code.env #glance·bounds-of Limits-def.routine code.calls-glance·bounds-of (Limits-thm.met 𝓤 H 𝓜 𝓖 𝓡))
-    (cited 𝓤 H (Read 𝓤 H (𝓖 .A) (𝓜 .mem) (𝓡 .run)) 𝓜 𝓡 code.env #lentrules·digests Read-def.routine code.calls-lentrules·digests (Read-thm.met 𝓤 H 𝓜 𝓖 𝓡))
-    (cited 𝓤 H (Over 𝓤 H (𝓖 .A) (𝓜 .mem) (𝓡 .run)) 𝓜 𝓡 code.env #glance·glance-of Over-def.routine code.calls-glance·glance-of (Over-thm.met 𝓤 H 𝓜 𝓖 𝓡))
-    (cited 𝓤 H (Want 𝓤 H (𝓖 .A) (𝓜 .mem) (𝓡 .run)) 𝓜 𝓡 code.env #glance·waiting Want-def.routine code.calls-glance·waiting (Want-thm.met 𝓤 H 𝓜 𝓖 𝓡))
-    (cited 𝓤 H (Wait 𝓤 H (𝓖 .A) (𝓜 .mem) (𝓡 .run)) 𝓜 𝓡 code.env #lentrules·awaited Wait-def.routine code.calls-lentrules·awaited (Wait-thm.met 𝓤 H 𝓜 𝓖 𝓡))
-    (cited 𝓤 H (Stand 𝓤 H (𝓖 .A) (𝓜 .mem) (𝓡 .run)) 𝓜 𝓡 code.env #glance·standing Stand-def.routine code.calls-glance·standing (Stand-thm.met 𝓤 H 𝓜 𝓖 𝓡)))
+    (cited 𝓤 H (Stand 𝓤 H (𝓖 .A) (𝓜 .mem) (𝓡 .run)) 𝓜 𝓡 code.env #lentrules·seen Stand-def.routine code.calls-lentrules·seen (Stand-thm.met 𝓤 H 𝓜 𝓖 𝓡))
+    (cited 𝓤 H (By 𝓤 H (𝓖 .A) (𝓜 .mem) (𝓡 .run)) 𝓜 𝓡 code.env #glance·how-of By-def.routine code.calls-glance·how-of (By-thm.met 𝓤 H 𝓜 𝓖 𝓡)))

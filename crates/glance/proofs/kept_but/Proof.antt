@@ -1,0 +1,49 @@
+use mathlib.Core.Bool.{true, false, _&&_}
+use mathlib.Core.Path.{_≡_}
+use lib.Dec.{eqb}
+use borrow.Author.Tests.{not-true, not-false}
+use borrow.Author.Needs.{needs}
+use Rattle.tunnel.specs.Numbering.{places}
+use Rattle.session.specs.Request.{lastNumber}
+use Rattle.glance.specs.Glance.{keptBut, fromCounts}
+use borrow.Author.Needs.{needs}
+use Rattle.glance.proofs.kept_but.Statement.{statement}
+use Rattle.glance.proofs.kept_but.Tie as tie
+use Rattle.glance.proofs.kept_but.Reads as reads
+use Rattle.glance.proofs.kept_but.Lts as lts
+use Rattle.plan.proofs.Plan.accepted.Reads as accepted-reads
+use Rattle.rules.proofs.unpacked.Reads as unpacked-reads
+use Rattle.session.proofs.Request.fits.Reads as fits-reads
+use Rattle.sharing.proofs.within.Reads as within-reads
+
+-- src/lib.rt:247:9
+accepted-requires : tie.Need-accepted-requires
+accepted-requires c κs = search needs
+
+-- src/lib.rt:249:9
+returns : tie.Need-returns
+unfolding keptBut places
+returns c = let a = c .before .before .before .before .args in let t : (c .before .before .accepted .result && eqb (a .count) 64 && a .g .good) ≡ false = not-true _ (c .if1 .taken) in rw (rw (c .before .before .accepted .ensures) at t)
+
+-- src/lib.rt:251:9
+unpacked-requires : tie.Need-unpacked-requires
+unpacked-requires c κs = search needs
+
+-- src/lib.rt:252:9
+within-requires : tie.Need-within-requires
+within-requires c κs = search needs
+
+-- src/lib.rt:254:9
+fits-requires : tie.Need-fits-requires
+fits-requires c κs = search needs
+
+-- src/lib.rt:243:1
+returns-2 : tie.Need-returns-2
+unfolding keptBut fromCounts lastNumber places
+returns-2 c = let a = c .before .before .before .before .before .before .before .before .before .args in let t : (c .before .before .before .before .before .before .before .accepted .result && eqb (a .count) 64 && a .g .good) ≡ true = not-false _ (c .before .before .before .before .before .if1 .left) in
+    rw (rw (c .before .before .before .before .before .before .before .accepted .ensures) at t, c .before .before .before .within .ensures, c .before .before .before .before .unpacked .ensures, c .before .fits2 .ensures)
+
+pub kept-but-spec : {M : Type 1} → statement M
+kept-but-spec =
+    tie.close
+    (tie.spec accepted-requires returns unpacked-requires within-requires fits-requires returns-2)
