@@ -10,7 +10,6 @@ use Rattle.octets.specs.Choice.{pick, split, impossible}
 use Rattle.session.specs.declared.Session.{Session}
 use Rattle.table.specs.declared.Node.{Node}
 use Rattle.table.specs.Change.{nobody}
-use Rattle.header.specs.Gate.{gateOf}
 use Rattle.timing.specs.Timing.{Outcome, outcome, leastReply, held}
 use Rattle.echoes.specs.Echoes.{heardNode}
 use Rattle.control.specs.Control.{controlTaken}
@@ -79,17 +78,15 @@ module _ (node : Node) (l : List Session) (d reply : List ℕ) (x : Outcome) (w 
   other-whole t e = rw (← e-w, sym e-b ∙ t) e
 
 -- ---- in place as on all
--- what is not quick has room for its reply and has passed the gate
-unquick : (node : Node) (d : List ℕ) (room : ℕ) → quickOf node d room ≡ false → (ltb room leastReply ≡ false) × (eqb (gateOf d) 0 ≡ true)
+-- what is not quick has room for its reply
+unquick : (node : Node) (d : List ℕ) (room : ℕ) → quickOf node d room ≡ false → ltb room leastReply ≡ false
 unfolding quickOf
-unquick node d room e = split (ltb room leastReply) (λ a. impossible (sym (rw a at e)))
-    (λ a. split (eqb (gateOf d) 0) (λ z. (a, z)) (λ z. impossible (sym (rw (a, z) at e))))
+unquick node d room e = split (ltb room leastReply) (λ a. impossible (sym (rw a at e))) (λ a. a)
 
 pub other-same : (node : Node) (l : List Session) (d reply : List ℕ) → quickOf node d (length reply) ≡ false
     → otherTaken node l d reply ≡ controlTaken node (held l) d reply
 unfolding otherTaken createLent pairLent
 other-same node l d reply q =
-    let u = unquick node d (length reply) q in
     split (inPlace (wishOf node d))
-    (λ e. rw e (sym (create-same node l (seenOf node l) (seen-told node l) reply d (u .0) (u .1) e)))
+    (λ e. rw e (sym (create-same node l (seenOf node l) (seen-told node l) reply d (unquick node d (length reply) q) e)))
     (λ e. rw e)

@@ -20,6 +20,7 @@ use Rattle.table.specs.declared.Node.{Node}
 use Rattle.rules.specs.Survey.{weightOf, weight-most}
 use Rattle.rules.specs.Check.{unpackedOf}
 use Rattle.header.specs.Header.{headerOf}
+use Rattle.header.specs.Gate.{gateOf}
 use Rattle.readers.specs.declared.Recovery.{Recovery}
 use Rattle.readers.specs.declared.Recovery.the-variants as R
 use Rattle.requests.specs.declared.Create as C
@@ -50,7 +51,8 @@ abbrev pub restOf : List ℕ → List ℕ
 restOf d = drop (headerOf d .fields) d
 
 unfoldable pub wishOf : Node → List ℕ → Wish
-wishOf node d = pick (eqb (headerOf d .kind) 32) (wishBy (createOf (node .plan) (restOf d)) (headerOf d .sequence) node (restOf d)) W.Other
+wishOf node d =
+    pick (eqb (gateOf d) 0) (pick (eqb (headerOf d .kind) 32) (wishBy (createOf (node .plan) (restOf d)) (headerOf d .sequence) node (restOf d)) W.Other) W.Other
 
 unfoldable pub inPlace : Wish → Bool
 inPlace W.Other = false

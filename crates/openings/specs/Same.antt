@@ -315,21 +315,26 @@ module _ (node : Node) (l : List Session) (v : Seen) (told : Told node l v) (rep
     unfolding controlTaken held
     to-broken k = rw (room, k)
 
-    wished : eqb (headerOf d .kind) 32 ≡ true → wishOf node d ≡ wishBy (createOf (node .plan) (restOf d)) (headerOf d .sequence) node (restOf d)
+    wished : eqb (gateOf d) 0 ≡ true → eqb (headerOf d .kind) 32 ≡ true → wishOf node d ≡ wishBy (createOf (node .plan) (restOf d)) (headerOf d .sequence) node (restOf d)
     unfolding wishOf
-    wished n = rw n
+    wished g n = rw (g, n)
 
     unwished : eqb (headerOf d .kind) 32 ≡ false → inPlace (wishOf node d) ≡ false
     unfolding wishOf inPlace
-    unwished n = rw n
+    unwished n = split (eqb (gateOf d) 0) (λ g. rw (g, n)) (λ g. rw g)
+
+    -- what is done in place has passed the gate
+    passed : inPlace (wishOf node d) ≡ true → eqb (gateOf d) 0 ≡ true
+    unfolding wishOf inPlace
+    passed e = split (eqb (gateOf d) 0) (λ g. g) (λ g. impossible (rw g at e))
 
     -- the Create that is done in place is the one that take control datagram says
-    pub create-same : eqb (gateOf d) 0 ≡ true → inPlace (wishOf node d) ≡ true → controlTaken node (held l) d reply ≡ comesTo (wishOf node d)
-    create-same z e = split (keepsRules node l)
+    pub create-same : inPlace (wishOf node d) ≡ true → controlTaken node (held l) d reply ≡ comesTo (wishOf node d)
+    create-same e = let z = passed e in split (keepsRules node l)
         (λ k. split (eqb (headerOf d .kind) 32)
         (λ n. to-kind z k ∙ kind-create (headerOf d) (restOf d) n
-        ∙ taken-same k (headerOf d .sequence) (restOf d) (ap inPlace (sym (wished n)) ∙ e)
+        ∙ taken-same k (headerOf d .sequence) (restOf d) (ap inPlace (sym (wished z n)) ∙ e)
         ∙ kept-same (wishBy (createOf (node .plan) (restOf d)) (headerOf d .sequence) node (restOf d)) k
-        ∙ ap (λ (w : Wish). comesTo w) (sym (wished n)))
+        ∙ ap (λ (w : Wish). comesTo w) (sym (wished z n)))
         (λ n. impossible (sym (unwished n) ∙ e)))
         (λ k. to-broken k ∙ broken-same (wishOf node d) k)

@@ -80,10 +80,14 @@ fn wish_by(d: Decoded, sequence: u32, node: Node, rest: &[u8]) -> Wish
     }
 }
 
-// What a datagram that passed the gate asks for. It is decoded once.
+// What a datagram asks for, if its header passes. It is decoded once.
 pub fn wish_of(node: Node, d: &[u8]) -> Wish
     ensures { λ r. ⌜ r ≡ wishOf node (now (d .entry)) ⌝ }
 {
+    let number = header::gate(d);
+    if number != 0 {
+        return Wish::Other;
+    }
     let h = HeaderCursor::of(d);
     if h.kind != 32 {
         return Wish::Other;

@@ -157,5 +157,5 @@ module _ (node : Node) (l : List Session) (reply : List ℕ) where
   control-same d e =
       split (ltb (length reply) leastReply) (λ a. rw a (silent-same l (placeIn d) node reply 1))
       (λ a. split (keepsRules node l)
-      (λ k. rw (a, k) (gate-same (gateOf d) d (rules-of node l k .size) (λ z. rw (a, z) at e)))
+      (λ k. rw (a, k) (gate-same (gateOf d) d (rules-of node l k .size) (λ z. rw a at e)))
       (λ k. rw (a, k) (silent-same l (placeIn d) node reply 2)))

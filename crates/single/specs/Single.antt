@@ -46,9 +46,7 @@ quickKind h rest node =
     (not (eqb (h .kind) 100))))
 
 unfoldable pub quickOf : Node → List ℕ → ℕ → Bool
-quickOf node d room =
-    pick (ltb room leastReply) true
-    (pick (eqb (gateOf d) 0) (quickKind (headerOf d) (drop (headerOf d .fields) d) node) true)
+quickOf node d room = pick (ltb room leastReply) true (quickKind (headerOf d) (drop (headerOf d .fields) d) node)
 
 -- ---- what they come to: an answer, and the reply buffer as it is left
 pub record Singled : Type 0 where

@@ -51,15 +51,12 @@ fn quick_kind(h: HeaderCursor, rest: &[u8], node: Node) -> bool
     kind != 100
 }
 
-// Whether a datagram concerns one session at most: all but Create, a restart, and what answers the unit's own requests.
+// Whether a datagram is one that concerns one session at most: all but Create, a restart, and what answers the unit's own requests. The
+// header's tests come later.
 pub fn quick(node: Node, d: &[u8], room: usize) -> bool
     ensures { λ r. ⌜ r ≡ quickOf node (now (d .entry)) room ⌝ }
 {
     if room < Answer::LEAST_REPLY {
-        return true;
-    }
-    let number = header::gate(d);
-    if number != 0 {
         return true;
     }
     let h = HeaderCursor::of(d);
