@@ -54,7 +54,7 @@ fn start_anew(b: Bench, many: bool, line: &[u8], out: &mut [u8]) -> Bench {
     if line[0] != 78 {
         return b;
     }
-    let e = benchend::end_of_input(b, out);
+    let e = benchplan::end_of_input(b, out);
     let mut next = Bench::start();
     next.made = e.made;
     next
@@ -143,7 +143,7 @@ fn take_rest(b: Bench, many: bool, rest: &[u8], out: &mut [u8]) -> Bench {
 
 fn finish(b: Bench, many: bool, rest: &[u8], out: &mut [u8]) {
     let c = take_rest(b, many, rest, out);
-    let d = benchend::end_of_input(c, out);
+    let d = benchplan::end_of_input(c, out);
     emit(d, out);
 }
 

@@ -1,5 +1,5 @@
-// The bench's run up to the plan: where a run stands, what is printed for an answer, and the lines of the plan. Output goes into a lent
-// buffer from a place on; the programs write it out.
+// The two ends of the bench's run: where a run stands, what is printed for an answer, the lines of the plan; and at the end of the input the
+// live count and a line for each place that was ever used. Output goes into a lent buffer from a place on; the programs write it out.
 use benchtext::Line;
 use plan::AccessPoint;
 use plan::Plan;
@@ -10,6 +10,7 @@ ghost use mathlib.Core.Path.{_≡_};
 ghost use lib.ListN.{take};
 ghost use Rattle.timing.specs.Timing.{outcome};
 ghost use Rattle.benchplan.specs.State.{ran, emptyRun, counted, withLine, withMade, endBad, keptIn, answered};
+ghost use Rattle.benchplan.specs.Ended.{placePrinted, placesPrinted, endPlan, ended};
 ghost use Rattle.benchplan.specs.Plans.{firstLine, pointFrom, withPoint, oneMore, planTaken, startLine};
 
 // How far the run is, how many lines were taken, how much of the output buffer is in use, and the unit. Before the plan is taken, the
@@ -188,7 +189,7 @@ pub fn take_plan(b: Bench, out: &mut [u8]) -> Bench
     ensures { λ r. ⌜ ran r (now (out .exit)) ≡ planTaken b (now (out .entry)) ⌝ }
 {
     let node = b.node;
-    let a = lendclock::fresh(node.plan);
+    let a = lend::fresh(node.plan);
     if a.number == 0 {
         return kept_in(b, a, Bench::RUNS, b.made);
     }
@@ -212,4 +213,67 @@ pub fn start_line(b: Bench, line: Line, out: &mut [u8]) -> Bench
         } => first_line(b, control, user, pool, recovery, resend, sends, interval),
         _ => end_bad(b, out),
     }
+}
+
+// The line of a place that was ever used.
+fn print_place(b: Bench, place: usize, out: &mut [u8]) -> Bench
+    ensures { λ r. ⌜ ran r (now (out .exit)) ≡ placePrinted place b (now (out .entry)) ⌝ }
+{
+    let t = b.table;
+    if Table::PLACES <= place {
+        return b;
+    }
+    let s = t.recs[place];
+    if s.usage == 0 {
+        return b;
+    }
+    let mut text = [0; 128];
+    let a = lend::line(b.node, t, place, &mut text);
+    let shown = front(&text, a.size);
+    let p = numerals::put_text(out, b.made, shown);
+    let made = numerals::put(out, p, 10);
+    with_made(b, made)
+}
+
+// The live count, then a line for each place that was ever used.
+fn print_places(b: Bench, out: &mut [u8]) -> Bench
+    ensures { λ r. ⌜ ran r (now (out .exit)) ≡ placesPrinted b (now (out .entry)) ⌝ }
+{
+    let n = tally::sessions(b.table);
+    let made = benchtext::put_live(out, b.made, n as u64);
+    let mut c = with_made(b, made);
+    let mut i: usize = 0;
+    while i < Table::PLACES {
+        c = print_place(c, i, out);
+        i += 1;
+    }
+    c
+}
+
+// At the end of a plan that is not taken yet it is taken.
+fn end_plan(b: Bench, out: &mut [u8]) -> Bench
+    ensures { λ r. ⌜ ran r (now (out .exit)) ≡ endPlan b (now (out .entry)) ⌝ }
+{
+    let next = take_plan(b, out);
+    if next.phase == Bench::OVER {
+        return next;
+    }
+    print_places(next, out)
+}
+
+// The end of the input. Without any line it is a bad first line.
+pub fn end_of_input(b: Bench, out: &mut [u8]) -> Bench
+    ensures { λ r. ⌜ ran r (now (out .exit)) ≡ ended b (now (out .entry)) ⌝ }
+{
+    if b.phase == Bench::OVER {
+        return b;
+    }
+    if b.phase == Bench::RUNS {
+        return print_places(b, out);
+    }
+    if b.phase == Bench::PLAN {
+        return end_plan(b, out);
+    }
+    let first = with_line(b);
+    end_bad(first, out)
 }

@@ -20,7 +20,7 @@ fn send_one(b: Bench, out: &mut [u8]) -> Sent
     ensures { λ r. ⌜ (r .go ≡ isDue b) × (ran (r .bench) (now (out .exit)) ≡ sentOne b (now (out .entry))) ⌝ }
 {
     let mut reply = [0; 128];
-    let a = lendclock::send(b.node, b.table, &mut reply);
+    let a = lend::send(b.node, b.table, &mut reply);
     if a.number != 0 {
         return Sent {
             go: false,
@@ -68,7 +68,7 @@ fn run_user(b: Bench, d: &[u8], out: &mut [u8]) -> Bench
     let mut number: u8 = 0;
     let mut place: usize = 0;
     let mut size: usize = 0;
-    let payload = lenduser::take_user(
+    let payload = lend::take_user(
         b.node,
         b.table,
         d,
@@ -89,7 +89,7 @@ fn run_user(b: Bench, d: &[u8], out: &mut [u8]) -> Bench
 fn run_tick(b: Bench, out: &mut [u8]) -> Bench
     ensures { λ r. ⌜ ran r (now (out .exit)) ≡ thenSent (answered (b .phase) (outcome (tickOf (b .node) (b .table)) []) b (now (out .entry))) ⌝ }
 {
-    let a = lendclock::tick(b.node, b.table);
+    let a = lend::tick(b.node, b.table);
     let none = [0; 0];
     let next = benchplan::answered(b, a, &none, b.phase, out);
     send_due(next, out)
@@ -98,7 +98,7 @@ fn run_tick(b: Bench, out: &mut [u8]) -> Bench
 fn run_close(b: Bench, place: u8, out: &mut [u8]) -> Bench
     ensures { λ r. ⌜ ran r (now (out .exit)) ≡ thenSent (answered (b .phase) (outcome (closeOf (b .node) (b .table) place) []) b (now (out .entry))) ⌝ }
 {
-    let a = lendclock::close(b.node, b.table, place as usize);
+    let a = lend::close(b.node, b.table, place as usize);
     let none = [0; 0];
     let next = benchplan::answered(b, a, &none, b.phase, out);
     send_due(next, out)

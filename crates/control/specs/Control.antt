@@ -20,9 +20,9 @@ use Rattle.header.specs.Gate.{gateOf}
 use Rattle.carried.specs.Carried as carried
 use Rattle.timing.specs.declared.Answer.{Answer}
 use Rattle.timing.specs.Timing.{Outcome, outcome, leastReply, refused}
-use Rattle.echoes.specs.Echoes.{echoTaken, echoReplyTaken, bearerReplyTaken}
-use Rattle.amends.specs.Amends.{modifyTaken, deleteTaken}
-use Rattle.creates.specs.Creates.{createTaken}
+use Rattle.control.specs.Echoes.{echoTaken, echoReplyTaken, bearerReplyTaken}
+use Rattle.control.specs.Amends.{modifyTaken, deleteTaken}
+use Rattle.control.specs.Creates.{createTaken}
 
 -- by type: what is behind the header is read as the type has it
 unfoldable pub kindTaken : HeaderCursor → List ℕ → Node → Table → List ℕ → Outcome

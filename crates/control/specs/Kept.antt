@@ -20,9 +20,9 @@ use Rattle.header.specs.Header.{headerOf, sequenceOf, sequenceBehind, sequenceB
 use Rattle.header.specs.Gate.{gateOf}
 use Rattle.carried.specs.Carried as carried
 use Rattle.timing.specs.Timing.{Outcome, outcome, leastReply, refused}
-use Rattle.echoes.specs.Echoes.{echo-keeps, echo-reply-keeps, bearer-reply-keeps}
-use Rattle.amends.specs.Kept.{modify-keeps, delete-keeps}
-use Rattle.creates.specs.Kept.{create-keeps}
+use Rattle.control.specs.Echoes.{echo-keeps, echo-reply-keeps, bearer-reply-keeps}
+use Rattle.control.specs.AmendsKept.{modify-keeps, delete-keeps}
+use Rattle.control.specs.CreatesKept.{create-keeps}
 use Rattle.control.specs.Control.{kindTaken, gateTaken, controlTaken}
 
 -- a sequence number has three octets
@@ -61,3 +61,12 @@ module _ (node : Node) (t : Table) (e : keepsRules node (t .recs) ≡ true) (rep
       split (ltb (length reply) leastReply) (λ a. rw a e)
       (λ a. split (eqb (gateOf d) 0) (λ b. rw (a, e, b) (kind-keeps (headerOf d) (drop (headerOf d .fields) d) (sequence-small d o)))
       (λ b. split (eqb (gateOf d) 5) (λ c. rw (a, e, b, c) e) (λ c. rw (a, e, b, c) e)))
+
+-- the same, said of all
+unfoldable pub ControlKeeps : Type 0
+ControlKeeps = (node : Node) (t : Table) → keepsRules node (t .recs) ≡ true → (reply d : List ℕ) → every isOctet d ≡ true
+    → keepsRules (controlTaken node t d reply .answer .node) (controlTaken node t d reply .answer .table .recs) ≡ true
+
+pub control-holds : ControlKeeps
+unfolding ControlKeeps
+control-holds node t e reply d o = control-keeps node t e reply d o

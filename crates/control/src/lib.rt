@@ -1,74 +1,189 @@
-// Take control datagram, on values.
-use header::HeaderCursor;
+// Take control datagram on values: specs/ defines it, message by message and as a whole; here is what of it is worked out on a node, a record
+// or a decoded message alone, and the promise that the table's rules are kept. It is done in place, see crates wishes, single, openings
+// and inplace.
+use plan::Plan;
+use readers::Recovery;
+use readers::Refusal;
+use requests::Context;
+use requests::Create;
+use requests::Modify;
+use requests::Peer;
+use session::Opening;
+use session::Peers;
+use session::Request;
+use session::Session;
 use table::Node;
-use table::Table;
-use timing::Answer;
 use tunnel::ControlTeid;
+use tunnel::UserTeid;
 ghost use mathlib.Core.Path.{_≡_};
-ghost use Rattle.timing.specs.Timing.{outcome};
-ghost use Rattle.control.specs.Control.{kindTaken, gateTaken, controlTaken};
+ghost use Rattle.session.specs.Request.{awaits};
+ghost use Rattle.control.specs.Echoes.{restartsBy, heardNode};
+ghost use Rattle.octets.specs.Overlay.{overlay};
+ghost use Rattle.control.specs.Amends.{notLive, causeSize, causeOctets, peerTeid, peerAddr, peersOf, Replied, modifySize, modifyOctets};
+ghost use Rattle.control.specs.Creates.{openingOf, acceptedOctets, noRoom, isRepeat};
+ghost use Rattle.control.specs.Kept.{ControlKeeps};
 
-// By type, with what is behind the header.
-fn take_kind(h: HeaderCursor, rest: &[u8], node: Node, table: Table, reply: &mut [u8]) -> Answer
-    ensures { λ r. ⌜ outcome r (now (reply .exit)) ≡ kindTaken h (now (rest .entry)) node table (now (reply .entry)) ⌝ }
+// Whether a Recovery says that the exchange restarted.
+pub fn restarts(node: Node, recovery: Recovery) -> bool
+    ensures { λ r. ⌜ r ≡ restartsBy recovery node ⌝ }
 {
-    let kind = h.kind;
-    if kind == 1 {
-        let recovery = carried::read_echo(rest);
-        return echoes::take_echo(node, table, h.sequence, recovery, reply);
-    }
-    if kind == 2 {
-        let answer = carried::read_echo_reply(rest);
-        return echoes::take_echo_reply(node, table, h.sequence, answer);
-    }
-    if kind == 32 {
-        return creates::take_create(node, table, h.sequence, rest, reply);
-    }
-    if kind == 34 {
-        return amends::take_modify(node, table, ControlTeid(h.teid), h.sequence, rest, reply);
-    }
-    if kind == 36 {
-        return amends::take_delete(node, table, ControlTeid(h.teid), h.sequence, rest, reply);
-    }
-    if kind == 100 {
-        let answer = carried::read_bearer_reply(rest);
-        return echoes::take_bearer_reply(node, table, ControlTeid(h.teid), h.sequence, answer);
-    }
-    Answer::refused(0, node, table)
+    let Recovery::Value(value) = recovery else {
+        return false;
+    };
+    node.restarted(value)
 }
 
-// The header's refusal, or on by type.
-fn take_gate(number: u8, d: &[u8], node: Node, table: Table, reply: &mut [u8]) -> Answer
-    ensures { λ r. ⌜ outcome r (now (reply .exit)) ≡ gateTaken number (now (d .entry)) node table (now (reply .entry)) ⌝ }
+// A Recovery value is stored.
+pub fn heard(node: Node, recovery: Recovery) -> Node
+    ensures { λ r. ⌜ r ≡ heardNode recovery node ⌝ }
 {
-    if number == 0 {
-        let h = HeaderCursor::of(d);
-        let rest = h.rest(d);
-        return take_kind(h, rest, node, table, reply);
-    }
-    if number == 5 {
-        messages::version_not_supported(reply);
-        return Answer {
-            number: 5,
-            size: 8,
-            node,
-            table,
-        };
-    }
-    Answer::refused(number, node, table)
+    let Recovery::Value(value) = recovery else {
+        return node;
+    };
+    node.hearing(value)
 }
 
-// Take control datagram.
-pub fn take_control(node: Node, table: Table, d: &[u8], reply: &mut [u8]) -> Answer
-    ensures { λ r. ⌜ outcome r (now (reply .exit)) ≡ controlTaken node table (now (d .entry)) (now (reply .entry)) ⌝ }
+// Whether a request awaits a number.
+pub fn awaits(r: Request, number: u32) -> bool
+    ensures { λ q. ⌜ q ≡ awaits number r ⌝ }
 {
-    if reply.len() < Answer::LEAST_REPLY {
-        return Answer::refused(1, node, table);
-    }
-    let kept = rules::keeps_rules(node, table);
-    if !kept {
-        return Answer::refused(2, node, table);
-    }
-    let number = header::gate(d);
-    take_gate(number, d, node, table, reply)
+    (r.sends != 0) & (r.number == number)
 }
+
+// No such session: 64, no field named.
+pub fn not_live() -> Refusal
+    ensures { λ r. ⌜ r ≡ notLive ⌝ }
+{
+    Refusal {
+        cause: 64,
+        kind: 0,
+        instance: 0,
+        named: false,
+    }
+}
+
+// A reply with a cause, and the field at fault where one is named; the answer is its length.
+pub fn write_cause(kind: u8, teid: u32, seq: u32, w: Refusal, reply: &mut [u8]) -> usize
+    ensures { λ r. ⌜ Replied r (now (reply .exit)) (causeSize w) (overlay (causeOctets kind teid seq w) (now (reply .entry))) ⌝ }
+{
+    if w.named {
+        messages::fault_reply(reply, kind, teid, seq, w.cause, w.kind, w.instance);
+        return 22;
+    }
+    messages::cause_reply(reply, kind, teid, seq, w.cause);
+    18
+}
+
+fn peer_teid(p: Peer, old: u32) -> u32
+    ensures { λ r. ⌜ r ≡ peerTeid p old ⌝ }
+{
+    match p {
+        Peer::Same => old,
+        Peer::New { teid, address: _ } => teid,
+    }
+}
+
+fn peer_addr(p: Peer, old: u32) -> u32
+    ensures { λ r. ⌜ r ≡ peerAddr p old ⌝ }
+{
+    match p {
+        Peer::Same => old,
+        Peer::New { teid: _, address } => address,
+    }
+}
+
+// Where the peer is after a Modify.
+pub fn peers_of(m: Modify, s: Session) -> Peers
+    ensures { λ r. ⌜ r ≡ peersOf m s ⌝ }
+{
+    let c = m.control;
+    let u = m.user;
+    let control = peer_teid(c, s.control);
+    let controladdr = peer_addr(c, s.controladdr);
+    let user = peer_teid(u, s.user);
+    let useraddr = peer_addr(u, s.useraddr);
+    Peers {
+        control,
+        controladdr,
+        user,
+        useraddr,
+    }
+}
+
+// The accepted reply to a Modify; the answer is its length.
+pub fn modify_reply(context: Context, teid: u32, seq: u32, ebi: u8, reply: &mut [u8]) -> usize
+    ensures { λ r. ⌜ Replied r (now (reply .exit)) (modifySize context) (overlay (modifyOctets context teid seq ebi) (now (reply .entry))) ⌝ }
+{
+    match context {
+        Context::Absent => {
+            messages::cause_reply(reply, 35, teid, seq, 16);
+            18
+        }
+        Context::Present => {
+            messages::modify_bearer(reply, teid, seq, ebi);
+            33
+        }
+    }
+}
+
+// What of a Create a session keeps.
+pub fn opening_of(c: Create, seq: u32) -> Opening
+    ensures { λ r. ⌜ r ≡ openingOf c seq ⌝ }
+{
+    Opening {
+        imsi: c.imsi,
+        control: c.control,
+        controladdr: c.controladdr,
+        user: c.user,
+        useraddr: c.useraddr,
+        created: seq,
+        point: (c.point % 256) as u8,
+        ebi: c.ebi,
+    }
+}
+
+// The accepted reply, from the record of a place.
+pub fn write_accepted(plan: Plan, seq: u32, place: usize, s: Session, reply: &mut [u8])
+    ensures { λ _. ⌜ now (reply .exit) ≡ overlay (acceptedOctets plan seq place s) (now (reply .entry)) ⌝ }
+{
+    let control = ControlTeid::of(s.usage, place);
+    let user = UserTeid::of(s.usage, place);
+    let address = plan.address(place);
+    messages::create_accepted(
+        reply,
+        messages::Accepted {
+            teid: s.control,
+            sequence: seq,
+            control: control.0,
+            controladdr: plan.control,
+            address,
+            user: user.0,
+            useraddr: plan.user,
+            ebi: s.ebi,
+            recovery: plan.recovery,
+        },
+    );
+}
+
+pub fn no_room() -> Refusal
+    ensures { λ r. ⌜ r ≡ noRoom ⌝ }
+{
+    Refusal {
+        cause: 73,
+        kind: 0,
+        instance: 0,
+        named: false,
+    }
+}
+
+// A repeat of the Create that made the session.
+pub fn is_repeat(c: Create, seq: u32, s: Session) -> bool
+    ensures { λ r. ⌜ r ≡ isRepeat c seq s ⌝ }
+{
+    (s.point as usize == c.point) & (s.created == seq)
+}
+
+// Take control datagram keeps the table rules.
+pub fn control_keeps_rules()
+    ensures { λ _. ⌜ ControlKeeps ⌝ }
+{}

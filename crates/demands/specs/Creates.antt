@@ -39,9 +39,9 @@ use Rattle.requests.specs.declared.Request.the-variants as Q
 use Rattle.requests.specs.Create.{createOf, create-sound}
 use Rattle.timing.specs.declared.Answer.{Answer}
 use Rattle.timing.specs.Timing.{Outcome, leastReply, held, refused}
-use Rattle.echoes.specs.Echoes.{heardBy, heard-keeps}
-use Rattle.amends.specs.Amends.{causeTaken}
-use Rattle.creates.specs.Creates.{openingOf, acceptedTaken, noRoom, openedAt, shared, isRepeat, settledAt, heardCreate, createBy, createTaken}
+use Rattle.control.specs.Echoes.{heardBy, heard-keeps}
+use Rattle.control.specs.Amends.{causeTaken}
+use Rattle.control.specs.Creates.{openingOf, acceptedTaken, noRoom, openedAt, shared, isRepeat, settledAt, heardCreate, createBy, createTaken}
 use Rattle.control.specs.Control.{kindTaken, gateTaken, controlTaken}
 use Rattle.demands.specs.Run.{State, control, Kept}
 use Rattle.demands.specs.Stays.{heard-plan}

@@ -33,8 +33,8 @@ use Rattle.header.specs.Header.{versionOf, flagP, flagT, kindOf, lengthOf, with
 use Rattle.header.specs.Gate.{gateOf, controlVersion, createType}
 use Rattle.messages.specs.Messages as messages
 use Rattle.timing.specs.Timing.{Outcome, leastReply, held, refused, freshOf}
-use Rattle.echoes.specs.Echoes.{heardBy, echoTaken}
-use Rattle.creates.specs.Creates.{openingOf, acceptedTaken}
+use Rattle.control.specs.Echoes.{heardBy, echoTaken}
+use Rattle.control.specs.Creates.{openingOf, acceptedTaken}
 use Rattle.control.specs.Control.{kindTaken, gateTaken, controlTaken}
 use Rattle.demands.specs.Run.{State, left, Event, control, tick, step, answered, run, start, reached, ofOctets, Run, Kept, start-keeps, step-keeps, reached-keeps}
 use Rattle.demands.specs.Stays.{start-plan, step-plan}

@@ -45,9 +45,9 @@ use Rattle.requests.specs.declared.Request.the-variants as Q
 use Rattle.requests.specs.Create.{createOf, replyTo}
 use Rattle.changes.specs.Change.{modifyOf, deleteOf}
 use Rattle.timing.specs.Timing.{leastReply, held, refused}
-use Rattle.echoes.specs.Echoes.{heardBy, echoTaken, echoEnded, echoReplyTaken, sameFound, freedFound, bearerReplyTaken}
-use Rattle.amends.specs.Amends.{peersOf, causeTaken, modifyDone, modifyBy, modifyFor, modifyTaken, deleteDone, deleteBy, deleteFor, deleteTaken}
-use Rattle.creates.specs.Creates.{openingOf, acceptedTaken, openedAt, shared, isRepeat, settledAt, heardCreate, createBy, createTaken}
+use Rattle.control.specs.Echoes.{heardBy, echoTaken, echoEnded, echoReplyTaken, sameFound, freedFound, bearerReplyTaken}
+use Rattle.control.specs.Amends.{peersOf, causeTaken, modifyDone, modifyBy, modifyFor, modifyTaken, deleteDone, deleteBy, deleteFor, deleteTaken}
+use Rattle.control.specs.Creates.{openingOf, acceptedTaken, openedAt, shared, isRepeat, settledAt, heardCreate, createBy, createTaken}
 use Rattle.control.specs.Control.{kindTaken, gateTaken, controlTaken}
 
 -- the session that a place had in a use is gone

@@ -23,7 +23,7 @@ use Rattle.session.specs.Session.{hasId, isFree, opened}
 use Rattle.table.specs.Change.{nobody, changedAt, changed-here, length-changed}
 use Rattle.table.specs.Own.{hearing, keptAfter, restarted}
 use Rattle.table.specs.Room.{freePlace}
-use Rattle.creates.specs.Creates.{openingOf, acceptedTaken, isRepeat, settledAt, heardCreate, createBy, createTaken}
+use Rattle.control.specs.Creates.{openingOf, acceptedTaken, isRepeat, settledAt, heardCreate, createBy, createTaken}
 use Rattle.timing.specs.Timing.{Outcome, leastReply, held, refused}
 use Rattle.session.specs.declared.Session.{Session}
 use Rattle.table.specs.declared.Node.{Node}
@@ -36,7 +36,7 @@ use Rattle.requests.specs.declared.Create as C
 use Rattle.requests.specs.declared.Decoded.the-variants as D
 use Rattle.requests.specs.declared.Request.the-variants as Q
 use Rattle.requests.specs.Create.{createOf}
-use Rattle.echoes.specs.Echoes.{heardBy, heard-keeps}
+use Rattle.control.specs.Echoes.{heardBy, heard-keeps}
 use Rattle.control.specs.Control.{kindTaken, gateTaken, controlTaken}
 use Rattle.demands.specs.Run.{State, left, Event, control, step, reached, ofOctets, Run, Kept, step-keeps, reached-keeps}
 use Rattle.demands.specs.Stays.{heard-plan, reached-plan}

@@ -24,8 +24,8 @@ use Rattle.table.specs.Change.{nobody, changedAt}
 use Rattle.requests.specs.declared.Create as C
 use Rattle.header.specs.Header.{headerOf}
 use Rattle.timing.specs.Timing.{Outcome}
-use Rattle.amends.specs.Amends.{causeTaken}
-use Rattle.creates.specs.Creates.{acceptedTaken, noRoom}
+use Rattle.control.specs.Amends.{causeTaken}
+use Rattle.control.specs.Creates.{acceptedTaken, noRoom}
 use Rattle.control.specs.Control.{controlTaken}
 use Rattle.demands.specs.Run.{State, Event, control, step, answered, reached, ofOctets, Run, Kept, reached-keeps, step-keeps}
 use Rattle.demands.specs.Stays.{reached-plan, step-plan}

@@ -45,9 +45,9 @@ use Rattle.changes.specs.Change.{modifyOf, deleteOf}
 use Rattle.requestclaims.specs.Answers.{numberFor, CreateAnswers, ModifyAnswers, DeleteAnswers, createNumbers, modifyNumbers, deleteNumbers, create-answers, modify-answers, delete-answers}
 use Rattle.timing.specs.declared.Answer.{Answer}
 use Rattle.timing.specs.Timing.{Outcome, leastReply, held, refused, freshOf, tickOf, closable, closeOf, echoSent, placeSent, dueSent, sendOf}
-use Rattle.echoes.specs.Echoes.{heardBy, echoTaken, echoEnded, echoReplyTaken, sameFound, freedFound, bearerReplyTaken, heard-keeps}
-use Rattle.amends.specs.Amends.{causeTaken, notLive, modifyDone, modifyBy, modifyFor, modifyTaken, deleteDone, deleteBy, deleteFor, deleteTaken}
-use Rattle.creates.specs.Creates.{acceptedTaken, noRoom, openedAt, shared, isRepeat, settledAt, heardCreate, createBy, createTaken}
+use Rattle.control.specs.Echoes.{heardBy, echoTaken, echoEnded, echoReplyTaken, sameFound, freedFound, bearerReplyTaken, heard-keeps}
+use Rattle.control.specs.Amends.{causeTaken, notLive, modifyDone, modifyBy, modifyFor, modifyTaken, deleteDone, deleteBy, deleteFor, deleteTaken}
+use Rattle.control.specs.Creates.{acceptedTaken, noRoom, openedAt, shared, isRepeat, settledAt, heardCreate, createBy, createTaken}
 use Rattle.control.specs.Control.{kindTaken, gateTaken, controlTaken}
 use Rattle.placeline.specs.Line.{lineOf}
 

@@ -1,10 +1,9 @@
 -- The glance over the digests of a table, and the whole check from it: it is what the rules say.
 -- Assumes nothing.
-use Prim.Native.Nat.{ℕ, zero, suc, _+_, _-_, _*_, _/_, _%_, _<_, _≤_}
+use Prim.Native.Nat.{ℕ, _-_, _≤_}
 use mathlib.Core.Bool.{Bool, true, false, not, _&&_}
 use mathlib.Core.List.{List, [], _∷_, map}
-use mathlib.Core.Path.{_≡_, refl, sym, _∙_, ap}
-use native.Mathlib.Omega.{arith}
+use mathlib.Core.Path.{_≡_, refl, sym, _∙_}
 use lib.ListN.{length, getD}
 use lib.Dec.{eqb, leb}
 use borrow.Author.Tests.{eqb-true, eq-eqb, not-true, not-false}
@@ -20,11 +19,11 @@ use Rattle.session.specs.declared.Bounds.{Bounds}
 use Rattle.session.specs.Request.{lastNumber, requestOk}
 use Rattle.session.specs.Session.{isDue, recordOk}
 use Rattle.table.specs.declared.Node.{Node}
-use Rattle.table.specs.Rules.{liveOn, boundsOf, keepsRules, rules-of}
-use Rattle.rules.specs.declared.Survey.{Survey}
+use Rattle.table.specs.Rules.{boundsOf, keepsRules, rules-of}
 use Rattle.rules.specs.Survey.{keyOf, waitOf, weightOf, silent, waitsOf, noSurvey, surveyOf}
-use Rattle.rules.specs.Check.{unpackedOf, unpacked-at, parties-four, waits-keys, checked, checked-is, checked-bad, checked-quiet}
+use Rattle.rules.specs.Check.{unpackedOf, parties-four, waits-keys, checked, checked-is, checked-bad, checked-quiet}
 use Rattle.glance.specs.declared.Glance.{Glance}
+use Rattle.glance.specs.declared.Look.{Look}
 use Rattle.glance.specs.declared.Seen.{Seen}
 use Rattle.glance.specs.Digest.{digestOf, keyIn, weightIn, quietIn, idleIn, goodIn, key-in, quiet-in, idle-in, weight-in, good-in}
 
@@ -65,8 +64,8 @@ unfoldable pub standingOf : ℕ → Node → Glance → List ℕ → ℕ
 standingOf count node g waits = pick {A = ℕ} (keptOf count node g waits) (pick {A = ℕ} (g .quiet) 1 2) 0
 
 -- with what was read for it
-unfoldable pub sight : ℕ → Glance → List ℕ → Seen
-sight how g digests = record { how = how; idle = g .idle; counts = g .counts; digests = digests }
+unfoldable pub sight : ℕ → Look → Seen
+sight how look = record { how = how; look = look }
 
 -- the two ways to it
 pub quiet-way : (count : ℕ) (node : Node) (g : Glance) (waits : List ℕ) → waitingOf g ≡ false → pick {A = ℕ} (keptBut count node g) 1 0 ≡ standingOf count node g waits
@@ -183,7 +182,7 @@ module _ (node : Node) (l : List Session) (waits : List ℕ) (planned : accepted
       (λ e. split (pairwise sameKey (map keyOf l)) (λ p. rw (apart-seen e p)) (λ p. impossible (sym (twice-rules e p) ∙ k)))
       (λ e. impossible (sym (bad-rules e) ∙ k))
 
-  -- and so are what is due and the counts
+  -- and so are what is due and the packed counts
   pub idle-seen : keepsRules node l ≡ true → seen .idle ≡ every (λ s. not (isDue s)) l
   idle-seen k = split (every (recordOk b) l)
       (λ e. split (pairwise sameKey (map keyOf l)) (λ p. rw (apart-seen e p)) (λ p. impossible (sym (twice-rules e p) ∙ k)))
@@ -192,12 +191,6 @@ module _ (node : Node) (l : List Session) (waits : List ℕ) (planned : accepted
   pub packed-seen : keepsRules node l ≡ true → seen .counts ≡ sumOf weightOf l
   packed-seen k = split (every (recordOk b) l)
       (λ e. split (pairwise sameKey (map keyOf l)) (λ p. rw (apart-seen e p)) (λ p. impossible (sym (twice-rules e p) ∙ k)))
-      (λ e. impossible (sym (bad-rules e) ∙ k))
-
-  pub counts-seen : keepsRules node l ≡ true → (a : ℕ) → a < 4 → getD (unpackedOf (seen .counts)) a 0 ≡ liveOn a l
-  unfolding places
-  counts-seen k a h = split (every (recordOk b) l)
-      (λ e. split (pairwise sameKey (map keyOf l)) (λ p. rw (apart-seen e p) (unpacked-at l (omega arith) a h)) (λ p. impossible (sym (twice-rules e p) ∙ k)))
       (λ e. impossible (sym (bad-rules e) ∙ k))
 
   kept-none : seen .good ≡ false → keepsRules node l ≡ false → keptOf (length l) node seen waits ≡ keepsRules node l

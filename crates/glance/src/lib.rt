@@ -1,12 +1,13 @@
-// Whether a table keeps its rules, from one number for each record: a record's digest has its key, its access point and whether it
-// awaits a number. Whoever lends records reads them once, where they lie; the rest of the check is done on the digests.
+// Whether a table keeps its rules, from one number for each record: a record's digest has its key, its access point, and whether its
+// request is due and it awaits a number. Whoever lends records reads them once, where they lie; the rest of the check is done on the
+// digests, and so are searches for a place.
 use session::Bounds;
 use session::Request;
 use session::Session;
 use table::Node;
 use table::Table;
-ghost use Prim.Native.Nat.{ℕ};
-ghost use mathlib.Core.Bool.{false, not, _&&_};
+ghost use Prim.Native.Nat.{ℕ, _<_, _≤_, _-_};
+ghost use mathlib.Core.Bool.{true, false, not, _&&_};
 ghost use mathlib.Core.List.{map};
 ghost use mathlib.Core.Path.{_≡_};
 ghost use lib.Dec.{eqb};
@@ -17,6 +18,9 @@ ghost use Rattle.rules.specs.Survey.{waitOf};
 ghost use Rattle.distinct.specs.Lacks.{lacks};
 ghost use Rattle.glance.specs.Digest.{freeDigest, takenDigest, keyIn, idleIn, markOf};
 ghost use Rattle.glance.specs.Glance.{noGlance, glanceOf, keptBut, waitsApart, sight, standsBy, waitingOf};
+ghost use Rattle.octets.specs.Search.{firstOf};
+ghost use Rattle.tunnel.specs.Numbering.{places};
+ghost use Rattle.glance.specs.Look.{keyPlace, freeIn, dueIn, lookOf, freeFrom};
 ghost use Rattle.glance.specs.Over.{entersOf, marksOf, flagsIn, talliedIn, packedIn};
 
 // What the digests of a table say: every record good and no key twice, no number awaited, nothing due, the counts packed.
@@ -25,6 +29,15 @@ pub struct Glance {
     pub quiet: bool,
     pub idle: bool,
     pub counts: u64,
+}
+
+// With it the places that are looked for: that of a key and the first free one, where a key is asked for, and the first whose request is
+// due; 64 where there is none.
+pub struct Look {
+    pub glance: Glance,
+    pub old: usize,
+    pub free: usize,
+    pub due: usize,
 }
 
 impl Glance {
@@ -207,17 +220,52 @@ fn none() -> Glance
     }
 }
 
-// One pass over the digests, from the last to the first.
-pub fn glance_of(ds: [u64; 64]) -> Glance
-    ensures { λ r. ⌜ r ≡ glanceOf ds ⌝ }
+// How many of the digests below n are passed over at once: eight or one, where they are those of free places.
+fn passed(ds: &[u64], n: usize) -> usize
+    requires { ⌜ (length (now ds) ≡ 64) × ((0 < n) × (n ≤ 64)) ⌝ }
+    ensures { λ r. ⌜ (r ≤ n) × (freeFrom (now (ds .entry)) n ≡ true → freeFrom (now (ds .entry)) (n - r) ≡ true) ⌝ }
+{
+    if 8 <= n {
+        let low = ds[n - 8] | ds[n - 7] | ds[n - 6] | ds[n - 5];
+        let high = ds[n - 4] | ds[n - 3] | ds[n - 2] | ds[n - 1];
+        if low | high == 0 {
+            return 8;
+        }
+    }
+    if ds[n - 1] == 0 {
+        return 1;
+    }
+    0
+}
+
+// A place from which on all are free. The steps are uneven, so that the loop stays a loop in the machine's code.
+fn used(ds: &[u64]) -> usize
+    requires { ⌜ length (now ds) ≡ 64 ⌝ }
+    ensures { λ r. ⌜ (r ≤ 64) × (freeFrom (now (ds .entry)) r ≡ true) ⌝ }
+{
+    let mut n: usize = 64;
+    while 0 < n {
+        let k = passed(ds, n);
+        if k == 0 {
+            return n;
+        }
+        n -= k;
+    }
+    0
+}
+
+// One pass over the digests below n, from the last to the first; those from there on are of free places.
+fn glance_below(ds: &[u64], n: usize) -> Glance
+    requires { ⌜ (length (now ds) ≡ 64) × ((n ≤ 64) × (freeFrom (now ds) n ≡ true)) ⌝ }
+    ensures { λ r. ⌜ r ≡ glanceOf (now (ds .entry)) ⌝ }
 {
     let mut marks = [0u8; 1024];
     let mut flags: u64 = 0;
     let mut tallies = [0u64; 4];
-    let mut i: usize = 64;
+    let mut i = n;
     while 0 < i {
         let d = ds[i - 1];
-        let new = note(&ds, d, i, &mut marks, &mut flags, &mut tallies);
+        let new = note(ds, d, i, &mut marks, &mut flags, &mut tallies);
         if !new {
             return none();
         }
@@ -232,17 +280,107 @@ pub fn glance_of(ds: [u64; 64]) -> Glance
     }
 }
 
-// Whether the awaited numbers are still to be read.
-pub fn waiting(g: Glance) -> bool
-    ensures { λ r. ⌜ r ≡ waitingOf g ⌝ }
+// The glance over all digests; where there is no session, nothing is left to be found.
+fn glance_of(ds: &[u64]) -> Glance
+    requires { ⌜ length (now ds) ≡ 64 ⌝ }
+    ensures { λ r. ⌜ r ≡ glanceOf (now (ds .entry)) ⌝ }
 {
+    let n = used(ds);
+    if n == 0 {
+        return Glance {
+            good: true,
+            quiet: true,
+            idle: true,
+            counts: 0,
+        };
+    }
+    glance_below(ds, n)
+}
+
+// The first digest with a key.
+fn key_place(ds: &[u64], k: u64) -> usize
+    ensures { λ r. ⌜ r ≡ keyPlace (now (ds .entry)) k ⌝ }
+{
+    let mut i: usize = 0;
+    while i < ds.len() {
+        let x = key_in(ds[i]);
+        if x == k {
+            return i;
+        }
+        i += 1;
+    }
+    i
+}
+
+// The first digest of a free record.
+fn free_place(ds: &[u64]) -> usize
+    ensures { λ r. ⌜ r ≡ freeIn (now (ds .entry)) ⌝ }
+{
+    let mut i: usize = 0;
+    while i < ds.len() {
+        if ds[i] == 0 {
+            return i;
+        }
+        i += 1;
+    }
+    i
+}
+
+// The first digest of a record whose request is due; none is looked for where nothing is due.
+fn due_place(ds: &[u64], idle: bool) -> usize
+    ensures { λ r. ⌜ r ≡ pick {A = ℕ} idle places (firstOf dueIn (now (ds .entry))) ⌝ }
+{
+    if idle {
+        return Table::PLACES;
+    }
+    let mut i: usize = 0;
+    while i < ds.len() {
+        let due = due_in(ds[i]);
+        if due {
+            return i;
+        }
+        i += 1;
+    }
+    i
+}
+
+// What the digests say, with the place of a key and the first free one where the key is not 0.
+pub fn look_of(ds: [u64; 64], key: u64) -> Look
+    ensures { λ r. ⌜ r ≡ lookOf key ds ⌝ }
+{
+    let glance = glance_of(&ds);
+    let due = due_place(&ds, glance.idle);
+    if key == 0 {
+        return Look {
+            glance,
+            old: Table::PLACES,
+            free: Table::PLACES,
+            due,
+        };
+    }
+    let old = key_place(&ds, key);
+    let free = free_place(&ds);
+    Look {
+        glance,
+        old,
+        free,
+        due,
+    }
+}
+
+// Whether the awaited numbers are still to be read.
+pub fn waiting(v: Look) -> bool
+    ensures { λ r. ⌜ r ≡ waitingOf (v .glance) ⌝ }
+{
+    let g = v.glance;
     g.good & !g.quiet
 }
 
 // Whether a table of so many records keeps every rule but that awaited numbers differ, by the glance over it.
-fn kept_but(count: usize, node: Node, g: Glance) -> bool
-    ensures { λ r. ⌜ r ≡ keptBut count node g ⌝ }
+pub fn kept_but(count: usize, node: Node, v: Look) -> bool
+    ensures { λ r. ⌜ r ≡ keptBut count node (v .glance) ⌝ }
 {
+    let g = v.glance;
     let plan = node.plan;
     let planned = plan.accepted();
     if !(planned & (count == Table::PLACES) & g.good) {
@@ -255,44 +393,30 @@ fn kept_but(count: usize, node: Node, g: Glance) -> bool
     shared & echoes & (node.next <= Request::LAST_NUMBER)
 }
 
-// What the check of a table has read of its records, beside how it stands: whether nothing is due, the counts packed, and the digests.
+// What the check of a table has found: how it stands, and what its digests say.
 pub struct Seen {
     // 0 where a rule is broken, 1 where all are kept and no place awaits a number, else 2
     pub how: u8,
-    pub idle: bool,
-    pub counts: u64,
-    pub digests: [u64; 64],
+    pub look: Look,
 }
 
 // The table where no place awaits a number, or where it is broken anyway.
-pub fn seen_quiet(count: usize, node: Node, g: Glance, digests: [u64; 64]) -> Seen
-    ensures { λ r. ⌜ r ≡ sight (pick {A = ℕ} (keptBut count node g) 1 0) g digests ⌝ }
+pub fn seen_quiet(kept: bool, look: Look) -> Seen
+    ensures { λ r. ⌜ r ≡ sight (pick {A = ℕ} kept 1 0) look ⌝ }
 {
-    let kept = kept_but(count, node, g);
     let how = if kept { 1 } else { 0 };
-    Seen {
-        how,
-        idle: g.idle,
-        counts: g.counts,
-        digests,
-    }
+    Seen { how, look }
 }
 
 // The table where one is awaited: no number twice, the echo's neither.
-pub fn seen_loud(count: usize, node: Node, g: Glance, digests: [u64; 64], waits: [u64; 64]) -> Seen
-    ensures { λ r. ⌜ r ≡ sight (pick {A = ℕ} (keptBut count node g && waitsApart node waits) 2 0) g digests ⌝ }
+pub fn seen_loud(kept: bool, node: Node, look: Look, waits: [u64; 64]) -> Seen
+    ensures { λ r. ⌜ r ≡ sight (pick {A = ℕ} (kept && waitsApart node waits) 2 0) look ⌝ }
 {
-    let kept = kept_but(count, node, g);
     let w = rules::wait(node.echo);
     let apart = distinct::absent(&waits, w);
     let each = distinct::distinct(&waits);
     let how = if kept & (apart & each) { 2 } else { 0 };
-    Seen {
-        how,
-        idle: g.idle,
-        counts: g.counts,
-        digests,
-    }
+    Seen { how, look }
 }
 
 pub fn how_of(v: Seen) -> u8

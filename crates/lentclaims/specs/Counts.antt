@@ -22,7 +22,6 @@ use Rattle.userside.specs.UserSide.{silent, userTaken}
 use Rattle.placeline.specs.Line.{lineOf}
 use Rattle.lentcore.specs.declared.Left.{Left}
 use Rattle.lentcore.specs.Lent.{left, freshLent, uncounted, rules-other, tick-other, close-other, send-other}
-use Rattle.lentcall.specs.Lent.{control-other}
 use Rattle.lentuser.specs.Lent.{user-other}
 use Rattle.lentclaims.specs.Agree.{left-fixes, reply-fixes}
 
@@ -30,6 +29,11 @@ line-other : (node : Node) (l : List Session) (place : ℕ) (reply : List ℕ) �
     → lineOf node (held l) place reply ≡ outcome (refused (uncounted (length reply)) node (held l)) reply
 unfolding lineOf held uncounted
 line-other node l place reply other = split (ltb (length reply) leastReply) (λ e. rw e) (λ e. rw (e, rules-other node l other))
+
+control-other : (node : Node) (l : List Session) (d reply : List ℕ) → eqb (length l) places ≡ false
+    → controlTaken node (held l) d reply ≡ outcome (refused (uncounted (length reply)) node (held l)) reply
+unfolding controlTaken held uncounted
+control-other node l d reply other = split (ltb (length reply) leastReply) (λ e. rw e) (λ e. rw (e, rules-other node l other))
 
 -- number and node, no reply
 unfoldable pub only : ℕ → Node → Left

@@ -35,7 +35,7 @@ pub extern "C" fn grugavorn_close(node: Node, recs: &mut [Session], place: usize
 pub extern "C" fn grugavorn_send(node: Node, recs: &mut [Session], reply: &mut [u8]) -> Left
     ensures { λ r. ⌜ outcome (left r (now (recs .exit))) (now (reply .exit)) ≡ sendOf node (held (now (recs .entry))) (now (reply .entry)) ⌝ }
 {
-    let seen = lentrules::seen(node, recs);
+    let seen = lentrules::seen(node, recs, 0);
     let loud = lentstep::loud(seen);
     let waits = lentrules::awaited(recs, loud);
     let p = lentstep::next_due(reply.len(), node, seen, waits);

@@ -1,40 +1,92 @@
--- A control datagram that concerns one session at most, done on the lent record of its place: what it comes to, and that this is take
--- control datagram on the lent list.
+-- A control datagram done on the two lent records that it can concern: what it comes to, and that this is take control datagram on the
+-- lent list.
 -- Assumes nothing.
 use Prim.Native.Nat.{ℕ}
-use mathlib.Core.Bool.{Bool, true}
 use mathlib.Core.List.{List}
-use mathlib.Core.Path.{_≡_, sym}
+use mathlib.Core.Path.{_≡_, sym, ap, _∙_}
 use lib.ListN.{length, getD, set}
+use Rattle.octets.specs.Places.{mapFirst}
 use Rattle.session.specs.declared.Session.{Session}
 use Rattle.table.specs.declared.Node.{Node}
-use Rattle.table.specs.Rules.{keepsRules}
+use Rattle.table.specs.declared.Change.{Change}
+use Rattle.table.specs.declared.Change.the-variants as Ch
 use Rattle.table.specs.Change.{nobody}
+use Rattle.table.specs.Become.{changedBy}
 use Rattle.timing.specs.Timing.{Outcome, outcome, held}
 use Rattle.control.specs.Control.{controlTaken}
 use Rattle.lentcore.specs.declared.Left.{Left}
 use Rattle.lentcore.specs.Lent.{left}
-use Rattle.single.specs.declared.Single.{Single}
-use Rattle.single.specs.Single.{placeIn, quickOf, singled, nodeAfter, singleOf}
-use Rattle.single.specs.Same.{placed, control-same}
+use Rattle.glance.specs.declared.Seen.{Seen}
+use Rattle.glance.specs.Glance.{standsBy, stands-kept}
+use Rattle.lentrules.specs.Kept.{seenOf, seen-how, seen-packed, seen-old, seen-free}
+use Rattle.wishes.specs.declared.Wish.{Wish}
+use Rattle.wishes.specs.Wishes.{asksFor, aimOf}
+use Rattle.openings.specs.declared.Sight.{Sight}
+use Rattle.openings.specs.declared.Pair.{Pair}
+use Rattle.openings.specs.declared.Opened.{Opened}
+use Rattle.openings.specs.Openings.{sightOf, newPlace, pairBy, pairIn, made, takenOn, nodeAfter, freedCount, pairPut, placedPair}
+use Rattle.inplace.specs.Seen.{Told, sight-sees}
+use Rattle.inplace.specs.Whole.{InPlace, control-same}
+
+-- what is seen of lent records is what is gone by
+seen-told : (node : Node) (key : ℕ) (l : List Session) → Told node key l (seenOf node key l)
+seen-told node key l = record {
+  how = ap standsBy (seen-how node key l) ∙ stands-kept node l;
+  counts = λ k. seen-packed node key l k;
+  old = λ k a. seen-old node key l k a;
+  free = λ k a. seen-free node key l k a;
+}
 
 -- what of an answer goes back by value
-unfoldable pub leftSingle : Node → Single → Left
-leftSingle node q = record { number = q .number; size = q .size; node = nodeAfter q node }
+unfoldable pub leftOpened : Node → Opened → Left
+leftOpened node o = record { number = o .number; size = o .size; node = nodeAfter o node }
 
-unfoldable pub singleTaken : Node → List Session → List ℕ → List ℕ → Outcome
-singleTaken node l d reply = placed node (placeIn d) l (singleOf (keepsRules node l) node (getD l (placeIn d) nobody) d reply)
+-- the two records that are concerned
+unfoldable pub pairLent : Node → List Session → Wish → Pair
+pairLent node l w = pairIn (sightOf (seenOf node (aimOf w .key) l) node w) node l w
 
--- in the words of the code: what was read, called and put back
-pub single-lent : (node : Node) (l zs : List Session) (d reply after : List ℕ) (kept : Bool) (at : ℕ) (s t : Session) (q : Single) (r : Left)
-    → kept ≡ keepsRules node l → at ≡ placeIn d → s ≡ getD l at nobody → singled q after ≡ singleOf kept node s d reply
-    → t ≡ q .session → zs ≡ set l at t → r ≡ leftSingle node q → outcome (left r zs) after ≡ singleTaken node l d reply
-unfolding singleTaken placed left leftSingle
-single-lent node l zs d reply after kept at s t q r e-kept e-at e-s e-q e-t e-zs e-r =
-    rw (e-r, e-zs, e-t, ← e-kept, ← e-at, ← e-s, ← e-q)
+-- all freed where the exchange restarted, and the two put back
+unfoldable pub freedLent : List Session → Pair → List Session
+freedLent l p = mapFirst (changedBy Ch.Free) (freedCount p) l
 
--- on the one record as on all
-pub single-whole : (node : Node) (l : List Session) (d reply : List ℕ) → quickOf node d (length reply) ≡ true
-    → singleTaken node l d reply ≡ controlTaken node (held l) d reply
-unfolding singleTaken
-single-whole node l d reply e = sym (control-same node l reply d e)
+unfoldable pub twoPut : List Session → Pair → Opened → List Session
+twoPut l p o = set (set l (p .old) (o .old)) (p .new) (o .new)
+
+unfoldable pub settledLent : Node → List Session → Wish → List ℕ → List ℕ → Outcome
+settledLent node l w d reply = placedPair node (pairLent node l w) l (takenOn node w (pairLent node l w) d reply)
+
+-- ---- in the words of the code
+pub pair-lent : (node : Node) (l : List Session) (w : Wish) (key : ℕ) (v : Seen) (g : Sight) (old new : ℕ) (s t : Session) (r : Pair)
+    → key ≡ aimOf w .key → v ≡ seenOf node key l → g ≡ sightOf v node w → old ≡ g .old → s ≡ getD l old nobody → new ≡ newPlace g node w s → t ≡ getD l new nobody
+    → r ≡ pairBy g s new t → r ≡ pairLent node l w
+unfolding pairLent pairIn
+pair-lent node l w key v g old new s t r e-k e-v e-g e-old e-s e-new e-t e-r = rw (e-r, e-t, e-new, e-s, e-old, e-g, e-v, e-k)
+
+pub freed-lent : (l xs : List Session) (p : Pair) (n : ℕ) (c : Change) → n ≡ freedCount p → c ≡ Ch.Free → xs ≡ mapFirst (changedBy c) n l → xs ≡ freedLent l p
+unfolding freedLent
+freed-lent l xs p n c e-n e-c e-xs = rw (e-xs, e-c, e-n)
+
+pub two-put : (l ys zs : List Session) (p : Pair) (o : Opened) (i j : ℕ) (s t : Session)
+    → i ≡ p .old → s ≡ o .old → ys ≡ set l i s → j ≡ p .new → t ≡ o .new → zs ≡ set ys j t
+    → zs ≡ twoPut l p o
+unfolding twoPut
+two-put l ys zs p o i j s t e-i e-s e-ys e-j e-t e-zs = rw (e-zs, e-t, e-j, e-ys, e-s, e-i)
+
+pub pair-put : (l xs zs : List Session) (p : Pair) (o : Opened) → xs ≡ freedLent l p → zs ≡ twoPut xs p o → zs ≡ pairPut l p o
+unfolding freedLent twoPut pairPut
+pair-put l xs zs p o e-xs e-zs = rw (e-zs, e-xs)
+
+pub settled-lent : (node : Node) (l zs : List Session) (w : Wish) (d reply after : List ℕ) (p : Pair) (o : Opened) (r : Left)
+    → p ≡ pairLent node l w → made o after ≡ takenOn node w p d reply → zs ≡ pairPut l p o → r ≡ leftOpened node o
+    → outcome (left r zs) after ≡ settledLent node l w d reply
+unfolding settledLent placedPair left leftOpened
+settled-lent node l zs w d reply after p o r e-p e-o e-zs e-r = rw (e-r, e-zs, ← e-p, ← e-o)
+
+-- ---- in place as on all
+pub control-lent : (node : Node) (l : List Session) (d reply : List ℕ) (x : Outcome) (w : Wish)
+    → w ≡ asksFor node d (length reply) → x ≡ settledLent node l w d reply → x ≡ controlTaken node (held l) d reply
+unfolding settledLent pairLent InPlace
+control-lent node l d reply x w e-w e-x =
+    let a = asksFor node d (length reply) in
+    let v = seenOf node (aimOf a .key) l in
+    e-x ∙ rw e-w (sym (control-same node l d reply (sightOf v node a) (sight-sees node l v d (length reply) (seen-told node (aimOf a .key) l))))

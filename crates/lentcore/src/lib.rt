@@ -6,7 +6,7 @@ use table::Node;
 use table::Table;
 use timing::Answer;
 ghost use mathlib.Core.Path.{_≡_};
-ghost use Rattle.lentcore.specs.Lent.{leftOf, left, uncounted, freshOn};
+ghost use Rattle.lentcore.specs.Lent.{leftOf, left, freshOn};
 
 // What a call answers by value: document 01's number, the reply's length, and what goes with the records. The records are the caller's.
 #[repr(C)]
@@ -51,16 +51,6 @@ pub fn whole_of(r: Left, recs: [Session; 64]) -> Answer
         node,
         table: Table { recs },
     }
-}
-
-// The number for another count of records than 64: a short reply buffer comes first.
-pub fn uncounted(room: usize) -> u8
-    ensures { λ r. ⌜ r ≡ uncounted room ⌝ }
-{
-    if room < Answer::LEAST_REPLY {
-        return 1;
-    }
-    2
 }
 
 // Fresh: another count of records keeps them, with the state that a refused plan leaves.

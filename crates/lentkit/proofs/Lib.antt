@@ -3,3 +3,4 @@ pub mod Bodies
 pub mod Loans
 pub mod Local
 pub mod Again
+pub mod Branch

@@ -1,10 +1,10 @@
-// The caller's records, lent as a slice: read into an array, and written back. Every function of the layers above that has a lent slice
-// of records in hand is proved by hand over these two; `proofs/` has what those proofs share.
+// The caller's records, lent as a slice: written as a whole. Every function of the layers above that has a lent slice of records in hand
+// is proved by hand; `proofs/` has what those proofs share.
 use session::Session;
 ghost use mathlib.Core.Path.{_≡_};
 ghost use lib.ListN.{replicate};
 ghost use Rattle.session.specs.Session.{blankAt};
-ghost use Rattle.lentkit.specs.Records.{wholeOf, loaded, stored};
+ghost use Rattle.lentkit.specs.Records.{wholeOf, stored};
 
 // How many of the lent records are moved: all where there are as many as places, else none.
 pub fn whole(count: usize) -> usize
@@ -22,20 +22,6 @@ pub fn blanks() -> [Session; 64]
 {
     let nobody = Session::blank_at(0);
     [nobody; 64]
-}
-
-// The lent records, or blanks where there are not 64.
-pub fn load(recs: &[Session]) -> [Session; 64]
-    ensures { λ r. ⌜ r ≡ loaded (now (recs .entry)) ⌝ }
-{
-    let n = whole(recs.len());
-    let mut t = blanks();
-    let mut i = 0;
-    while i < n {
-        t[i] = recs[i];
-        i += 1;
-    }
-    t
 }
 
 // The records put back where there are 64; else what is lent stays as it is.

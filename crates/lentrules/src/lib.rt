@@ -1,5 +1,6 @@
 // Whether the caller's lent records keep the table rules: they are read where they lie, one number of each, and nothing is copied but
 // these. The walks over the lent slice are proved by hand; all else is covered.
+use glance::Look;
 use glance::Seen;
 use session::Bounds;
 use session::Session;
@@ -12,6 +13,7 @@ ghost use Rattle.table.specs.Rules.{keepsRules};
 ghost use Rattle.rules.specs.Survey.{waitOf};
 ghost use Rattle.glance.specs.Digest.{digestOf};
 ghost use Rattle.glance.specs.Glance.{standsOf};
+ghost use Rattle.glance.specs.Look.{lookOf};
 ghost use Rattle.lentrules.specs.Read.{boundOf, readOf};
 ghost use Rattle.lentrules.specs.Kept.{seenOf};
 
@@ -83,27 +85,35 @@ pub fn awaited(recs: &[Session], wanted: bool) -> [u64; 64]
     t
 }
 
-// How the records stand, with what is read of them for it. What they await is read only where one awaits a number.
-pub fn seen(node: Node, recs: &[Session]) -> Seen
-    ensures { λ r. ⌜ r ≡ seenOf node (now (recs .entry)) ⌝ }
+// What the digests of the records say, with the places that are looked for.
+pub fn looked(recs: &[Session], b: Bounds, key: u64) -> Look
+    ensures { λ r. ⌜ r ≡ lookOf key (readOf (digestOf b) true (now (recs .entry))) ⌝ }
+{
+    let ds = digests(recs, b);
+    glance::look_of(ds, key)
+}
+
+// How the records stand, with what their digests say. What they await is read only where one awaits a number.
+pub fn seen(node: Node, recs: &[Session], key: u64) -> Seen
+    ensures { λ r. ⌜ r ≡ seenOf node key (now (recs .entry)) ⌝ }
 {
     let count = recs.len();
     let b = glance::bounds_of(node);
-    let ds = digests(recs, b);
-    let g = glance::glance_of(ds);
-    let wanted = glance::waiting(g);
+    let look = looked(recs, b, key);
+    let kept = glance::kept_but(count, node, look);
+    let wanted = glance::waiting(look);
     if wanted {
         let waits = awaited(recs, wanted);
-        return glance::seen_loud(count, node, g, ds, waits);
+        return glance::seen_loud(kept, node, look, waits);
     }
-    glance::seen_quiet(count, node, g, ds)
+    glance::seen_quiet(kept, look)
 }
 
 // How they stand: 0 where a rule is broken, 1 where all are kept and no place awaits one, else 2.
 pub fn standing(node: Node, recs: &[Session]) -> u8
     ensures { λ r. ⌜ r ≡ standsOf node (now (recs .entry)) ⌝ }
 {
-    let v = seen(node, recs);
+    let v = seen(node, recs, 0);
     glance::how_of(v)
 }
 

@@ -1,14 +1,13 @@
 -- Send next due on lent records, in the steps that are taken, and that these steps are the call's own definition on the lent list.
 -- Assumes nothing.
-use Prim.Native.Nat.{ℕ, suc, _+_, _≤_}
-use mathlib.Core.Bool.{Bool, true, false, not, _&&_}
+use Prim.Native.Nat.{ℕ, suc, _+_}
+use mathlib.Core.Bool.{Bool, true, false, not}
 use mathlib.Core.List.{List, [], _∷_, map}
 use mathlib.Core.Path.{_≡_, refl, sym, ap, _∙_}
-use native.Mathlib.Omega.{arith}
 use lib.ListN.{length, getD, set}
 use lib.Seq.{set-getD}
 use lib.Dec.{eqb, ltb}
-use borrow.Author.Tests.{not-true, not-false, le-ltb}
+use borrow.Author.Tests.{not-true, not-false}
 use Rattle.octets.specs.Choice.{pick, split, and-left, and-right}
 use Rattle.octets.specs.Every.{every}
 use Rattle.octets.specs.Overlay.{overlay}
@@ -28,19 +27,16 @@ use Rattle.tally.specs.Tally.{freeAmong, free-among}
 use Rattle.messages.specs.Messages.{echoOf, deleteBearer}
 use Rattle.timing.specs.Timing.{outcome, leastReply, timed, held, refused, stepped, echoSent, placeSent, dueSent, sendOf}
 use Rattle.glance.specs.declared.Seen.{Seen}
-use Rattle.glance.specs.Digest.{digestOf, idleIn, idle-in}
+use Rattle.glance.specs.Digest.{digestOf, idle-in}
+use Rattle.glance.specs.Look.{dueIn}
 use Rattle.glance.specs.Glance.{standsOf, standsBy, stands-kept}
 use Rattle.lentrules.specs.Read.{readOf}
-use Rattle.lentrules.specs.Kept.{seenOf, seen-digests, seen-idle, seen-waits}
+use Rattle.lentrules.specs.Kept.{seenOf, seen-idle, seen-due, seen-undue, seen-waits}
 use Rattle.lentcore.specs.declared.Left.{Left}
 use Rattle.lentcore.specs.Lent.{left}
 use Rattle.lentstep.specs.declared.Sending.{Sending}
 use Rattle.lentstep.specs.declared.Sending.the-variants.{Nothing, Echo, At}
 use Rattle.lentstep.specs.Step.{refusal, kept-long}
-
--- a request is due, by a digest
-abbrev pub dueIn : ℕ → Bool
-dueIn d = not (idleIn d)
 
 -- the number that a first send takes
 unfoldable pub takenAmong : Node → List ℕ → ℕ
@@ -56,7 +52,7 @@ nextDue room node v waits =
     pick (ltb room leastReply) (Nothing 1)
     (pick (eqb (v .how) 0) (Nothing 2)
     (pick (eqb (node .echo .timer) 0) (Echo (takenAmong node waits))
-    (pick (v .idle) (Nothing 17) (pick (ltb (firstOf dueIn (v .digests)) places) (At (firstOf dueIn (v .digests)) (takenAmong node waits)) (Nothing 17)))))
+    (pick (ltb (v .look .due) places) (At (v .look .due) (takenAmong node waits)) (Nothing 17))))
 
 -- ---- what is done with it
 unfoldable pub placeOf : Sending → ℕ
@@ -101,9 +97,9 @@ module _ (node : Node) (l : List Session) (kept : keepsRules node l ≡ true) wh
   abbrev b : Bounds
   b = boundsOf (node .plan)
 
-  taken-is : takenAmong node (readOf (λ z. waitOf (z .own)) (loudIn (seenOf node l)) l) ≡ takenNumber (node .next) (node .echo) l
+  taken-is : takenAmong node (readOf (λ z. waitOf (z .own)) (loudIn (seenOf node 0 l)) l) ≡ takenNumber (node .next) (node .echo) l
   unfolding takenAmong takenNumber loudIn
-  taken-is = rw (seen-waits node l kept (eqb (seenOf node l .how) 2) refl) (free-among (places + 2) (node .next) (node .echo) l)
+  taken-is = rw (seen-waits node 0 l kept (eqb (seenOf node 0 l .how) 2) refl) (free-among (places + 2) (node .next) (node .echo) l)
 
   double : (x : Bool) → not (not x) ≡ x
   double true = refl
@@ -115,27 +111,22 @@ module _ (node : Node) (l : List Session) (kept : keepsRules node l ≡ true) wh
   due-each (s ∷ m) e =
       rw (idle-in b s (and-left (recordOk b s) (every (recordOk b) m) e), double (isDue s), due-each m (and-right (recordOk b s) (every (recordOk b) m) e))
 
-  due-is : firstOf dueIn (seenOf node l .digests) ≡ firstOf isDue l
-  due-is = rw (seen-digests node l kept) (due-each l (rules-of node l kept .each))
-
   idle-none : (m : List Session) → every (λ s. not (isDue s)) m ≡ true → firstOf isDue m ≡ length m
   unfolding firstOf every
   idle-none [] e = refl
   idle-none (s ∷ m) e =
       rw (not-true (isDue s) (and-left (not (isDue s)) (every (λ z. not (isDue z)) m) e)) (ap suc (idle-none m (and-right (not (isDue s)) (every (λ z. not (isDue z)) m) e)))
 
-  -- nothing due anywhere
-  idle-end : seenOf node l .idle ≡ true → ltb (firstOf isDue l) places ≡ false
-  idle-end e =
-      let n = rules-of node l kept .size in
-      let f = idle-none l (sym (seen-idle node l kept) ∙ e) in
-      le-ltb (firstOf isDue l) places (omega arith)
+  due-is : seenOf node 0 l .look .due ≡ firstOf isDue l
+  due-is = split (seenOf node 0 l .look .glance .idle)
+      (λ e. seen-undue node 0 l kept e ∙ sym (rules-of node l kept .size) ∙ sym (idle-none l (sym (seen-idle node 0 l kept) ∙ e)))
+      (λ e. seen-due node 0 l kept e ∙ due-each l (rules-of node l kept .each))
 
-  stands-yes : eqb (seenOf node l .how) 0 ≡ false
+  stands-yes : eqb (seenOf node 0 l .how) 0 ≡ false
   unfolding seenOf standsBy
   stands-yes = not-true (eqb (standsOf node l) 0) (stands-kept node l ∙ kept)
 
-stands-no : (node : Node) (l : List Session) → keepsRules node l ≡ false → eqb (seenOf node l .how) 0 ≡ true
+stands-no : (node : Node) (l : List Session) → keepsRules node l ≡ false → eqb (seenOf node 0 l .how) 0 ≡ true
 unfolding seenOf standsBy
 stands-no node l e = not-false (eqb (standsOf node l) 0) (stands-kept node l ∙ e)
 
@@ -166,11 +157,11 @@ module _ (node : Node) (l zs : List Session) (reply after : List ℕ) (p : Sendi
       let g : after ≡ placeLeft node k s reply .reply = ap (λ (x : Posted). x .reply) q in
       rw (f, g, e-z, e-t, e-s, e-i, e)
 
-  pub lent-send : (v : Seen) (loud : Bool) (waits : List ℕ) → v ≡ seenOf node l → loud ≡ loudIn v → waits ≡ readOf (λ z. waitOf (z .own)) loud l
+  pub lent-send : (v : Seen) (loud : Bool) (waits : List ℕ) → v ≡ seenOf node 0 l → loud ≡ loudIn v → waits ≡ readOf (λ z. waitOf (z .own)) loud l
       → p ≡ nextDue (length reply) node v waits → outcome (left r zs) after ≡ sendOf node (held l) reply
   unfolding nextDue sendOf dueSent duePlace held
   lent-send v loud waits e-v e-l e-w e-p =
-      let w : waits ≡ readOf (λ z. waitOf (z .own)) (loudIn (seenOf node l)) l = e-w ∙ rw (e-l, e-v) in
+      let w : waits ≡ readOf (λ z. waitOf (z .own)) (loudIn (seenOf node 0 l)) l = e-w ∙ rw (e-l, e-v) in
       let q = rw e-v at e-p in
       split (ltb (length reply) leastReply)
       (λ b. rw b (sends-nothing 1 (rw b at q)))
@@ -181,9 +172,7 @@ module _ (node : Node) (l zs : List Session) (reply after : List ℕ) (p : Sendi
       let d = due-is node l m in
       split (eqb (node .echo .timer) 0)
       (λ f. rw (b, m, f) (sends-echo (takenNumber (node .next) (node .echo) l) (rw (b, y, f, k) at q)))
-      (λ f. split (seenOf node l .idle)
-      (λ g. rw (b, m, f, n, idle-end node l m g) (sends-nothing 17 (rw (b, y, f, g) at q)))
-      (λ g. split (ltb (firstOf isDue l) places)
-      (λ h. rw (b, m, f, n, h) (sends-place (firstOf isDue l) (takenNumber (node .next) (node .echo) l) (rw (b, y, f, g, k, d, h) at q)))
-      (λ h. rw (b, m, f, n, h) (sends-nothing 17 (rw (b, y, f, g, d, h) at q))))))
+      (λ f. split (ltb (firstOf isDue l) places)
+      (λ h. rw (b, m, f, n, h) (sends-place (firstOf isDue l) (takenNumber (node .next) (node .echo) l) (rw (b, y, f, k, d, h) at q)))
+      (λ h. rw (b, m, f, n, h) (sends-nothing 17 (rw (b, y, f, d, h) at q)))))
       (λ m. rw (b, m) (sends-nothing 2 (rw (b, stands-no node l m) at q))))

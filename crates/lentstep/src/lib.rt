@@ -8,8 +8,7 @@ use table::Node;
 use table::Table;
 use timing::Answer;
 ghost use mathlib.Core.Path.{_≡_};
-ghost use Rattle.octets.specs.Search.{firstOf};
-ghost use Rattle.lentstep.specs.Send.{dueIn, takenAmong, loudIn, nextDue, placeOf, sentBy, posted, echoLeft, placeLeft, sendLeft};
+ghost use Rattle.lentstep.specs.Send.{takenAmong, loudIn, nextDue, placeOf, sentBy, posted, echoLeft, placeLeft, sendLeft};
 ghost use Rattle.lentstep.specs.Step.{refusal, tickChange, tickCount, tickLeft, closedBy, closeLeft};
 
 // What is sent next: nothing, with the number that says why; or the echo; or the request of a place. The number is that of a first send.
@@ -93,21 +92,6 @@ pub fn close_left(kept: bool, node: Node, s: Session) -> Left
     refusal(0, node)
 }
 
-// The lowest place whose request is due, by the digests, or the number of places.
-fn due_among(digests: &[u64]) -> usize
-    ensures { λ r. ⌜ r ≡ firstOf dueIn (now (digests .entry)) ⌝ }
-{
-    let mut i: usize = 0;
-    while i < digests.len() {
-        let due = glance::due_in(digests[i]);
-        if due {
-            return i;
-        }
-        i += 1;
-    }
-    i
-}
-
 // The number that a first send takes, by what is awaited.
 fn taken(node: Node, waits: &[u64]) -> u32
     ensures { λ r. ⌜ r ≡ takenAmong node (now (waits .entry)) ⌝ }
@@ -138,11 +122,8 @@ pub fn next_due(room: usize, node: Node, seen: Seen, waits: [u64; 64]) -> Sendin
         let number = taken(node, &waits);
         return Sending::Echo(number);
     }
-    if seen.idle {
-        return Sending::Nothing(17);
-    }
-    let digests = seen.digests;
-    let place = due_among(&digests);
+    let look = seen.look;
+    let place = look.due;
     if Table::PLACES <= place {
         return Sending::Nothing(17);
     }

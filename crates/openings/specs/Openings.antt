@@ -1,94 +1,63 @@
--- Create on the digests of the records and on two records: which place has the session that is asked for anew, which place is opened,
--- and what the Create comes to. That this is what take control datagram says of the whole table is the law in Same.antt.
+-- Take control datagram on two records: which record what is asked is about, which place is opened, what it comes to, and what is put
+-- back. That this is what take control datagram says of the whole table are the laws of crate inplace.
 -- Assumes nothing.
-use Prim.Native.Nat.{ℕ, _+_, _-_, _*_, _%_, _<_, _≤_}
+use Prim.Native.Nat.{ℕ, _+_, _-_, _%_, _<_}
 use mathlib.Core.Bool.{Bool, true, false, _&&_}
 use mathlib.Core.List.{List}
 use mathlib.Core.Path.{_≡_, ap}
 use native.Mathlib.Omega.{arith}
-use lib.ListN.{length, getD, drop}
+use lib.ListN.{getD, set, drop}
 use lib.Dec.{eqb, ltb}
 use Rattle.octets.specs.Choice.{pick}
 use Rattle.octets.specs.Overlay.{overlay}
-use Rattle.octets.specs.Search.{firstOf, first-hit, first-miss, first-end}
+use Rattle.octets.specs.Places.{mapFirst}
 use Rattle.tunnel.specs.Numbering.{places}
 use Rattle.plan.specs.declared.Plan.{Plan}
 use Rattle.sharing.specs.Sharing.{admits}
 use Rattle.session.specs.declared.Session.{Session}
 use Rattle.session.specs.Session.{freed, opened}
 use Rattle.table.specs.declared.Node.{Node}
+use Rattle.table.specs.declared.Change.the-variants as Ch
+use Rattle.table.specs.Change.{nobody}
+use Rattle.table.specs.Become.{changedBy}
+use Rattle.table.specs.Own.{rested}
+use Rattle.messages.specs.Messages.{echoOf, versionNotSupported}
 use Rattle.rules.specs.Survey.{weightOf, weight-most}
 use Rattle.rules.specs.Check.{unpackedOf}
-use Rattle.header.specs.Header.{headerOf}
-use Rattle.header.specs.Gate.{gateOf}
+use Rattle.header.specs.declared.HeaderCursor.{HeaderCursor}
 use Rattle.readers.specs.declared.Recovery.{Recovery}
 use Rattle.readers.specs.declared.Recovery.the-variants as R
 use Rattle.requests.specs.declared.Create as C
-use Rattle.requests.specs.declared.Decoded.{Decoded}
-use Rattle.requests.specs.declared.Decoded.the-variants as D
-use Rattle.requests.specs.declared.Request.the-variants as Q
-use Rattle.requests.specs.Create.{createOf, replyTo}
-use Rattle.echoes.specs.Echoes.{restartsBy}
-use Rattle.amends.specs.Amends.{causeSize, causeOctets}
-use Rattle.creates.specs.Creates.{openingOf, acceptedOctets, noRoom, isRepeat}
-use Rattle.glance.specs.Digest.{keyIn}
+use Rattle.timing.specs.Timing.{Outcome, outcome, timed, held}
+use Rattle.control.specs.Echoes.{heardNode}
+use Rattle.control.specs.Amends.{causeSize, causeOctets}
+use Rattle.control.specs.Creates.{openingOf, acceptedOctets, noRoom, isRepeat}
 use Rattle.glance.specs.Glance.{standsBy}
+use Rattle.glance.specs.declared.Look.{Look}
 use Rattle.glance.specs.declared.Seen.{Seen}
-use Rattle.openings.specs.declared.Wish.{Wish}
-use Rattle.openings.specs.declared.Wish.the-variants as W
+use Rattle.single.specs.Single.{Singled, singleOf}
+use Rattle.wishes.specs.declared.Wish.{Wish}
+use Rattle.wishes.specs.declared.Wish.the-variants as W
+use Rattle.wishes.specs.declared.Aim.{Aim}
+use Rattle.wishes.specs.Wishes.{restartsIn, aimOf, brokenBy}
 use Rattle.openings.specs.declared.Sight.{Sight}
 use Rattle.openings.specs.declared.Pair.{Pair}
 use Rattle.openings.specs.declared.Opened.{Opened}
 
--- ---- what a datagram asks for: a Create that says no restart, or the cause that it is refused with
-unfoldable pub wishBy : Decoded → ℕ → Node → List ℕ → Wish
-wishBy (D.Refused w) seq node rest = W.Refused w (replyTo rest) seq
-wishBy (D.Sound (Q.Create c)) seq node rest = pick (restartsBy (c .recovery) node) W.Other (W.Open c seq)
-wishBy (D.Sound (Q.Modify m)) seq node rest = W.Other
-wishBy (D.Sound (Q.Delete d)) seq node rest = W.Other
+-- ---- what is seen of the records
+-- the place of the record that it is about
+unfoldable pub oldBy : Look → Aim → ℕ
+oldBy look a = pick {A = ℕ} (eqb (a .key) 0) (a .place) (look .old)
 
-abbrev pub restOf : List ℕ → List ℕ
-restOf d = drop (headerOf d .fields) d
+-- after a restart no record is taken
+unfoldable pub sightBy : Bool → ℕ → ℕ → ℕ → Bool → Sight
+sightBy kept counts old free restart =
+    pick (kept && restart) (record { kept = true; all = true; counts = 0; old = places; free = 0 })
+    (record { kept = kept; all = false; counts = counts; old = old; free = free })
 
-unfoldable pub wishOf : Node → List ℕ → Wish
-wishOf node d =
-    pick (eqb (gateOf d) 0) (pick (eqb (headerOf d .kind) 32) (wishBy (createOf (node .plan) (restOf d)) (headerOf d .sequence) node (restOf d)) W.Other) W.Other
-
-unfoldable pub inPlace : Wish → Bool
-inPlace W.Other = false
-inPlace (W.Refused w to seq) = true
-inPlace (W.Open c seq) = true
-
--- ---- by the digests
--- IMSI and EBI as the key that a session with them has
-unfoldable pub idKey : ℕ → ℕ → ℕ
-idKey imsi ebi = imsi % 36028797018963968 * 256 + ebi
-
-unfoldable pub keyFor : Wish → ℕ
-keyFor W.Other = 0
-keyFor (W.Refused w to seq) = 0
-keyFor (W.Open c seq) = idKey (c .imsi) (c .ebi)
-
--- the first digest with a key, and the first of a free record; past them where there is none
-unfoldable pub keyPlace : List ℕ → ℕ → ℕ
-keyPlace ds k = firstOf (λ d. eqb (keyIn d) k) ds
-
-unfoldable pub freeIn : List ℕ → ℕ
-freeIn ds = firstOf (λ d. eqb d 0) ds
-
-unfoldable pub sightOf : Seen → Wish → Sight
-sightOf v w = record { kept = standsBy (v .how); counts = v .counts; old = keyPlace (v .digests) (keyFor w); free = freeIn (v .digests) }
-
--- ---- laws of a search that has come to place i
-module _ (p : ℕ → Bool) (ds : List ℕ) (i : ℕ) (came : firstOf p ds ≡ i + firstOf p (drop i ds)) where
-  pub search-hit : i < length ds → p (getD ds i 0) ≡ true → i ≡ firstOf p ds
-  search-hit h e = let z = first-hit p ds i 0 h e in omega arith
-
-  pub search-on : i < length ds → p (getD ds i 0) ≡ false → firstOf p ds ≡ i + 1 + firstOf p (drop (i + 1) ds)
-  search-on h e = let z = first-miss p ds i 0 h e in omega arith
-
-  pub search-end : length ds ≤ i → i ≡ firstOf p ds
-  search-end h = let z = first-end p ds i h in omega arith
+unfoldable pub sightOf : Seen → Node → Wish → Sight
+sightOf v node w =
+    sightBy (standsBy (v .how)) (v .look .glance .counts) (oldBy (v .look) (aimOf w)) (v .look .free) (restartsIn w node)
 
 -- ---- the place that is opened
 -- a repeat of the Create that made the session of a place
@@ -117,12 +86,24 @@ openPlace g node c seq s =
     (pick {A = ℕ} (roomFor (node .plan) (g .counts) s (c .point)) (lower (g .old) (g .free)) places)
 
 unfoldable pub newPlace : Sight → Node → Wish → Session → ℕ
-newPlace g node W.Other s = places
+newPlace g node W.Short s = places
+newPlace g node (W.Silent number) s = places
+newPlace g node W.Version s = places
+newPlace g node (W.Echo recovery seq) s = places
+newPlace g node (W.Ended recovery) s = places
+newPlace g node (W.Named h) s = places
 newPlace g node (W.Refused w to seq) s = places
 newPlace g node (W.Open c seq) s = openPlace g node c seq s
 
 unfoldable pub pairBy : Sight → Session → ℕ → Session → Pair
-pairBy g s new t = record { kept = g .kept; old = g .old; new = new; oldrecord = s; newrecord = t }
+pairBy g s new t = record { kept = g .kept; all = g .all; old = g .old; new = new; oldrecord = s; newrecord = t }
+
+-- the two records of a table, the second at place q
+abbrev pub pairWith : Sight → List Session → ℕ → Pair
+pairWith g l q = pairBy g (getD l (g .old) nobody) q (getD l q nobody)
+
+unfoldable pub pairIn : Sight → Node → List Session → Wish → Pair
+pairIn g node l w = pairWith g l (newPlace g node w (getD l (g .old) nobody))
 
 -- ---- what it comes to: an answer, and the reply buffer as it is left
 pub record Made : Type 0 where
@@ -133,40 +114,80 @@ abbrev pub made : Opened → List ℕ → Made
 made a reply = record { answer = a; reply = reply }
 
 -- both records as they were
-unfoldable pub unmovedOn : ℕ → ℕ → Recovery → Pair → Opened
-unmovedOn number size heard p = record { number = number; size = size; heard = heard; old = p .oldrecord; new = p .newrecord }
+unfoldable pub unmovedOn : ℕ → ℕ → Bool → Recovery → Pair → Opened
+unmovedOn number size ended heard p = record { number = number; size = size; ended = ended; heard = heard; old = p .oldrecord; new = p .newrecord }
 
 -- no room: 73, and the replaced session is gone
 unfoldable pub fullOn : C.Create → ℕ → Pair → List ℕ → Made
 fullOn c seq p reply = made
-    (record { number = noRoom .cause; size = causeSize noRoom; heard = c .recovery; old = freed (p .oldrecord); new = p .newrecord })
+    (record { number = noRoom .cause; size = causeSize noRoom; ended = false; heard = c .recovery; old = freed (p .oldrecord); new = p .newrecord })
     (overlay (causeOctets 33 (c .control) seq noRoom) reply)
 
 unfoldable pub enteredOn : C.Create → ℕ → Node → Pair → List ℕ → Made
 enteredOn c seq node p reply = made
-    (record { number = 0; size = 78; heard = c .recovery; old = freed (p .oldrecord); new = opened (openingOf c seq) (p .newrecord) })
+    (record { number = 0; size = 78; ended = false; heard = c .recovery; old = freed (p .oldrecord); new = opened (openingOf c seq) (p .newrecord) })
     (overlay (acceptedOctets (node .plan) seq (p .new) (opened (openingOf c seq) (p .newrecord))) reply)
 
 unfoldable pub openOn : C.Create → ℕ → Node → Pair → List ℕ → Made
 openOn c seq node p reply =
     pick (repeatsAt (p .old) c seq (p .oldrecord))
-    (made (unmovedOn 0 78 (c .recovery) p) (overlay (acceptedOctets (node .plan) seq (p .old) (p .oldrecord)) reply))
+    (made (unmovedOn 0 78 false (c .recovery) p) (overlay (acceptedOctets (node .plan) seq (p .old) (p .oldrecord)) reply))
     (pick (ltb (p .new) places) (enteredOn c seq node p reply) (fullOn c seq p reply))
 
-unfoldable pub wishTaken : Node → Wish → Pair → List ℕ → Made
-wishTaken node W.Other p reply = made (unmovedOn 0 0 R.None p) reply
-wishTaken node (W.Refused w to seq) p reply = made (unmovedOn (w .cause) (causeSize w) R.None p) (overlay (causeOctets 33 to seq w) reply)
-wishTaken node (W.Open c seq) p reply = openOn c seq node p reply
+-- what concerns the session of the record
+unfoldable pub namedMade : Singled → Pair → Made
+namedMade q p = made
+    (record { number = q .answer .number; size = q .answer .size; ended = false; heard = R.None; old = q .answer .session; new = p .newrecord })
+    (q .reply)
+
+unfoldable pub namedOn : HeaderCursor → List ℕ → Pair → List ℕ → Made
+namedOn h rest p reply = namedMade (singleOf h rest (p .oldrecord) reply) p
+
+unfoldable pub wishTaken : Node → Wish → Pair → List ℕ → List ℕ → Made
+wishTaken node W.Short p d reply = made (unmovedOn 1 0 false R.None p) reply
+wishTaken node (W.Silent number) p d reply = made (unmovedOn number 0 false R.None p) reply
+wishTaken node W.Version p d reply = made (unmovedOn 5 8 false R.None p) (overlay versionNotSupported reply)
+wishTaken node (W.Echo recovery seq) p d reply = made (unmovedOn 0 13 false recovery p) (overlay (echoOf 2 seq (node .plan .recovery)) reply)
+wishTaken node (W.Ended recovery) p d reply = made (unmovedOn 0 0 true recovery p) reply
+wishTaken node (W.Named h) p d reply = namedOn h (drop (h .fields) d) p reply
+wishTaken node (W.Refused w to seq) p d reply = made (unmovedOn (w .cause) (causeSize w) false R.None p) (overlay (causeOctets 33 to seq w) reply)
+wishTaken node (W.Open c seq) p d reply = openOn c seq node p reply
 
 -- whether the table keeps its rules is said
-unfoldable pub takenOn : Node → Wish → Pair → List ℕ → Made
-takenOn node w p reply = pick (p .kept) (wishTaken node w p reply) (made (unmovedOn 2 0 R.None p) reply)
+unfoldable pub takenOn : Node → Wish → Pair → List ℕ → List ℕ → Made
+takenOn node w p d reply = pick (p .kept) (wishTaken node w p d reply) (made (unmovedOn (brokenBy w) 0 false R.None p) reply)
 
-module _ (node : Node) (w : Wish) (p : Pair) (reply : List ℕ) where
-  pub taken-broken : p .kept ≡ false → takenOn node w p reply ≡ made (unmovedOn 2 0 R.None p) reply
+module _ (node : Node) (w : Wish) (p : Pair) (d reply : List ℕ) where
+  pub taken-broken : p .kept ≡ false → takenOn node w p d reply ≡ made (unmovedOn (brokenBy w) 0 false R.None p) reply
   unfolding takenOn
-  taken-broken e = ap (λ (t : Bool). pick t (wishTaken node w p reply) (made (unmovedOn 2 0 R.None p) reply)) e
+  taken-broken e = ap (λ (t : Bool). pick t (wishTaken node w p d reply) (made (unmovedOn (brokenBy w) 0 false R.None p) reply)) e
 
-  pub taken-kept : p .kept ≡ true → takenOn node w p reply ≡ wishTaken node w p reply
+  pub taken-kept : p .kept ≡ true → takenOn node w p d reply ≡ wishTaken node w p d reply
   unfolding takenOn
-  taken-kept e = ap (λ (t : Bool). pick t (wishTaken node w p reply) (made (unmovedOn 2 0 R.None p) reply)) e
+  taken-kept e = ap (λ (t : Bool). pick t (wishTaken node w p d reply) (made (unmovedOn (brokenBy w) 0 false R.None p) reply)) e
+
+-- ---- what is put back
+-- an echo that ended is due again after E ticks
+unfoldable pub restedNode : Node → Node
+restedNode node = timed (rested (node .plan .interval) (node .echo)) (node .next) node
+
+unfoldable pub nodeAfter : Opened → Node → Node
+nodeAfter o node = pick (o .ended) (restedNode (heardNode (o .heard) node)) (heardNode (o .heard) node)
+
+-- how many records are freed first
+unfoldable pub freedCount : Pair → ℕ
+freedCount p = pick {A = ℕ} (p .all) places 0
+
+unfoldable pub pairPut : List Session → Pair → Opened → List Session
+pairPut l p o = set (set (mapFirst (changedBy Ch.Free) (freedCount p) l) (p .old) (o .old)) (p .new) (o .new)
+
+-- the answer with the node and the records
+unfoldable pub placedPair : Node → Pair → List Session → Made → Outcome
+placedPair node p l m = outcome
+    (record {
+      number = m .answer .number;
+      size = m .answer .size;
+      node = nodeAfter (m .answer) node;
+      table = held (pairPut l p (m .answer));
+    })
+    (m .reply)

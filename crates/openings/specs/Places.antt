@@ -24,9 +24,11 @@ use Rattle.table.specs.Rules.{liveOn, live}
 use Rattle.table.specs.Change.{nobody, changedAt}
 use Rattle.rules.specs.Survey.{keyOf, weightOf}
 use Rattle.rules.specs.Check.{unpackedOf, known-id, unpacked-at, packed}
-use Rattle.creates.specs.Creates.{admits-agree}
+use Rattle.control.specs.Creates.{admits-agree}
 use Rattle.glance.specs.Digest.{digestOf, keyIn, key-in, free-in}
-use Rattle.openings.specs.Openings.{idKey, keyPlace, freeIn, countsLess, roomFor, lower}
+use Rattle.wishes.specs.Wishes.{idKey}
+use Rattle.glance.specs.Look.{keyPlace, freeIn}
+use Rattle.openings.specs.Openings.{countsLess, roomFor, lower}
 
 -- ---- a search among what is read of the elements, and one by a test that agrees
 first-map : {A B : Type 0} (p : B → Bool) (f : A → B) (l : List A) → firstOf p (map f l) ≡ firstOf (λ x. p (f x)) l

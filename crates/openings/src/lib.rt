@@ -1,181 +1,95 @@
-// Create on the digests of the records and on two records: the place of the session that it asks for anew, the place that it opens, and
-// what it comes to. No other record is looked at; that the table's rules are kept is said.
+// Take control datagram on two records: which record what is asked is about, which place is opened, and what it comes to. No other record
+// is looked at; whether the table's rules are kept is said. Where the exchange restarted all records are freed first.
+use glance::Look;
 use glance::Seen;
 use header::HeaderCursor;
 use plan::Plan;
 use readers::Recovery;
-use readers::Refusal;
 use requests::Create;
-use requests::Decoded;
-use requests::Request;
 use session::Session;
+use table::Change;
 use table::Node;
 use table::Table;
+use wishes::Aim;
+use wishes::Wish;
 ghost use mathlib.Core.Path.{_≡_};
-ghost use Rattle.openings.specs.Openings.{wishBy, wishOf, inPlace, keyFor, keyPlace, freeIn, sightOf, repeatsAt, roomFor, lower, openPlace, newPlace, pairBy, made, unmovedOn, fullOn, enteredOn, openOn, takenOn};
+ghost use Rattle.table.specs.declared.Change.the-variants.{Free};
+ghost use Rattle.openings.specs.Openings.{oldBy, sightBy, sightOf, repeatsAt, roomFor, lower, openPlace, newPlace, pairBy, made, unmovedOn, fullOn, enteredOn, openOn, namedOn, wishTaken, takenOn, nodeAfter, freedCount};
 
-// What a datagram asks for: a session, or a reply with a cause.
-pub enum Wish {
-    // no Create, or one that says a restart
-    Other,
-    Refused {
-        why: Refusal,
-        to: u32,
-        sequence: u32,
-    },
-    Open {
-        create: Create,
-        sequence: u32,
-    },
-}
-
-// What a Create goes by, of what was seen of the records: whether the rules are kept, the packed counts, the place of the session with
-// its IMSI and EBI, and the first free place; 64 where there is none.
+// What is gone by, of what was seen of the records: whether the rules are kept, whether all are freed first, the packed counts, the place
+// of the record that it is about, and the first free place; 64 where there is none.
 pub struct Sight {
     pub kept: bool,
+    pub all: bool,
     pub counts: u64,
     pub old: usize,
     pub free: usize,
 }
 
-// The two records that a Create concerns, and where they lie: one that is to go, and one that is to be opened.
+// The two records that are concerned, and where they lie: one that it is about, and one that is to be opened; and whether all are freed
+// before these two are put back.
 pub struct Pair {
     pub kept: bool,
+    pub all: bool,
     pub old: usize,
     pub new: usize,
     pub oldrecord: Session,
     pub newrecord: Session,
 }
 
-// Document 01's number, the reply's length, the Recovery that is to be stored, and the two records as they are then.
+// Document 01's number, the reply's length, whether the unit's own echo ended, the Recovery that is to be stored, and the two records as
+// they are then.
 pub struct Opened {
     pub number: u8,
     pub size: usize,
+    pub ended: bool,
     pub heard: Recovery,
     pub old: Session,
     pub new: Session,
 }
 
-fn wish_by(d: Decoded, sequence: u32, node: Node, rest: &[u8]) -> Wish
-    ensures { λ r. ⌜ r ≡ wishBy d sequence node (now (rest .entry)) ⌝ }
+// The place of the record that a wish is about.
+fn old_by(look: Look, a: Aim) -> usize
+    ensures { λ r. ⌜ r ≡ oldBy look a ⌝ }
 {
-    match d {
-        Decoded::Refused(why) => {
-            let to = requests::reply_to(rest);
-            Wish::Refused { why, to, sequence }
-        }
-        Decoded::Sound(q) => match q {
-            Request::Create(create) => {
-                let recovery = create.recovery;
-                let restarted = echoes::restarts(node, recovery);
-                if restarted {
-                    Wish::Other
-                } else {
-                    Wish::Open { create, sequence }
-                }
-            }
-            Request::Modify(_) => Wish::Other,
-            Request::Delete(_) => Wish::Other,
-        },
+    if a.key == 0 {
+        return a.place;
     }
+    look.old
 }
 
-// What a datagram asks for, if its header passes. It is decoded once.
-pub fn wish_of(node: Node, d: &[u8]) -> Wish
-    ensures { λ r. ⌜ r ≡ wishOf node (now (d .entry)) ⌝ }
+// After a restart no record is taken.
+fn sight_by(kept: bool, counts: u64, old: usize, free: usize, restart: bool) -> Sight
+    ensures { λ r. ⌜ r ≡ sightBy kept counts old free restart ⌝ }
 {
-    let number = header::gate(d);
-    if number != 0 {
-        return Wish::Other;
+    if kept & restart {
+        return Sight {
+            kept: true,
+            all: true,
+            counts: 0,
+            old: Table::PLACES,
+            free: 0,
+        };
     }
-    let h = HeaderCursor::of(d);
-    if h.kind != 32 {
-        return Wish::Other;
-    }
-    let plan = node.plan;
-    let rest = h.rest(d);
-    let decoded = requests::read_create(plan, rest);
-    wish_by(decoded, h.sequence, node, rest)
-}
-
-// Whether a Create is done in place.
-pub fn in_place(w: Wish) -> bool
-    ensures { λ r. ⌜ r ≡ inPlace w ⌝ }
-{
-    match w {
-        Wish::Other => false,
-        Wish::Refused {
-            why: _,
-            to: _,
-            sequence: _,
-        } => true,
-        Wish::Open {
-            create: _,
-            sequence: _,
-        } => true,
-    }
-}
-
-// IMSI and EBI as the key that a session with them has; 0, which no session has, where none is asked for.
-fn key_of(w: Wish) -> u64
-    ensures { λ r. ⌜ r ≡ keyFor w ⌝ }
-{
-    match w {
-        Wish::Other => 0,
-        Wish::Refused {
-            why: _,
-            to: _,
-            sequence: _,
-        } => 0,
-        Wish::Open {
-            create,
-            sequence: _,
-        } => create.imsi % 36028797018963968 * 256 + create.ebi as u64,
-    }
-}
-
-// The first digest with a key.
-fn key_place(ds: &[u64], k: u64) -> usize
-    ensures { λ r. ⌜ r ≡ keyPlace (now (ds .entry)) k ⌝ }
-{
-    let mut i: usize = 0;
-    while i < ds.len() {
-        let x = glance::key_in(ds[i]);
-        if x == k {
-            return i;
-        }
-        i += 1;
-    }
-    i
-}
-
-// The first digest of a free record.
-fn free_place(ds: &[u64]) -> usize
-    ensures { λ r. ⌜ r ≡ freeIn (now (ds .entry)) ⌝ }
-{
-    let mut i: usize = 0;
-    while i < ds.len() {
-        if ds[i] == 0 {
-            return i;
-        }
-        i += 1;
-    }
-    i
-}
-
-pub fn sight_of(v: Seen, w: Wish) -> Sight
-    ensures { λ r. ⌜ r ≡ sightOf v w ⌝ }
-{
-    let k = key_of(w);
-    let kept = glance::stands(v.how);
-    let old = key_place(&v.digests, k);
-    let free = free_place(&v.digests);
     Sight {
         kept,
-        counts: v.counts,
+        all: false,
+        counts,
         old,
         free,
     }
+}
+
+pub fn sight_of(v: Seen, node: Node, w: Wish) -> Sight
+    ensures { λ r. ⌜ r ≡ sightOf v node w ⌝ }
+{
+    let kept = glance::stands(v.how);
+    let restart = wishes::restarts_in(w, node);
+    let aim = wishes::aim_of(w);
+    let look = v.look;
+    let g = look.glance;
+    let old = old_by(look, aim);
+    sight_by(kept, g.counts, old, look.free, restart)
 }
 
 pub fn old_place(g: Sight) -> usize
@@ -188,7 +102,7 @@ pub fn old_place(g: Sight) -> usize
 fn repeats(place: usize, c: Create, seq: u32, s: Session) -> bool
     ensures { λ r. ⌜ r ≡ repeatsAt place c seq s ⌝ }
 {
-    let same = creates::is_repeat(c, seq, s);
+    let same = control::is_repeat(c, seq, s);
     (place < Table::PLACES) & same
 }
 
@@ -226,12 +140,20 @@ fn open_place(g: Sight, node: Node, c: Create, seq: u32, s: Session) -> usize
     lower(g.old, g.free)
 }
 
-// The same for what is asked; s is the record of the session with this IMSI and EBI.
+// The same for what is asked; s is the record that it is about.
 pub fn new_place(g: Sight, node: Node, w: Wish, s: Session) -> usize
     ensures { λ r. ⌜ r ≡ newPlace g node w s ⌝ }
 {
     match w {
-        Wish::Other => Table::PLACES,
+        Wish::Short => Table::PLACES,
+        Wish::Silent(_) => Table::PLACES,
+        Wish::Version => Table::PLACES,
+        Wish::Echo {
+            recovery: _,
+            sequence: _,
+        } => Table::PLACES,
+        Wish::Ended { recovery: _ } => Table::PLACES,
+        Wish::Named { header: _ } => Table::PLACES,
         Wish::Refused {
             why: _,
             to: _,
@@ -246,6 +168,7 @@ pub fn pair_of(g: Sight, s: Session, new: usize, t: Session) -> Pair
 {
     Pair {
         kept: g.kept,
+        all: g.all,
         old: g.old,
         new,
         oldrecord: s,
@@ -254,14 +177,15 @@ pub fn pair_of(g: Sight, s: Session, new: usize, t: Session) -> Pair
 }
 
 // The two records as they were.
-fn unmoved(number: u8, size: usize, heard: Recovery, p: Pair) -> Opened
-    ensures { λ r. ⌜ r ≡ unmovedOn number size heard p ⌝ }
+fn unmoved(number: u8, size: usize, ended: bool, heard: Recovery, p: Pair) -> Opened
+    ensures { λ r. ⌜ r ≡ unmovedOn number size ended heard p ⌝ }
 {
     let old = p.oldrecord;
     let new = p.newrecord;
     Opened {
         number,
         size,
+        ended,
         heard,
         old,
         new,
@@ -275,14 +199,15 @@ fn full_on(c: Create, seq: u32, p: Pair, reply: &mut [u8]) -> Opened
     let heard = c.recovery;
     let s = p.oldrecord;
     let new = p.newrecord;
-    let w = creates::no_room();
-    let size = amends::write_cause(33, c.control, seq, w, reply);
-    let old = s.freed();
+    let w = control::no_room();
+    let size = control::write_cause(33, c.control, seq, w, reply);
+    let gone = s.freed();
     Opened {
         number: w.cause,
         size,
+        ended: false,
         heard,
-        old,
+        old: gone,
         new,
     }
 }
@@ -295,13 +220,14 @@ fn entered_on(c: Create, seq: u32, node: Node, p: Pair, reply: &mut [u8]) -> Ope
     let plan = node.plan;
     let s = p.oldrecord;
     let t = p.newrecord;
-    let o = creates::opening_of(c, seq);
+    let o = control::opening_of(c, seq);
     let new = t.opened(o);
     let old = s.freed();
-    creates::write_accepted(plan, seq, p.new, new, reply);
+    control::write_accepted(plan, seq, p.new, new, reply);
     Opened {
         number: 0,
         size: 78,
+        ended: false,
         heard,
         old,
         new,
@@ -317,8 +243,8 @@ fn open_on(c: Create, seq: u32, node: Node, p: Pair, reply: &mut [u8]) -> Opened
     if repeat {
         let heard = c.recovery;
         let plan = node.plan;
-        creates::write_accepted(plan, seq, p.old, s, reply);
-        return unmoved(0, 78, heard, p);
+        control::write_accepted(plan, seq, p.old, s, reply);
+        return unmoved(0, 78, false, heard, p);
     }
     if p.new < Table::PLACES {
         return entered_on(c, seq, node, p, reply);
@@ -326,21 +252,93 @@ fn open_on(c: Create, seq: u32, node: Node, p: Pair, reply: &mut [u8]) -> Opened
     full_on(c, seq, p, reply)
 }
 
-// What a Create comes to.
-pub fn take(node: Node, w: Wish, p: Pair, reply: &mut [u8]) -> Opened
-    ensures { λ r. ⌜ made r (now (reply .exit)) ≡ takenOn node w p (now (reply .entry)) ⌝ }
+// What concerns the session of the record.
+fn named_on(h: HeaderCursor, rest: &[u8], p: Pair, reply: &mut [u8]) -> Opened
+    ensures { λ r. ⌜ made r (now (reply .exit)) ≡ namedOn h (now (rest .entry)) p (now (reply .entry)) ⌝ }
 {
-    if !p.kept {
-        return unmoved(2, 0, Recovery::None, p);
+    let s = p.oldrecord;
+    let new = p.newrecord;
+    let q = single::take_single(h, rest, s, reply);
+    let old = q.session;
+    Opened {
+        number: q.number,
+        size: q.size,
+        ended: false,
+        heard: Recovery::None,
+        old,
+        new,
     }
+}
+
+// What is asked, where the rules are kept.
+fn take_wish(node: Node, w: Wish, p: Pair, d: &[u8], reply: &mut [u8]) -> Opened
+    ensures { λ r. ⌜ made r (now (reply .exit)) ≡ wishTaken node w p (now (d .entry)) (now (reply .entry)) ⌝ }
+{
     match w {
-        Wish::Other => unmoved(0, 0, Recovery::None, p),
+        Wish::Short => unmoved(1, 0, false, Recovery::None, p),
+        Wish::Silent(number) => unmoved(number, 0, false, Recovery::None, p),
+        Wish::Version => {
+            messages::version_not_supported(reply);
+            unmoved(5, 8, false, Recovery::None, p)
+        }
+        Wish::Echo { recovery, sequence } => {
+            let plan = node.plan;
+            messages::echo_of(reply, 2, sequence, plan.recovery);
+            unmoved(0, 13, false, recovery, p)
+        }
+        Wish::Ended { recovery } => unmoved(0, 0, true, recovery, p),
+        Wish::Named { header } => {
+            let rest = header.rest(d);
+            named_on(header, rest, p, reply)
+        }
         Wish::Refused { why, to, sequence } => {
-            let size = amends::write_cause(33, to, sequence, why, reply);
-            unmoved(why.cause, size, Recovery::None, p)
+            let size = control::write_cause(33, to, sequence, why, reply);
+            unmoved(why.cause, size, false, Recovery::None, p)
         }
         Wish::Open { create, sequence } => open_on(create, sequence, node, p, reply),
     }
+}
+
+// What is asked; where the rules are broken, the number that says so.
+pub fn take(node: Node, w: Wish, p: Pair, d: &[u8], reply: &mut [u8]) -> Opened
+    ensures { λ r. ⌜ made r (now (reply .exit)) ≡ takenOn node w p (now (d .entry)) (now (reply .entry)) ⌝ }
+{
+    if !p.kept {
+        let number = wishes::broken_by(w);
+        return unmoved(number, 0, false, Recovery::None, p);
+    }
+    take_wish(node, w, p, d, reply)
+}
+
+// The node as it is then: a Recovery is stored, and an echo that ended is due again after E ticks.
+pub fn node_after(node: Node, o: Opened) -> Node
+    ensures { λ r. ⌜ r ≡ nodeAfter o node ⌝ }
+{
+    let heard = o.heard;
+    let mut after = control::heard(node, heard);
+    if !o.ended {
+        return after;
+    }
+    let plan = after.plan;
+    let rest = table::rested(plan.interval, after.echo);
+    after.echo = rest;
+    after
+}
+
+// What is made of the records that are freed first, and how many they are.
+pub fn freeing() -> Change
+    ensures { λ r. ⌜ r ≡ Free ⌝ }
+{
+    Change::Free
+}
+
+pub fn freed_count(p: Pair) -> usize
+    ensures { λ r. ⌜ r ≡ freedCount p ⌝ }
+{
+    if p.all {
+        return Table::PLACES;
+    }
+    0
 }
 
 pub fn first_place(p: Pair) -> usize

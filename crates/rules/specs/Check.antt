@@ -1,17 +1,17 @@
 -- The check of a whole table: what is read off the survey is what the rules say.
 -- Assumes nothing.
-use Prim.Native.Nat.{ℕ, zero, suc, _+_, _*_, _/_, _%_, _<_, _≤_, min}
+use Prim.Native.Nat.{ℕ, zero, suc, _+_, _*_, _/_, _%_, _<_, _≤_}
 use mathlib.Core.Bool.{Bool, true, false, not, _&&_}
 use mathlib.Core.List.{List, [], _∷_, map}
 use mathlib.Core.Path.{_≡_, refl, sym, _∙_, ap}
 use native.Mathlib.Omega.{arith}
 use lib.ListN.{length, getD, length-take}
 use lib.Dec.{eqb, leb, ltb}
-use borrow.Author.Tests.{eqb-true, eqb-false, eq-eqb, ne-eqb, ltb-true, leb-true}
+use borrow.Author.Tests.{eqb-true, eqb-false, eq-eqb, ne-eqb}
 use mir.Val.{boolByte}
-use Rattle.octets.specs.Choice.{pick, split, impossible, and-left, and-right, and-no, tests}
-use Rattle.octets.specs.Every.{every, everyRest, every-same}
-use Rattle.octets.specs.Sums.{sumOf, countOf, count-most}
+use Rattle.octets.specs.Choice.{split, and-left, and-right, and-no, tests}
+use Rattle.octets.specs.Every.{every, everyRest}
+use Rattle.octets.specs.Sums.{sumOf, count-most}
 use Rattle.tunnel.specs.Numbering.{places}
 use Rattle.plan.specs.declared.Plan.{Plan}
 use Rattle.plan.specs.Limits.{used, parties, mostPoints}
@@ -26,8 +26,7 @@ use Rattle.session.specs.Session.{isFree, isOn, hasId, recordOk, heldOk, readOk
 use Rattle.session.specs.Keep.{live-of}
 use Rattle.table.specs.declared.Node.{Node}
 use Rattle.table.specs.Rules.{liveOn, live, boundsOf, sameId, sameWait, requests, keepsRules}
-use Rattle.rules.specs.declared.Survey.{Survey}
-use Rattle.rules.specs.Survey.{keyOf, waitOf, unit, weightOf, silent, waitsOf, noSurvey, surveyOf, and-yes}
+use Rattle.rules.specs.Survey.{Survey, keyOf, waitOf, unit, weightOf, silent, waitsOf, noSurvey, surveyOf, and-yes}
 
 -- four counts out of one number
 unfoldable pub unpackedOf : ℕ → List ℕ

@@ -1,7 +1,7 @@
 // A session record: its rules, and every way in which one is made or changed. Later fields are added here.
 ghost use mathlib.Core.Path.{_≡_};
 ghost use Rattle.session.specs.Request.{idle, requestOk, sentOnce, countedDown, spent};
-ghost use Rattle.session.specs.Session.{isFree, hasId, waitsFor, blank, heldOk, phaseOk, recordOk, blankAt, freed, opened, moved, closed, sent, ticked, isDue};
+ghost use Rattle.session.specs.Session.{isFree, waitsFor, blank, heldOk, phaseOk, recordOk, blankAt, freed, opened, moved, closed, sent, ticked, isDue};
 
 // A request of the unit's own: a closing place's Delete Bearer, or the echo.
 #[repr(C)]
@@ -167,13 +167,6 @@ impl Session {
         ensures { λ r. ⌜ r ≡ isFree self ⌝ }
     {
         self.state == Self::FREE
-    }
-
-    // Whether it is the session of an IMSI and EBI.
-    pub fn has_id(self, imsi: u64, ebi: u8) -> bool
-        ensures { λ r. ⌜ r ≡ hasId imsi ebi self ⌝ }
-    {
-        (self.state != Self::FREE) & (self.imsi == imsi) & (self.ebi == ebi)
     }
 
     // Whether its own request awaits a number.

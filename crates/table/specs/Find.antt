@@ -19,19 +19,12 @@ use Rattle.tunnel.specs.declared.Holder.{Holder}
 use Rattle.tunnel.specs.declared.Holder.the-variants as H
 use Rattle.tunnel.specs.Tunnel.{numberAt, holderOf, number-holder, holder-held}
 use Rattle.session.specs.declared.Session.{Session}
-use Rattle.session.specs.Session.{isFree, hasId, waitsFor, blankAt}
+use Rattle.session.specs.Session.{isFree, blankAt}
 use Rattle.table.specs.declared.Found.{Found}
 use Rattle.table.specs.declared.Found.the-variants.{At, Nothing}
-use Rattle.table.specs.declared.Query.{Query}
-use Rattle.table.specs.declared.Query.the-variants as Q
 use Rattle.table.specs.Change.{nobody}
 
 -- ---- by what a record says
-unfoldable pub meets : Query → Session → Bool
-meets Q.Free s = isFree s
-meets (Q.Id imsi ebi) s = hasId imsi ebi s
-meets (Q.Waits number) s = waitsFor number s
-
 -- the lowest place that passes
 unfoldable pub foundIn : (Session → Bool) → List Session → Found
 foundIn p l = pick (ltb (firstOf p l) (length l)) (At (firstOf p l)) Nothing

@@ -1,21 +1,15 @@
-// The table: 64 session records, and what goes with them and counts as table. Finding, changing one record or all; the rules of a whole
-// table are in the crate above.
+// The table: 64 session records, and what goes with them and counts as table; what becomes of a record, and which one a number names. The
+// rules of a whole table are in the crate above.
 use plan::Plan;
-use session::Opening;
-use session::Peers;
 use session::Request;
 use session::Session;
-use tunnel::ControlTeid;
 use tunnel::Holder;
-ghost use mathlib.Core.List.{map};
 ghost use mathlib.Core.Path.{_≡_};
-ghost use lib.ListN.{replicate, getD};
-ghost use Rattle.tunnel.specs.Numbering.{controlOffset};
+ghost use lib.ListN.{replicate};
 ghost use Rattle.session.specs.Session.{blankAt};
-ghost use Rattle.table.specs.Change.{changedAt};
 ghost use Rattle.table.specs.Become.{changedBy};
 ghost use Rattle.table.specs.Own.{freshNode, rested, restarted, hearing, echoTicked};
-ghost use Rattle.table.specs.Find.{meets, foundIn, heldIn, namedPlace, usedBy, ownerOf};
+ghost use Rattle.table.specs.Find.{namedPlace, usedBy};
 
 // What goes with the records: the plan, the stored Recovery, the unit's own echo, and the next sequence number.
 #[repr(C)]
@@ -33,13 +27,6 @@ pub struct Table {
     pub recs: [Session; 64],
 }
 
-// What a record is looked for by.
-pub enum Query {
-    Free,
-    Id { imsi: u64, ebi: u8 },
-    Waits(u32),
-}
-
 // A place, or none.
 pub enum Found {
     At(usize),
@@ -49,8 +36,6 @@ pub enum Found {
 // What is done to a record.
 pub enum Change {
     Free,
-    Open(Opening),
-    Move(Peers),
     Tick(u8),
 }
 
@@ -111,37 +96,14 @@ pub fn rested(interval: u8, r: Request) -> Request
     }
 }
 
-// Whether a record is what is looked for.
-fn meets(s: Session, q: Query) -> bool
-    ensures { λ r. ⌜ r ≡ meets q s ⌝ }
-{
-    match q {
-        Query::Free => s.is_free(),
-        Query::Id { imsi, ebi } => s.has_id(imsi, ebi),
-        Query::Waits(number) => s.waits_for(number),
-    }
-}
-
 // The record with the change made.
 pub fn changed(s: Session, c: Change) -> Session
     ensures { λ r. ⌜ r ≡ changedBy c s ⌝ }
 {
     match c {
         Change::Free => s.freed(),
-        Change::Open(o) => s.opened(o),
-        Change::Move(p) => s.moved(p),
         Change::Tick(most) => s.ticked(most),
     }
-}
-
-// The record of a place; nobody's past the table.
-pub fn record_at(table: Table, place: usize) -> Session
-    ensures { λ r. ⌜ r ≡ getD (table .recs) place (blankAt 0) ⌝ }
-{
-    if place < Table::PLACES {
-        return table.recs[place];
-    }
-    Session::blank_at(0)
 }
 
 // The place that a holder names; 64 where there is none.
@@ -180,68 +142,5 @@ impl Table {
         Table {
             recs: [nobody; Self::PLACES],
         }
-    }
-
-    // The lowest place that is what is looked for.
-    pub fn find(self, q: Query) -> Found
-        ensures { λ r. ⌜ r ≡ foundIn (meets q) (self .recs) ⌝ }
-    {
-        let mut i: usize = 0;
-        while i < Self::PLACES {
-            let s = self.recs[i];
-            let hit = meets(s, q);
-            if hit {
-                return Found::At(i);
-            }
-            i += 1;
-        }
-        Found::Nothing
-    }
-
-    // The place that a number says, if it is taken and in that use.
-    fn held_by(self, h: Holder) -> Found
-        ensures { λ r. ⌜ r ≡ heldIn h (self .recs) ⌝ }
-    {
-        let Holder::At { place, usage: _ } = h else {
-            return Found::Nothing;
-        };
-        if Self::PLACES <= place {
-            return Found::Nothing;
-        }
-        let s = self.recs[place];
-        used_by(h, s)
-    }
-
-    pub fn by_control(self, teid: ControlTeid) -> Found
-        ensures { λ r. ⌜ r ≡ ownerOf controlOffset (teid .0) (self .recs) ⌝ }
-    {
-        let h = teid.holder();
-        self.held_by(h)
-    }
-
-    // One record changed, every other as it was.
-    pub fn change_at(mut self, i: usize, c: Change) -> Self
-        ensures { λ r. ⌜ r .recs ≡ changedAt (changedBy c) i (self .recs) ⌝ }
-    {
-        if i < Self::PLACES {
-            let s = self.recs[i];
-            let n = changed(s, c);
-            self.recs[i] = n;
-        }
-        self
-    }
-
-    // Every record changed.
-    pub fn change_all(mut self, c: Change) -> Self
-        ensures { λ r. ⌜ r .recs ≡ map (changedBy c) (self .recs) ⌝ }
-    {
-        let mut i: usize = 0;
-        while i < Self::PLACES {
-            let s = self.recs[i];
-            let n = changed(s, c);
-            self.recs[i] = n;
-            i += 1;
-        }
-        self
     }
 }

@@ -335,8 +335,8 @@ fn print_verdict(line: u64, kept: bool) {
 // The line is whole: its verdict is printed, and the next begins with the base table.
 fn line_ended(r: Reading) -> Reading {
     let c = r.case;
-    let kept = rules::keeps_rules(c.node, c.table);
-    print_verdict(r.line, kept);
+    let a = lend::tick(c.node, c.table);
+    print_verdict(r.line, a.number != 2);
     started(std::num::wrapping_add_u64(r.line, 1))
 }
 

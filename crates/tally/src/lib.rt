@@ -1,5 +1,4 @@
-// What is read off the records as a whole: the counts of the sharing rule, how many sessions there are, and the number that the next
-// first send takes.
+// What is read off the records as a whole: how many sessions there are, and the number that the next first send takes.
 use session::Request;
 use session::Session;
 use table::Table;
@@ -8,22 +7,7 @@ ghost use mathlib.Core.Path.{_≡_};
 ghost use Rattle.tunnel.specs.Numbering.{places};
 ghost use Rattle.table.specs.Room.{sessions};
 ghost use Rattle.table.specs.Number.{after};
-ghost use Rattle.tally.specs.Tally.{oneOf, countsOf, unclaimed, freeAmong};
-
-// u of each access point, counted from the records.
-pub fn counts(t: Table) -> [u16; 4]
-    ensures { λ r. ⌜ r ≡ countsOf (t .recs) ⌝ }
-{
-    let mut packed: u64 = 0;
-    let mut i: usize = 0;
-    while i < Table::PLACES {
-        let s = t.recs[i];
-        let w = rules::weight(s);
-        packed += w;
-        i += 1;
-    }
-    rules::unpacked(packed)
-}
+ghost use Rattle.tally.specs.Tally.{oneOf, unclaimed, freeAmong};
 
 fn one(s: Session) -> usize
     ensures { λ r. ⌜ r ≡ oneOf s ⌝ }

@@ -1,114 +1,33 @@
-use Prim.Native.Nat.{ℕ, _+_, _-_, _*_, _<_, _≤_}
-use mathlib.Core.Bool.{true, false}
-use mathlib.Core.List.{[], map}
-use mathlib.Core.Path.{_≡_, refl, sym, _∙_}
+use Rattle.glance.specs.Look.{freeFrom, glance-free}
+use lib.ListN.{length}
+use denote.Ref.{now}
 use native.Mathlib.Omega.{arith}
-use borrow.Author.Tests.{not-true, not-false}
+use mathlib.Core.Path.{_≡_, sym}
+use mathlib.Core.Bool.{true}
+use Prim.Native.Nat.{_≤_}
 use borrow.Author.Needs.{needs}
-use lib.ListN.{length, drop, getD, length-replicate, length-drop, drop-of-length-le}
-use Rattle.glance.specs.Digest.{keyIn}
-use Rattle.glance.specs.Over.{Over, over-none, over-more, over-twice, over-all, clash, back, drop-map, length-marks, length-tallied, entersOf}
 use Rattle.glance.proofs.glance_of.Statement.{statement}
 use Rattle.glance.proofs.glance_of.Tie as tie
 use Rattle.glance.proofs.glance_of.Reads as reads
 use Rattle.glance.proofs.glance_of.Lts as lts
-use Rattle.glance.proofs.none.Reads as none-reads
-use Rattle.glance.proofs.note.Reads as note-reads
-use Rattle.glance.proofs.packed.Reads as packed-reads
+use Rattle.glance.proofs.glance_below.Reads as glance-below-reads
+use Rattle.glance.proofs.used.Reads as used-reads
 
-abbrev Inv-loop : tie.InvT-loop
-Inv-loop ds marks₀ flags₀ tallies₀ i₀ marks flags tallies i = (length ds ≡ 64) × ((i ≤ 64) × ((length marks ≡ 1024) × ((length tallies ≡ 4) × Over (drop i ds) marks flags tallies)))
+-- src/lib.rt:287:9
+used-requires : tie.Need-used-requires
+used-requires c κs = search needs
 
-abbrev μ-loop : tie.MeasureT-loop
-μ-loop ds marks₀ flags₀ tallies₀ i₀ marks flags tallies i = i
+-- src/lib.rt:289:9
+returns : tie.Need-returns
+returns c = let ds = now (c .before .before .before .args .ds) in let l : length ds ≡ 64 = c .before .before .before .pre in sym (glance-free ds (omega arith) (rw (c .if1 .taken) at (c .before .used .ensures .1)))
 
--- src/lib.rt:210:5
-loop-holds : tie.Need-loop-holds Inv-loop μ-loop
-loop-holds c = let l : length (c .args .t1) ≡ 64 = c .good .0 .1 .0 .1 in let h : length (c .args .t1) ≤ 64 = omega arith in
-    let d : drop 64 (c .args .t1) ≡ [] = drop-of-length-le (c .args .t1) h in
-    (l, (omega arith, (length-replicate {A = ℕ} 1024 0, (refl, rw d (over-none _)))))
+-- src/lib.rt:296:5
+glance-below-requires : tie.Need-glance-below-requires
+glance-below-requires c κs = search needs
 
--- src/lib.rt:211:20
-sub-d : tie.Need-sub-d Inv-loop μ-loop
-sub-d c = search needs
-
--- src/lib.rt:211:17
-mul-d : tie.Need-mul-d Inv-loop μ-loop
-mul-d c = search needs
-
--- src/lib.rt:211:17
-array-read-d : tie.Need-array-read-d Inv-loop μ-loop
-array-read-d c = search needs
-
--- src/lib.rt:212:24
-slice-aggregate-note : tie.Need-slice-aggregate-note Inv-loop μ-loop
-slice-aggregate-note c = search needs
-
--- src/lib.rt:212:35
-slice-aggregate-note-2 : tie.Need-slice-aggregate-note-2 Inv-loop μ-loop
-slice-aggregate-note-2 c = search needs
-
--- src/lib.rt:212:59
-slice-aggregate-note-3 : tie.Need-slice-aggregate-note-3 Inv-loop μ-loop
-slice-aggregate-note-3 c = search needs
-
--- src/lib.rt:212:13
-note-requires : tie.Need-note-requires Inv-loop μ-loop
-note-requires c κs = (c .before .before .before .before .before .loop .inv .1 .1 .0, c .before .before .before .before .before .loop .inv .1 .1 .1 .0)
-
--- src/lib.rt:214:13
-none-requires : tie.Need-none-requires Inv-loop μ-loop
-none-requires c κs = search needs
-
--- src/lib.rt:214:13
-returns : tie.Need-returns Inv-loop μ-loop
-returns c = let a = c .before .before .before .before .before .before .before .before .before .before .before .args in let k = c .before .before .before .before .before .before .before .before .before .before .loop in
-    let n : length (drop (k .i) (a .t1)) ≤ 64 = let g = k .inv .0 in simp length-drop (omega arith) in
-    let e : entersOf (keyIn (getD (a .t1) (k .i - 1) 0)) (map keyIn (drop (k .i) (a .t1))) (k .marks) ≡ false = rw (← drop-map (k .i) (a .t1), ← c .before .before .before .before .note .ensures .0) (not-true _ (c .before .if1 .taken)) in
-    c .none .ensures ∙ sym (over-twice (a .t1) (k .i) (omega arith) (omega arith) (clash _ _ _ _ _ (k .inv .1 .1 .1 .1) n e))
-
--- src/lib.rt:216:9
-sub-i : tie.Need-sub-i Inv-loop μ-loop
-sub-i c = search needs
-
--- src/lib.rt:210:5
-loop-less : tie.Need-loop-less Inv-loop μ-loop
-loop-less c = search needs
-
--- src/lib.rt:210:5
-loop-again : tie.Need-loop-again Inv-loop μ-loop
-loop-again c = let a = c .before .before .before .before .before .before .before .before .before .before .args in let k = c .before .before .before .before .before .before .before .before .before .loop in let v = k .inv in let g = v .0 in
-    let e : entersOf (keyIn (getD (a .t1) (k .i - 1) 0)) (map keyIn (drop (k .i) (a .t1))) (k .marks) ≡ true = rw (← drop-map (k .i) (a .t1), ← c .before .before .before .note .ensures .0) (not-false _ (c .if1 .left)) in
-    let n : length (drop (k .i) (a .t1)) ≤ 64 = simp length-drop (omega arith) in
-    let m = c .before .before .before .note .ensures .1 in
-    (v .0, (omega arith, (rw (m .0) (length-marks _ _ ∙ v .1 .1 .0), (rw (m .1 .1) (length-tallied _ _ ∙ v .1 .1 .1 .0), rw (back (a .t1) (k .i) (omega arith) (omega arith), m .0, m .1 .0, m .1 .1) (over-more _ _ _ _ _ (v .1 .1 .1 .1) n (v .1 .1 .0) e)))))
-
--- src/lib.rt:218:9
-packed-requires : tie.Need-packed-requires Inv-loop μ-loop
-packed-requires c κs = search needs
-
--- src/lib.rt:203:1
-returns-2 : tie.Need-returns-2 Inv-loop μ-loop
-returns-2 c = let k = c .before .before .loop in let e : k .i ≡ 0 = omega arith in let g = k .inv .0 in let n : length (c .before .before .before .args .t1) ≤ 64 = omega arith in rw (c .packed .ensures) (sym (over-all (c .before .before .before .args .t1) _ _ _ n (rw e at (k .inv .1 .1 .1 .1))))
+-- src/lib.rt:283:1
+returns-2 : tie.Need-returns-2
+returns-2 c = search needs
 
 pub glance-of-spec : {M : Type 1} → statement M
-glance-of-spec =
-    tie.close
-    (tie.spec
-    Inv-loop
-    μ-loop
-    loop-holds
-    sub-d
-    mul-d
-    array-read-d
-    slice-aggregate-note
-    slice-aggregate-note-2
-    slice-aggregate-note-3
-    note-requires
-    none-requires
-    returns
-    sub-i
-    loop-less
-    loop-again
-    packed-requires
-    returns-2)
+glance-of-spec = tie.close (tie.spec used-requires returns glance-below-requires returns-2)

@@ -1,11 +1,10 @@
-use mathlib.Core.Bool.{true, false, _&&_}
-use mathlib.Core.Path.{_≡_}
-use lib.Dec.{eqb}
-use borrow.Author.Tests.{not-true, not-false}
-use borrow.Author.Needs.{needs}
-use Rattle.tunnel.specs.Numbering.{places}
-use Rattle.session.specs.Request.{lastNumber}
 use Rattle.glance.specs.Glance.{keptBut, fromCounts}
+use Rattle.session.specs.Request.{lastNumber}
+use Rattle.tunnel.specs.Numbering.{places}
+use borrow.Author.Tests.{not-true, not-false}
+use lib.Dec.{eqb}
+use mathlib.Core.Path.{_≡_}
+use mathlib.Core.Bool.{true, false, _&&_}
 use borrow.Author.Needs.{needs}
 use Rattle.glance.proofs.kept_but.Statement.{statement}
 use Rattle.glance.proofs.kept_but.Tie as tie
@@ -16,31 +15,31 @@ use Rattle.rules.proofs.unpacked.Reads as unpacked-reads
 use Rattle.session.proofs.Request.fits.Reads as fits-reads
 use Rattle.sharing.proofs.within.Reads as within-reads
 
--- src/lib.rt:247:9
+-- src/lib.rt:380:9
 accepted-requires : tie.Need-accepted-requires
 accepted-requires c κs = search needs
 
--- src/lib.rt:249:9
+-- src/lib.rt:382:9
 returns : tie.Need-returns
 unfolding keptBut places
-returns c = let a = c .before .before .before .before .args in let t : (c .before .before .accepted .result && eqb (a .count) 64 && a .g .good) ≡ false = not-true _ (c .if1 .taken) in rw (rw (c .before .before .accepted .ensures) at t)
+returns c = let a = c .before .before .before .before .before .args in let t : (c .before .before .accepted .result && eqb (a .count) 64 && a .v .glance .good) ≡ false = not-true _ (c .if1 .taken) in rw (rw (c .before .before .accepted .ensures) at t)
 
--- src/lib.rt:251:9
+-- src/lib.rt:384:9
 unpacked-requires : tie.Need-unpacked-requires
 unpacked-requires c κs = search needs
 
--- src/lib.rt:252:9
+-- src/lib.rt:385:9
 within-requires : tie.Need-within-requires
 within-requires c κs = search needs
 
--- src/lib.rt:254:9
+-- src/lib.rt:387:9
 fits-requires : tie.Need-fits-requires
 fits-requires c κs = search needs
 
--- src/lib.rt:243:1
+-- src/lib.rt:375:1
 returns-2 : tie.Need-returns-2
 unfolding keptBut fromCounts lastNumber places
-returns-2 c = let a = c .before .before .before .before .before .before .before .before .before .args in let t : (c .before .before .before .before .before .before .before .accepted .result && eqb (a .count) 64 && a .g .good) ≡ true = not-false _ (c .before .before .before .before .before .if1 .left) in
+returns-2 c = let a = c .before .before .before .before .before .before .before .before .before .before .args in let t : (c .before .before .before .before .before .before .before .accepted .result && eqb (a .count) 64 && a .v .glance .good) ≡ true = not-false _ (c .before .before .before .before .before .if1 .left) in
     rw (rw (c .before .before .before .before .before .before .before .accepted .ensures) at t, c .before .before .before .within .ensures, c .before .before .before .before .unpacked .ensures, c .before .fits2 .ensures)
 
 pub kept-but-spec : {M : Type 1} → statement M

@@ -1,7 +1,6 @@
+use Rattle.glance.specs.Glance.{sight, waitsApart}
+use mathlib.Core.Path.{_≡_}
 use mathlib.Core.Bool.{true, false, _&&_}
-use mathlib.Core.Path.{_≡_, sym, _∙_}
-use borrow.Author.Needs.{needs}
-use Rattle.glance.specs.Glance.{keptBut, sight, waitsApart}
 use borrow.Author.Needs.{needs}
 use Rattle.glance.proofs.seen_loud.Statement.{statement}
 use Rattle.glance.proofs.seen_loud.Tie as tie
@@ -9,48 +8,42 @@ use Rattle.glance.proofs.seen_loud.Reads as reads
 use Rattle.glance.proofs.seen_loud.Lts as lts
 use Rattle.distinct.proofs.absent.Reads as absent-reads
 use Rattle.distinct.proofs.distinct.Reads as distinct-reads
-use Rattle.glance.proofs.kept_but.Reads as kept-but-reads
 use Rattle.rules.proofs.wait.Reads as wait-reads
 
--- src/lib.rt:285:9
-kept-but-requires : tie.Need-kept-but-requires
-kept-but-requires c κs = search needs
-
--- src/lib.rt:286:9
+-- src/lib.rt:410:9
 wait-requires : tie.Need-wait-requires
 wait-requires c κs = search needs
 
--- src/lib.rt:287:34
+-- src/lib.rt:411:34
 slice-aggregate-absent : tie.Need-slice-aggregate-absent
 slice-aggregate-absent c = search needs
 
--- src/lib.rt:287:9
+-- src/lib.rt:411:9
 absent-requires : tie.Need-absent-requires
 absent-requires c κs = search needs
 
--- src/lib.rt:288:35
+-- src/lib.rt:412:35
 slice-aggregate-distinct : tie.Need-slice-aggregate-distinct
 slice-aggregate-distinct c = search needs
 
--- src/lib.rt:288:9
+-- src/lib.rt:412:9
 distinct-requires : tie.Need-distinct-requires
 distinct-requires c κs = search needs
 
--- src/lib.rt:282:1
+-- src/lib.rt:407:1
 returns : tie.Need-returns
 unfolding sight waitsApart
-returns c = let a = c .before .before .before .before .before .before .before .args in let t : (c .before .before .before .before .before .before .kept-but .result && (c .before .before .before .absent .result && c .before .distinct .result)) ≡ true = c .if1 .taken in rw (rw (c .before .before .before .before .before .before .kept-but .ensures, c .before .before .before .absent .ensures, c .before .distinct .ensures, c .before .before .before .before .before .wait .ensures) at t)
+returns c = let a = c .before .before .before .before .before .before .args in let t : (a .kept && (c .before .before .before .absent .result && c .before .distinct .result)) ≡ true = c .if1 .taken in rw (rw (c .before .before .before .absent .ensures, c .before .distinct .ensures, c .before .before .before .before .before .wait .ensures) at t)
 
--- src/lib.rt:282:1
+-- src/lib.rt:407:1
 returns-2 : tie.Need-returns-2
 unfolding sight waitsApart
-returns-2 c = let a = c .before .before .before .before .before .before .before .args in let t : (c .before .before .before .before .before .before .kept-but .result && (c .before .before .before .absent .result && c .before .distinct .result)) ≡ false = c .if1 .left in rw (rw (c .before .before .before .before .before .before .kept-but .ensures, c .before .before .before .absent .ensures, c .before .distinct .ensures, c .before .before .before .before .before .wait .ensures) at t)
+returns-2 c = let a = c .before .before .before .before .before .before .args in let t : (a .kept && (c .before .before .before .absent .result && c .before .distinct .result)) ≡ false = c .if1 .left in rw (rw (c .before .before .before .absent .ensures, c .before .distinct .ensures, c .before .before .before .before .before .wait .ensures) at t)
 
 pub seen-loud-spec : {M : Type 1} → statement M
 seen-loud-spec =
     tie.close
     (tie.spec
-    kept-but-requires
     wait-requires
     slice-aggregate-absent
     absent-requires

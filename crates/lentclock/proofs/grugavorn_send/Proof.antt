@@ -2,6 +2,7 @@
 -- one number of each says who is due, and the record of a place that is sent is read and put back.
 -- Each statement of the MIR stands over its lines. Assumes nothing.
 use mathlib.Core.Path.{_≡_, refl}
+use lib.Dec.{lit<}
 use Prim.Native.Nat.{ℕ}
 use mathlib.Core.Bool.{Bool}
 use mathlib.Core.List.{[], _∷_, List}
@@ -19,7 +20,7 @@ use ghost.Atoms.{Atoms}
 use contract.Monad.{Fun, fact}
 use contract.Running.{givenOf, tables, tablesOf}
 use types.Kit.{Given, Item, ‵, raw, some, later, _⊛_, ⋆, _$_, _∵_, !, qed, by, move, keep, drop, use1, use2, split, join, pick, fsplit, fjoin, feqL, suffices, frame, await, done}
-use types.Run.{look, init, forget, stop, hop, fld, from, load, addr, of-opd, and-then, no-more, assigns, land, returns, enter, alloc1, alloc0, params1, pass1, pass0, free1, free0}
+use types.Run.{look, init, forget, stop, hop, fld, from, load, addr, of-opd, and-then, no-more, assigns, land, returns, enter, alloc1, alloc0, params1, pass1, pass0, free1, free0, lit}
 use types.Part.{agg, whole, sub, look-in}
 use types.Tokens.{lft-new, lft-end}
 use sound.WpLaws.{FmC, fmOf, WpFn-mono}
@@ -201,17 +202,17 @@ module _ {M : Type 1} (𝓤 : URA M) (H : Heap 𝓤) (A : Atoms 𝓤) (W : Given
         assigns ! (addr ! (from ! (fld ! refl (hop ! (look-in ! 44 (sub ! 0 refl (whole !))) (stop !))))) (from ! (stop !)) (init ! 26 refl (tt, tt)) $
         -- _12 = {_11, _2.1}
         assigns ! (agg ! (and-then ! (load ! (from ! (stop !)) (look ! 26 refl)) (and-then ! (load ! (from ! (fld ! refl (stop !))) (look-in ! 44 (sub ! 1 refl (whole !)))) (no-more !)))) (from ! (stop !)) (init ! 24 refl (tt, (tt, (record { fits = room-recs .0 }, tt)))) $
-        -- _4 = seen(_1, _12)
+        -- _4 = seen(_1, _12, 0)
         lft-new ! tt (λ ν. move ! (2 ∷ 4 ∷ []) $
         use2 W (later (some (λ (δ : GName). ‵ (ShrSlice (named 0) (ν ∷ []) S.the-row .own (recs-at δ) (v-recs ∷ [])) ⊛ ‵ (Away S.the-row κ₀ (ν ∷ []) q₀ γ-recs b-recs o-recs ys-recs)))) (goes-out S.the-row κ₀ (ν ∷ []) q₀ γ-recs b-recs o-recs ys-recs 𝓤 H A W (named 0) (named 0)) $ await ! tt $
-        pick ! (λ δ. split ! $ nothing ! $ move ! (3 ∷ 0 ∷ []) $ join ! $ nothing ! $ move ! (2 ∷ 0 ∷ []) $ fjoin ! $ owned ! N.the-row (Is N.the-row) (LL.makes N.the-type N′.the-plain 𝓤 H A) node _ is-node $ fjoin ! $
+        pick ! (λ δ. split ! $ nothing ! $ move ! (3 ∷ 0 ∷ []) $ join ! $ nothing ! $ owned ! u64 (Is u64) (uint-makes 𝓤 H A W w64) 0 _ (refl, lit< tt) $ fjoin ! $ move ! (2 ∷ 0 ∷ []) $ fjoin ! $ owned ! N.the-row (Is N.the-row) (LL.makes N.the-type N′.the-plain 𝓤 H A) node _ is-node $ fjoin ! $
         move ! (1 ∷ 0 ∷ []) $
-        use2 W (raw (Sees 𝓤 H A mem run .pre ((((ν ∷ []), tt), (fullShare, tt), tt, (node, ((recs-at δ), tt)), (v-node ∷ [], (v-recs ∷ [], tt))), tt))) (qed W ((‵ (flft (ν ∷ []) fullShare) ⊛ ‵ ftrue) ∷ ‵ (fsep (N.the-row .own node (v-node ∷ [])) (fsep (ShrSlice (named 0) (ν ∷ []) S.the-row .own (recs-at δ) (v-recs ∷ [])) ftrue)) ∷ []) ∵ join ! $ frame ! $ done !) $
-        calls-at ! fm (Sees 𝓤 H A mem run) known-Sees ((((ν ∷ []), tt), (fullShare, tt), tt, (node, ((recs-at δ), tt)), (v-node ∷ [], (v-recs ∷ [], tt))), tt) (and-then ! (load ! (from ! (stop !)) (look ! 46 refl)) (and-then ! (load ! (from ! (stop !)) (look ! 24 refl)) (no-more !))) (λ w-Sees.
-        use1 W (later (some (λ (r-Sees : Seen). ((‵ (flft (ν ∷ []) fullShare) ⊛ ‵ ftrue) ⊛ ‵ (K.the-row .own r-Sees (w-Sees ∷ []))) ⊛ raw (ensured 𝓤 H A Sees′.ended (Sees′.clauses 𝓤 H A mem run) ((ν ∷ []), tt) (node, ((recs-at δ), tt)) tt r-Sees)))) (id⊢ 𝓤 _) $ await ! tt $
+        use2 W (raw (Sees 𝓤 H A mem run .pre ((((ν ∷ []), tt), (fullShare, tt), tt, (node, ((recs-at δ), (0, tt))), (v-node ∷ [], (v-recs ∷ [], (vint w64 0 ∷ [], tt)))), tt))) (qed W ((‵ (flft (ν ∷ []) fullShare) ⊛ ‵ ftrue) ∷ ‵ (fsep (N.the-row .own node (v-node ∷ [])) (fsep (ShrSlice (named 0) (ν ∷ []) S.the-row .own (recs-at δ) (v-recs ∷ [])) (fsep (u64 .own 0 (vint w64 0 ∷ [])) ftrue))) ∷ []) ∵ join ! $ frame ! $ done !) $
+        calls-at ! fm (Sees 𝓤 H A mem run) known-Sees ((((ν ∷ []), tt), (fullShare, tt), tt, (node, ((recs-at δ), (0, tt))), (v-node ∷ [], (v-recs ∷ [], (vint w64 0 ∷ [], tt)))), tt) (and-then ! (load ! (from ! (stop !)) (look ! 46 refl)) (and-then ! (load ! (from ! (stop !)) (look ! 24 refl)) (and-then ! (lit ! tt) (no-more !)))) (λ w-Sees.
+        use1 W (later (some (λ (r-Sees : Seen). ((‵ (flft (ν ∷ []) fullShare) ⊛ ‵ ftrue) ⊛ ‵ (K.the-row .own r-Sees (w-Sees ∷ []))) ⊛ raw (ensured 𝓤 H A Sees′.ended (Sees′.clauses 𝓤 H A mem run) ((ν ∷ []), tt) (node, ((recs-at δ), (0, tt))) tt r-Sees)))) (id⊢ 𝓤 _) $ await ! tt $
         pick ! (λ r-Sees. split ! $ move ! (1 ∷ []) $
-        use1 W (some (λ (z-Sees : (Unit {0}) × ((Unit {0}) × (Unit {0}))). ‵ (lasts Sees′.ended ((ν ∷ []), tt) (node, ((recs-at δ), tt)) z-Sees) ⊛ raw (fact 𝓤 (r-Sees ≡ seenOf node ((recs-at δ) .now))))) (id⊢ 𝓤 _) $ pick ! (λ z-Sees.
-        split ! $ move ! (1 ∷ []) $ heard ! (r-Sees ≡ seenOf node ((recs-at δ) .now)) (λ e-Sees. fsplit ! $ drop ! $ fsplit ! $ drop ! $ drop ! $ split ! $ split ! $ move ! (1 ∷ []) $ drop ! $ move ! (1 ∷ []) $
+        use1 W (some (λ (z-Sees : (Unit {0}) × ((Unit {0}) × ((Unit {0}) × (Unit {0})))). ‵ (lasts Sees′.ended ((ν ∷ []), tt) (node, ((recs-at δ), (0, tt))) z-Sees) ⊛ raw (fact 𝓤 (r-Sees ≡ seenOf node 0 ((recs-at δ) .now))))) (id⊢ 𝓤 _) $ pick ! (λ z-Sees.
+        split ! $ move ! (1 ∷ []) $ heard ! (r-Sees ≡ seenOf node 0 ((recs-at δ) .now)) (λ e-Sees. fsplit ! $ drop ! $ fsplit ! $ drop ! $ fsplit ! $ drop ! $ drop ! $ split ! $ split ! $ move ! (1 ∷ []) $ drop ! $ move ! (1 ∷ []) $
         peeks ! K.the-row (Is K.the-row) (shows 𝓤 H A K.the-row) r-Sees (w-Sees ∷ []) (λ is-Sees. land ! (from ! (stop !)) (init ! 41 refl (LL.lawful K.the-type K′.the-laws 𝓤 H A W .typed r-Sees _ is-Sees .0)) $ drop ! $ lft-end ! tt $
         use2 W (later (‵ Own-recs ⊛ ‵ (flft κ₀ q₀))) (comes-back S.the-row κ₀ (ν ∷ []) q₀ γ-recs b-recs o-recs ys-recs 𝓤 H A W (named 0) (named 0) room-recs) $ await ! tt $ split ! $
         -- _5 = loud(_4)

@@ -43,6 +43,7 @@ use denote.Triple.Clauses.{ensured, lasts}
 use denote.Triple.Table.{entered, cited}
 use denote.Triple.Walked.{says, Stays, stay-dropped, walkOf, goes-dropped, Walks, ends-at, walked, walk-meets}
 use denote.Exit.{yes}
+use Rattle.lentkit.proofs.Branch.{on-true, off-false}
 use Rattle.session.specs.declared.Session.{Session}
 use Rattle.session.specs.Session.{isFree, blankAt}
 use Rattle.session.proofs.Session as S
@@ -73,15 +74,6 @@ use Rattle.lentrules.proofs.digest_at.Code.Mir as mir
 
 abbrev stayed : Stays (entry′.ended .signature .params) (entry′.ended .kept)
 stayed = (stay-dropped (shrSliceOf (0 ∷ []) tt (plain (λ _. Rec))) yes, (stay-dropped (plain (λ _. usize)) yes, (stay-dropped (plain (λ _. B.the-row)) yes, tt)))
-
--- what a test says in its two branches
-on-true : (t : Bool) → Holds t → t ≡ true
-on-true true _ = refl
-on-true false f = absurd f
-
-off-false : (t : Bool) → Holds (not t) → t ≡ false
-off-false true f = absurd f
-off-false false _ = refl
 
 module _ {M : Type 1} (𝓤 : URA M) (H : Heap 𝓤) (A : Atoms 𝓤) (mem : Memory → SProp 𝓤) (run : Routine → Fun 𝓤) where
   abbrev Free : Contract 𝓤

@@ -126,15 +126,15 @@ module _ {M : Type 1} (𝓤 : URA M) (H : Heap 𝓤) (A : Atoms 𝓤) (W : Given
         qed W ((Toks) ∷ ‵ (owns (N.the-row ∷ (ShrSlice (named 0) κ₀ S.the-row) ∷ []) a at) ∷ []) ∵ enter ! C Λ code.function (v-node ∷ v-recs ∷ []) _ $ alloc1 ! (λ l₀. alloc1 ! (λ l₁. alloc1 ! (λ l₂. alloc1 ! (λ l₃. alloc0 ! $ params1 ! $
         pass1 ! (init ! 4 refl (LL.lawful N.the-type N′.the-laws 𝓤 H A W .typed node _ is-node .0)) $ pass1 ! (init ! 2 refl (tt, (tt, (record { fits = room-recs .0 }, tt)))) $ pass0 ! $ move ! (8 ∷ []) $ split ! $ move ! (1 ∷ []) $
         drop ! $ move ! (9 ∷ []) $ fsplit ! $ drop ! $ fsplit ! $ move ! (1 ∷ []) $ drop ! $
-        -- _3 = seen(_1, _2)
-        use1 W (‵ Own-recs ⊛ ‵ Own-recs) (shr-slice-copy 𝓤 H A W (named 0) κ₀ S.the-row .twice recs (v-recs ∷ [])) $ split ! $ nothing ! $ move ! (3 ∷ 0 ∷ []) $ join ! $ nothing ! $ move ! (3 ∷ 0 ∷ []) $ fjoin ! $
+        -- _3 = seen(_1, _2, 0)
+        use1 W (‵ Own-recs ⊛ ‵ Own-recs) (shr-slice-copy 𝓤 H A W (named 0) κ₀ S.the-row .twice recs (v-recs ∷ [])) $ split ! $ nothing ! $ move ! (3 ∷ 0 ∷ []) $ join ! $ nothing ! $ owned ! u64 (Is u64) (uint-makes 𝓤 H A W w64) 0 _ (refl, lit< tt) $ fjoin ! $ move ! (3 ∷ 0 ∷ []) $ fjoin ! $
         owned ! N.the-row (Is N.the-row) (LL.makes N.the-type N′.the-plain 𝓤 H A) node _ is-node $ fjoin ! $ move ! (1 ∷ 0 ∷ []) $
-        use2 W (raw (Stand 𝓤 H A mem run .pre (((κ₀, tt), (q₀, tt), tt, (node, (recs, tt)), (v-node ∷ [], (v-recs ∷ [], tt))), tt))) (qed W ((‵ (flft κ₀ q₀) ⊛ ‵ ftrue) ∷ ‵ (fsep (N.the-row .own node (v-node ∷ [])) (fsep Own-recs ftrue)) ∷ []) ∵ join ! $ frame ! $ done !) $
-        calls-at ! fm (Stand 𝓤 H A mem run) known-Stand (((κ₀, tt), (q₀, tt), tt, (node, (recs, tt)), (v-node ∷ [], (v-recs ∷ [], tt))), tt) (and-then ! (load ! (from ! (stop !)) (look ! 6 refl)) (and-then ! (load ! (from ! (stop !)) (look ! 4 refl)) (no-more !))) (λ w-Stand.
-        use1 W (later (some (λ (r-Stand : Seen). ((‵ (flft κ₀ q₀) ⊛ ‵ ftrue) ⊛ ‵ (K.the-row .own r-Stand (w-Stand ∷ []))) ⊛ raw (ensured 𝓤 H A Stand′.ended (Stand′.clauses 𝓤 H A mem run) (κ₀, tt) (node, (recs, tt)) tt r-Stand)))) (id⊢ 𝓤 _) $ await ! tt $
+        use2 W (raw (Stand 𝓤 H A mem run .pre (((κ₀, tt), (q₀, tt), tt, (node, (recs, (0, tt))), (v-node ∷ [], (v-recs ∷ [], (vint w64 0 ∷ [], tt)))), tt))) (qed W ((‵ (flft κ₀ q₀) ⊛ ‵ ftrue) ∷ ‵ (fsep (N.the-row .own node (v-node ∷ [])) (fsep Own-recs (fsep (u64 .own 0 (vint w64 0 ∷ [])) ftrue))) ∷ []) ∵ join ! $ frame ! $ done !) $
+        calls-at ! fm (Stand 𝓤 H A mem run) known-Stand (((κ₀, tt), (q₀, tt), tt, (node, (recs, (0, tt))), (v-node ∷ [], (v-recs ∷ [], (vint w64 0 ∷ [], tt)))), tt) (and-then ! (load ! (from ! (stop !)) (look ! 6 refl)) (and-then ! (load ! (from ! (stop !)) (look ! 4 refl)) (and-then ! (lit ! tt) (no-more !)))) (λ w-Stand.
+        use1 W (later (some (λ (r-Stand : Seen). ((‵ (flft κ₀ q₀) ⊛ ‵ ftrue) ⊛ ‵ (K.the-row .own r-Stand (w-Stand ∷ []))) ⊛ raw (ensured 𝓤 H A Stand′.ended (Stand′.clauses 𝓤 H A mem run) (κ₀, tt) (node, (recs, (0, tt))) tt r-Stand)))) (id⊢ 𝓤 _) $ await ! tt $
         pick ! (λ r-Stand. split ! $ move ! (1 ∷ []) $
-        use1 W (some (λ (z-Stand : (Unit {0}) × ((Unit {0}) × (Unit {0}))). ‵ (lasts Stand′.ended (κ₀, tt) (node, (recs, tt)) z-Stand) ⊛ raw (fact 𝓤 (r-Stand ≡ seenOf node (recs .now))))) (id⊢ 𝓤 _) $ pick ! (λ z-Stand. split ! $
-        move ! (1 ∷ []) $ heard ! (r-Stand ≡ seenOf node (recs .now)) (λ e-Stand. fsplit ! $ drop ! $ fsplit ! $ drop ! $ drop ! $ split ! $ split ! $ move ! (1 ∷ []) $ drop ! $ move ! (1 ∷ []) $
+        use1 W (some (λ (z-Stand : (Unit {0}) × ((Unit {0}) × ((Unit {0}) × (Unit {0})))). ‵ (lasts Stand′.ended (κ₀, tt) (node, (recs, (0, tt))) z-Stand) ⊛ raw (fact 𝓤 (r-Stand ≡ seenOf node 0 (recs .now))))) (id⊢ 𝓤 _) $ pick ! (λ z-Stand. split ! $
+        move ! (1 ∷ []) $ heard ! (r-Stand ≡ seenOf node 0 (recs .now)) (λ e-Stand. fsplit ! $ drop ! $ fsplit ! $ drop ! $ fsplit ! $ drop ! $ drop ! $ split ! $ split ! $ move ! (1 ∷ []) $ drop ! $ move ! (1 ∷ []) $
         peeks ! K.the-row (Is K.the-row) (shows 𝓤 H A K.the-row) r-Stand (w-Stand ∷ []) (λ is-Stand. land ! (from ! (stop !)) (init ! 3 refl (LL.lawful K.the-type K′.the-laws 𝓤 H A W .typed r-Stand _ is-Stand .0)) $ drop ! $
         -- _0 = how_of(_3)
         nothing ! $ nothing ! $ owned ! K.the-row (Is K.the-row) (LL.makes K.the-type K′.the-plain 𝓤 H A) r-Stand _ is-Stand $ fjoin ! $ move ! (1 ∷ 0 ∷ []) $
@@ -147,7 +147,7 @@ module _ {M : Type 1} (𝓤 : URA M) (H : Heap 𝓤) (A : Atoms 𝓤) (W : Given
         -- return
         returns ! (look ! 9 refl) $ forget ! 3 refl $ forget ! 5 refl $ forget ! 7 refl $ forget ! 9 refl $
         move ! (9 ∷ 10 ∷ []) $ free1 ! $ move ! (7 ∷ 8 ∷ []) $ free1 ! $ move ! (5 ∷ 6 ∷ []) $ free1 ! $ move ! (3 ∷ 4 ∷ []) $ free1 ! $ free0 ! $ nothing ! $ move ! (2 ∷ 0 ∷ []) $ join ! $ keep ! (0 ∷ 1 ∷ []) $
-        by ! (exits r-By w-By (e-By ∙ ap (λ (z : Seen). z .how) e-Stand ∙ seen-how node (recs .now)))))))))))))))))
+        by ! (exits r-By w-By (e-By ∙ ap (λ (z : Seen). z .how) e-Stand ∙ seen-how node 0 (recs .now)))))))))))))))))
 
 module _ {M : Type 1} (𝓤 : URA M) (H : Heap 𝓤) (A : Atoms 𝓤) (W : Given 𝓤 H A) (mem : Memory → SProp 𝓤) (run : Routine → Fun 𝓤) where
   standing-walks : (C : Calls 𝓤 H) (Λ : Loops 𝓤 H) → FmC 𝓤 H (W .laws) C → Triple 𝓤 (C #lentrules·seen) (Stand 𝓤 H A mem run) → Triple 𝓤 (C #glance·how-of) (By 𝓤 H A mem run)

@@ -2,24 +2,46 @@ use Rattle.openings.specs.Openings.{sightOf}
 use borrow.Author.Needs.{needs}
 use Rattle.openings.proofs.sight_of.Statement.{statement}
 use Rattle.openings.proofs.sight_of.Tie as tie
+use Rattle.openings.proofs.sight_of.Reads as reads
+use Rattle.openings.proofs.sight_of.Lts as lts
+use Rattle.glance.proofs.stands.Reads as stands-reads
+use Rattle.openings.proofs.old_by.Reads as old-by-reads
+use Rattle.openings.proofs.sight_by.Reads as sight-by-reads
+use Rattle.wishes.proofs.aim_of.Reads as aim-of-reads
+use Rattle.wishes.proofs.restarts_in.Reads as restarts-in-reads
 
-key-of-requires : tie.Need-key-of-requires
-key-of-requires c κs = search needs
-
+-- src/lib.rt:86:9
 stands-requires : tie.Need-stands-requires
 stands-requires c κs = search needs
 
-key-place-requires : tie.Need-key-place-requires
-key-place-requires c κs = search needs
+-- src/lib.rt:87:9
+restarts-in-requires : tie.Need-restarts-in-requires
+restarts-in-requires c κs = search needs
 
-free-place-requires : tie.Need-free-place-requires
-free-place-requires c κs = search needs
+-- src/lib.rt:88:9
+aim-of-requires : tie.Need-aim-of-requires
+aim-of-requires c κs = search needs
 
+-- src/lib.rt:91:9
+old-by-requires : tie.Need-old-by-requires
+old-by-requires c κs = search needs
+
+-- src/lib.rt:92:5
+sight-by-requires : tie.Need-sight-by-requires
+sight-by-requires c κs = search needs
+
+-- src/lib.rt:83:1
 returns : tie.Need-returns
 unfolding sightOf
-returns c = rw (c .free-place .ensures, c .before .before .before .before .key-place .ensures, c .before .before .before .before .before .before .before .before .stands .ensures, c .before .before .before .before .before .before .before .before .before .key-of .ensures)
+returns c = rw (c .sight-by .ensures, c .before .old-by .ensures, c .before .before .before .before .aim-of .ensures, c .before .before .before .before .before .restarts-in .ensures, c .before .before .before .before .before .before .stands .ensures)
 
 pub sight-of-spec : {M : Type 1} → statement M
 sight-of-spec =
     tie.close
-    (tie.spec key-of-requires stands-requires key-place-requires free-place-requires returns)
+    (tie.spec
+    stands-requires
+    restarts-in-requires
+    aim-of-requires
+    old-by-requires
+    sight-by-requires
+    returns)

@@ -1,46 +1,58 @@
-use borrow.Author.Tests.{not-true, not-false, lt-ltb, le-ltb}
-use Rattle.timing.specs.Timing.{leastReply}
+use borrow.Author.Tests.{eq-eqb, ne-eqb}
 use Rattle.single.specs.Single.{singleOf}
 use borrow.Author.Needs.{needs}
 use Rattle.single.proofs.take_single.Statement.{statement}
 use Rattle.single.proofs.take_single.Tie as tie
+use Rattle.single.proofs.take_single.Reads as reads
+use Rattle.single.proofs.take_single.Lts as lts
+use Rattle.single.proofs.bearer_on.Reads as bearer-on-reads
+use Rattle.single.proofs.delete_on.Reads as delete-on-reads
+use Rattle.single.proofs.modify_on.Reads as modify-on-reads
 
-refused-requires : tie.Need-refused-requires
-refused-requires c κs = search needs
+-- src/lib.rt:183:9
+modify-on-requires : tie.Need-modify-on-requires
+modify-on-requires c κs = search needs
 
-returns : tie.Need-returns
-unfolding singleOf leastReply
-returns c = rw (lt-ltb _ _ (c .before .if1 .taken), c .refused .ensures)
-
-refused-requires-2 : tie.Need-refused-requires-2
-refused-requires-2 c κs = search needs
-
-returns-2 : tie.Need-returns-2
-unfolding singleOf leastReply
-returns-2 c = rw (le-ltb _ _ (c .before .before .if1 .left), not-true (c .before .before .before .before .before .args .kept) (c .before .if2 .taken), c .refused2 .ensures)
-
-gate-requires : tie.Need-gate-requires
-gate-requires c κs = search needs
-
-gate-on-requires : tie.Need-gate-on-requires
-gate-on-requires c κs = search needs
-
+-- src/lib.rt:183:9
 same-length : tie.Need-same-length
 same-length c = search needs
 
+-- src/lib.rt:183:9
+returns : tie.Need-returns
+unfolding singleOf
+returns c = rw (eq-eqb _ _ (c .before .before .before .before .if1 .taken)) (c .before .before .modify-on .ensures)
+
+-- src/lib.rt:186:9
+delete-on-requires : tie.Need-delete-on-requires
+delete-on-requires c κs = search needs
+
+-- src/lib.rt:186:9
+same-length-2 : tie.Need-same-length-2
+same-length-2 c = search needs
+
+-- src/lib.rt:186:9
+returns-2 : tie.Need-returns-2
+unfolding singleOf
+returns-2 c = rw (ne-eqb _ _ (c .before .before .before .before .before .if1 .left), eq-eqb _ _ (c .before .before .before .before .if2 .taken)) (c .before .before .delete-on .ensures)
+
+-- src/lib.rt:188:5
+bearer-on-requires : tie.Need-bearer-on-requires
+bearer-on-requires c κs = search needs
+
+-- src/lib.rt:178:1
 returns-3 : tie.Need-returns-3
-unfolding singleOf leastReply
-returns-3 c = rw (le-ltb _ _ (c .before .before .before .before .before .before .if1 .left), not-false (c .before .before .before .before .before .before .before .before .before .args .kept) (c .before .before .before .before .before .if2 .left), ← c .before .before .before .before .gate .ensures) (c .before .before .gate-on .ensures)
+unfolding singleOf
+returns-3 c = rw (ne-eqb _ _ (c .before .before .if1 .left), ne-eqb _ _ (c .before .if2 .left), c .bearer-on .ensures)
 
 pub take-single-spec : {M : Type 1} → statement M
 take-single-spec =
     tie.close
     (tie.spec
-    refused-requires
-    returns
-    refused-requires-2
-    returns-2
-    gate-requires
-    gate-on-requires
+    modify-on-requires
     same-length
+    returns
+    delete-on-requires
+    same-length-2
+    returns-2
+    bearer-on-requires
     returns-3)

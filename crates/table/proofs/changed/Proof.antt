@@ -2,6 +2,10 @@ use Rattle.table.specs.Become.{changedBy}
 use borrow.Author.Needs.{needs}
 use Rattle.table.proofs.changed.Statement.{statement}
 use Rattle.table.proofs.changed.Tie as tie
+use Rattle.table.proofs.changed.Reads as reads
+use Rattle.table.proofs.changed.Lts as lts
+use Rattle.session.proofs.Session.freed.Reads as freed-reads
+use Rattle.session.proofs.Session.ticked.Reads as ticked-reads
 
 enum-told : tie.Need-enum-told
 enum-told c = search needs
@@ -12,18 +16,6 @@ freed-requires c κs = search needs
 enum-known-c : tie.Need-enum-known-c
 enum-known-c c = search needs
 
-opened-requires : tie.Need-opened-requires
-opened-requires c κs = search needs
-
-enum-known-c-2 : tie.Need-enum-known-c-2
-enum-known-c-2 c = search needs
-
-moved-requires : tie.Need-moved-requires
-moved-requires c κs = search needs
-
-enum-known-c-3 : tie.Need-enum-known-c-3
-enum-known-c-3 c = search needs
-
 ticked-requires : tie.Need-ticked-requires
 ticked-requires c κs = search needs
 
@@ -33,29 +25,8 @@ returns c = rw (c .freed .ensures, c .before .enum-told .given .1)
 
 returns-2 : tie.Need-returns-2
 unfolding changedBy
-returns-2 c = rw (c .opened .ensures, c .before .before .c .given .1)
-
-returns-3 : tie.Need-returns-3
-unfolding changedBy
-returns-3 c = rw (c .moved .ensures, c .before .before .c2 .given .1)
-
-returns-4 : tie.Need-returns-4
-unfolding changedBy
-returns-4 c = rw (c .ticked .ensures, c .before .before .c3 .given .1)
+returns-2 c = rw (c .ticked .ensures, c .before .before .c .given .1)
 
 pub changed-spec : {M : Type 1} → statement M
 changed-spec =
-    tie.close
-    (tie.spec
-    enum-told
-    freed-requires
-    enum-known-c
-    opened-requires
-    enum-known-c-2
-    moved-requires
-    enum-known-c-3
-    ticked-requires
-    returns
-    returns-2
-    returns-3
-    returns-4)
+    tie.close (tie.spec enum-told freed-requires enum-known-c ticked-requires returns returns-2)

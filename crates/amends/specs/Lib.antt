@@ -1,2 +1,0 @@
-pub mod Amends
-pub mod Kept

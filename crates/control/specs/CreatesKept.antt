@@ -1,0 +1,141 @@
+-- Create keeps the table rules: a table that kept them before keeps them after, whatever came and whatever it was answered.
+-- Assumes nothing.
+use Prim.Native.Nat.{ℕ, _%_, _<_, _≤_}
+use mathlib.Core.Bool.{Bool, true, false, not, _&&_}
+use mathlib.Core.List.{List}
+use mathlib.Core.Path.{_≡_, refl, sym, _∙_}
+use native.Mathlib.Omega.{arith}
+use lib.ListN.{length, getD}
+use lib.Dec.{eqb, leb, ltb}
+use borrow.Author.Tests.{lt-ltb, le-leb, ne-eqb, ltb-true, ltb-false}
+use Rattle.octets.specs.Choice.{pick, split}
+use Rattle.octets.specs.Sums.{countOf}
+use Rattle.octets.specs.Search.{firstOf, first-none}
+use Rattle.plan.specs.declared.Plan.{Plan}
+use Rattle.plan.specs.Limits.{parties}
+use Rattle.plan.specs.Plan.{accepted}
+use Rattle.sharing.specs.Sharing.{admits}
+use Rattle.session.specs.declared.Request.{Request}
+use Rattle.session.specs.declared.Session.{Session}
+use Rattle.session.specs.declared.Opening.{Opening}
+use Rattle.session.specs.Session.{isFree, hasId, freed, opened, readOk, imsis, lastCreated}
+use Rattle.session.specs.Keep.{openingOk}
+use Rattle.table.specs.declared.Node.{Node}
+use Rattle.table.specs.declared.Table.{Table}
+use Rattle.table.specs.declared.Found.{Found}
+use Rattle.table.specs.declared.Found.the-variants as F
+use Rattle.table.specs.Rules.{keepsRules, Rules, rules-of, rules-to, boundsOf, live}
+use Rattle.table.specs.Change.{nobody, changedAt, rules-freed}
+use Rattle.table.specs.Find.{foundIn, found-is}
+use Rattle.table.specs.Open.{replaced, replaced-none, rules-opened}
+use Rattle.rules.specs.Check.{parties-four}
+use Rattle.values.specs.Imsi.{imsiLimit}
+use Rattle.readers.specs.declared.Recovery.{Recovery}
+use Rattle.readers.specs.declared.Recovery.the-variants as R
+use Rattle.requests.specs.declared.Create as C
+use Rattle.requests.specs.declared.Decoded.{Decoded}
+use Rattle.requests.specs.declared.Decoded.the-variants as D
+use Rattle.requests.specs.declared.Request.the-variants as Q
+use Rattle.requests.specs.Create.{createOf, replyTo, CreateSound, create-sound}
+use Rattle.timing.specs.declared.Answer.{Answer}
+use Rattle.timing.specs.Timing.{Outcome, outcome, held, refused}
+use Rattle.control.specs.Amends.{causeTaken}
+use Rattle.control.specs.Echoes.{heardBy, heard-keeps}
+use Rattle.table.specs.Own.{hearing}
+use Rattle.control.specs.Creates.{openingOf, acceptedTaken, openedAt, shared, isRepeat, settledAt, heardCreate, createBy, createTaken}
+
+-- ---- what is opened is as the record's rule will have it
+opening-ok : (p : Plan) (c : C.Create) (seq : ℕ) → accepted p ≡ true → CreateSound (parties p) c → seq ≤ lastCreated → openingOk (boundsOf p) (openingOf c seq) ≡ true
+unfolding openingOk openingOf readOk boundsOf imsis
+opening-ok p c seq a s h =
+    let f = parties-four p a in
+    let q = s .point in
+    let m : c .point % 256 ≡ c .point = omega arith in
+    let i = s .imsi in
+    let x = s .control in
+    let y = s .user in
+    rw (
+      m,
+      lt-ltb (c .point) (parties p) q,
+      lt-ltb (c .imsi) 1000000000000000 i,
+      le-leb 5 (c .ebi) (s .low),
+      le-leb (c .ebi) 15 (s .high),
+      ne-eqb (c .control) 0 (λ z. omega arith),
+      ne-eqb (c .user) 0 (λ z. omega arith),
+      le-leb seq lastCreated h,
+    )
+
+opening-point : (p : Plan) (c : C.Create) (seq : ℕ) → accepted p ≡ true → CreateSound (parties p) c → openingOf c seq .point ≡ c .point
+unfolding openingOf
+opening-point p c seq a s = let f = parties-four p a in let q = s .point in omega arith
+
+-- none found: none has it
+found-none-count : (p : Session → Bool) (l : List Session) → foundIn p l ≡ F.Nothing → countOf p l ≡ 0
+unfolding foundIn
+found-none-count p l e =
+    split (ltb (firstOf p l) (length l))
+    (λ t. let f : F.At (firstOf p l) ≡ F.Nothing = rw t at e in let z : _≡_ {A = ℕ} 0 1 = cc in absurd (omega arith))
+    (λ t. first-none p l (ltb-false (firstOf p l) (length l) t))
+
+-- ---- the sharing rule and the place, on any table that keeps its rules and has nobody with the IMSI and EBI
+module _ (c : C.Create) (seq : ℕ) (small : seq ≤ lastCreated) (node₀ : Node) (t₀ : Table) (e₀ : keepsRules node₀ (t₀ .recs) ≡ true) (reply : List ℕ) where
+  shared-keeps : (node : Node) (t : Table) → keepsRules node (t .recs) ≡ true → CreateSound (parties (node .plan)) c → countOf (hasId (c .imsi) (c .ebi)) (t .recs) ≡ 0
+      → keepsRules (shared c seq node t node₀ t₀ reply .answer .node) (shared c seq node t node₀ t₀ reply .answer .table .recs) ≡ true
+  unfolding shared openedAt acceptedTaken causeTaken refused held openingOf
+  shared-keeps node t e s none =
+      split (admits (node .plan) (live (t .recs)) (c .point)) (λ q. rw q (place (foundIn isFree (t .recs)) refl q)) (λ q. rw q e)
+    where
+      r : Rules (node .plan) (node .echo) (node .next) (t .recs)
+      r = rules-of node (t .recs) e
+
+      opens : (i : ℕ) → foundIn isFree (t .recs) ≡ F.At i → admits (node .plan) (live (t .recs)) (c .point) ≡ true
+          → keepsRules node (changedAt (opened (openingOf c seq)) i (t .recs)) ≡ true
+      opens i f q =
+          let g = found-is isFree (t .recs) i f in
+          let w : admits (node .plan) (live (t .recs)) (openingOf c seq .point) ≡ true = rw (opening-point (node .plan) c seq (r .planned) s) q in
+          rules-to node (changedAt (opened (openingOf c seq)) i (t .recs))
+          (rules-opened (node .plan) (node .echo) (node .next) (t .recs) r (openingOf c seq) i (g .0) (g .1 .1) (opening-ok (node .plan) c seq (r .planned) s small) none w)
+
+      place : (f : Found) → foundIn isFree (t .recs) ≡ f → admits (node .plan) (live (t .recs)) (c .point) ≡ true
+          → keepsRules (openedAt f c seq node t node₀ t₀ reply .answer .node) (openedAt f c seq node t node₀ t₀ reply .answer .table .recs) ≡ true
+      place F.Nothing f q = e₀
+      place (F.At i) f q = opens i f q
+
+  settled-keeps : (node : Node) (t : Table) → keepsRules node (t .recs) ≡ true → CreateSound (parties (node .plan)) c → (f : Found) → foundIn (hasId (c .imsi) (c .ebi)) (t .recs) ≡ f
+      → keepsRules (settledAt f c seq node t node₀ t₀ reply .answer .node) (settledAt f c seq node t node₀ t₀ reply .answer .table .recs) ≡ true
+  unfolding settledAt acceptedTaken held replaced
+  settled-keeps node t e s F.Nothing q = shared-keeps node t e s (found-none-count (hasId (c .imsi) (c .ebi)) (t .recs) q)
+  settled-keeps node t e s (F.At i) q =
+      split (isRepeat c seq (getD (t .recs) i nobody)) (λ x. rw x e) (λ x. rw x (shared-keeps node (held (changedAt freed i (t .recs))) kept s gone))
+    where
+      r : Rules (node .plan) (node .echo) (node .next) (t .recs)
+      r = rules-of node (t .recs) e
+
+      kept : keepsRules node (changedAt freed i (t .recs)) ≡ true
+      kept = rules-to node (changedAt freed i (t .recs)) (rules-freed (node .plan) (node .echo) (node .next) (t .recs) r i)
+
+      gone : countOf (hasId (c .imsi) (c .ebi)) (changedAt freed i (t .recs)) ≡ 0
+      gone =
+          let k = found-is (hasId (c .imsi) (c .ebi)) (t .recs) i q .1 .0 in
+          rw k (replaced-none (node .plan) (node .echo) (node .next) (t .recs) r (c .imsi) (c .ebi))
+
+-- the plan stays what it was when a Recovery value is heard
+heard-plan : (r : Recovery) (node : Node) (t : Table) → heardBy r node t .node .plan ≡ node .plan
+unfolding heardBy refused hearing
+heard-plan R.None node t = refl
+heard-plan (R.Value value) node t = refl
+
+pub create-keeps : (node : Node) (t : Table) (seq : ℕ) (rest reply : List ℕ) → keepsRules node (t .recs) ≡ true → seq ≤ lastCreated
+    → keepsRules (createTaken node t seq rest reply .answer .node) (createTaken node t seq rest reply .answer .table .recs) ≡ true
+unfolding createTaken createBy heardCreate causeTaken
+create-keeps node t seq rest reply e small = by (createOf (node .plan) rest) refl
+  where
+    by : (d : Decoded) → createOf (node .plan) rest ≡ d
+        → keepsRules (createBy d seq (replyTo rest) node t reply .answer .node) (createBy d seq (replyTo rest) node t reply .answer .table .recs) ≡ true
+    by (D.Refused w) q = e
+    by (D.Sound (Q.Create c)) q =
+        settled-keeps c seq small node t e reply (heardBy (c .recovery) node t .node) (heardBy (c .recovery) node t .table) (heard-keeps node t e (c .recovery))
+        (rw (heard-plan (c .recovery) node t) (create-sound (node .plan) rest c q))
+        (foundIn (hasId (c .imsi) (c .ebi)) (heardBy (c .recovery) node t .table .recs)) refl
+    by (D.Sound (Q.Modify m)) q = e
+    by (D.Sound (Q.Delete d)) q = e

@@ -1,2 +1,0 @@
-pub mod Creates
-pub mod Kept

@@ -1,0 +1,203 @@
+-- What a Create comes to on two records is what it comes to on the whole table, whatever the records were that were lent.
+-- Assumes nothing.
+use Prim.Native.Nat.{ℕ, _<_, _≤_}
+use mathlib.Core.Bool.{true, false}
+use mathlib.Core.List.{List}
+use mathlib.Core.Path.{_≡_, refl, sym, ap, _∙_}
+use native.Mathlib.Omega.{arith}
+use lib.ListN.{length, getD, set, length-set}
+use lib.Seq.{set-getD, set-out, getD-set-same, getD-set-other}
+use lib.Dec.{eqb, ltb}
+use borrow.Author.Tests.{eqb-true, eqb-false, lt-ltb, le-ltb, ltb-true, ltb-false}
+use Rattle.octets.specs.Choice.{split}
+use Rattle.octets.specs.Sums.{sumOf}
+use Rattle.octets.specs.Search.{firstOf, first-most}
+use Rattle.tunnel.specs.Numbering.{places}
+use Rattle.sharing.specs.Sharing.{admits}
+use Rattle.session.specs.declared.Session.{Session}
+use Rattle.session.specs.declared.Opening.{Opening}
+use Rattle.session.specs.Session.{isFree, hasId, freed, opened, blankAt}
+use Rattle.table.specs.declared.Node.{Node}
+use Rattle.table.specs.declared.Table.{Table}
+use Rattle.table.specs.declared.Found.the-variants as F
+use Rattle.table.specs.Rules.{keepsRules, Rules, rules-of, live}
+use Rattle.table.specs.Change.{nobody, changedAt, rules-freed, changed-out}
+use Rattle.table.specs.Find.{foundIn}
+use Rattle.table.specs.Room.{freePlace, place-free}
+use Rattle.table.specs.Own.{hearing}
+use Rattle.rules.specs.Survey.{weightOf}
+use Rattle.rules.specs.Check.{parties-four}
+use Rattle.readers.specs.declared.Recovery.{Recovery}
+use Rattle.readers.specs.declared.Recovery.the-variants as R
+use Rattle.requests.specs.declared.Create as C
+use Rattle.timing.specs.Timing.{Outcome, outcome, held}
+use Rattle.control.specs.Echoes.{heardNode}
+use Rattle.control.specs.Amends.{causeTaken}
+use Rattle.control.specs.Creates.{openingOf, acceptedTaken, noRoom, openedAt, shared, isRepeat, settledAt}
+use Rattle.openings.specs.declared.Sight.{Sight}
+use Rattle.openings.specs.declared.Pair.{Pair}
+use Rattle.openings.specs.Openings.{repeatsAt, roomFor, openPlace, pairBy, pairWith, Made, unmovedOn, fullOn, enteredOn, openOn}
+use Rattle.openings.specs.Places.{free-then, room-then}
+
+-- the answer with the Recovery stored, and with the two records put back in their places
+unfoldable pub placedTwo : Node → Pair → List Session → Made → Outcome
+placedTwo node p l m = outcome
+    (record {
+      number = m .answer .number;
+      size = m .answer .size;
+      node = heardNode (m .answer .heard) node;
+      table = held (set (set l (p .old) (m .answer .old)) (p .new) (m .answer .new));
+    })
+    (m .reply)
+
+-- a Recovery that is stored leaves the plan
+pub heard-plan : (r : Recovery) (node : Node) → heardNode r node .plan ≡ node .plan
+unfolding heardNode hearing
+heard-plan R.None node = refl
+heard-plan (R.Value value) node = refl
+
+-- a record opened says nothing of what it was but its use
+pub opened-freed : (o : Opening) (s : Session) → opened o (freed s) ≡ opened o s
+unfolding opened freed blankAt
+opened-freed o s = refl
+
+opened-then : (o : Opening) (l : List Session) (p q : ℕ) → opened o (getD (changedAt freed p l) q nobody) ≡ opened o (getD l q nobody)
+unfolding changedAt
+opened-then o l p q = split (eqb p q)
+    (λ e. let z = eqb-true p q e in rw (← z) same)
+    (λ e. rw (getD-set-other l p q (freed (getD l p nobody)) nobody (λ z. eqb-false p q e (sym z))))
+  where
+    same : opened o (getD (set l p (freed (getD l p nobody))) p nobody) ≡ opened o (getD l p nobody)
+    same = split (ltb p (length l))
+        (λ e. rw (getD-set-same l p (freed (getD l p nobody)) nobody (ltb-true p (length l) e)) (opened-freed o (getD l p nobody)))
+        (λ e. rw (set-out l p (freed (getD l p nobody)) (ltb-false p (length l) e)))
+
+-- both records put back as they were
+pub stays : (l : List Session) (p q : ℕ) → set (set l p (getD l p nobody)) q (getD l q nobody) ≡ l
+stays l p q = rw (set-getD l p nobody) (set-getD l q nobody)
+
+-- ---- a Create, once Recovery is heard, on a table that keeps its rules; whatever was lent
+module _ (node : Node) (l : List Session) (k : keepsRules node l ≡ true) (c : C.Create) (seq : ℕ) (g : Sight)
+    (old : g .old ≡ firstOf (hasId (c .imsi) (c .ebi)) l) (free : g .free ≡ firstOf isFree l)
+    (counts : g .counts ≡ sumOf weightOf l) (reply : List ℕ) (node₀ : Node) (t₀ : Table) where
+  abbrev s : Session
+  s = getD l (g .old) nobody
+
+  abbrev then′ : List Session
+  then′ = changedAt freed (g .old) l
+
+  abbrev after : Node
+  after = heardNode (c .recovery) node
+
+  abbrev new : ℕ
+  new = openPlace g node c seq s
+
+  -- the two records where q is the place that is opened, and what that comes to
+  abbrev pairAt : ℕ → Pair
+  pairAt q = pairWith g l q
+
+  abbrev comes : ℕ → Outcome
+  comes q = placedTwo node (pairAt q) l (openOn c seq node (pairAt q) reply)
+
+  abbrev o : Opening
+  o = openingOf c seq
+
+  rules : Rules (node .plan) (node .echo) (node .next) l
+  rules = rules-of node l k
+
+  rules-then : Rules (node .plan) (node .echo) (node .next) then′
+  rules-then = rules-freed (node .plan) (node .echo) (node .next) l rules (g .old)
+
+  inside : g .old ≤ length l
+  inside = rw old (first-most (hasId (c .imsi) (c .ebi)) l)
+
+  sixty-four : length l ≡ 64
+  unfolding places
+  sixty-four = rules .size
+
+  room : roomFor (node .plan) (g .counts) s (c .point) ≡ admits (node .plan) (live then′) (c .point)
+  room =
+      let n = sixty-four in
+      rw counts (room-then l (g .old) inside (omega arith) (node .plan) (c .point) (parties-four (node .plan) (rules .planned)))
+
+  -- ---- the three ways that it can go
+  repeat-same : repeatsAt (g .old) c seq s ≡ true → acceptedTaken seq (g .old) s after (held l) reply ≡ comes places
+  unfolding acceptedTaken openOn pairBy unmovedOn placedTwo
+  repeat-same r = rw (r, stays l (g .old) places, heard-plan (c .recovery) node)
+
+  entered-same : (q : ℕ) → repeatsAt (g .old) c seq s ≡ false → q < places
+      → acceptedTaken seq q (opened o (getD then′ q nobody)) after (held (changedAt (opened o) q then′)) reply ≡ comes q
+  unfolding acceptedTaken openOn pairBy enteredOn placedTwo changedAt
+  entered-same q r h = rw (r, lt-ltb q places h, opened-then o l (g .old) q, heard-plan (c .recovery) node)
+
+  full-same : repeatsAt (g .old) c seq s ≡ false → causeTaken 33 (c .control) seq noRoom after (held then′) reply ≡ comes places
+  unfolding causeTaken openOn pairBy fullOn placedTwo changedAt
+  full-same r =
+      let n = rules .size in
+      let m = length-set l (g .old) (freed s) in
+      rw (r, le-ltb places places (omega arith), set-out (set l (g .old) (freed s)) places (getD l places nobody) (omega arith))
+
+  -- ---- which way: the sharing rule, and the place
+  new-repeat : repeatsAt (g .old) c seq s ≡ true → new ≡ places
+  unfolding openPlace
+  new-repeat r = rw r
+
+  new-in : repeatsAt (g .old) c seq s ≡ false → admits (node .plan) (live then′) (c .point) ≡ true → new ≡ firstOf isFree then′
+  unfolding openPlace
+  new-in r a = rw (r, room ∙ a, free) (sym (free-then l (g .old) inside))
+
+  new-out : repeatsAt (g .old) c seq s ≡ false → admits (node .plan) (live then′) (c .point) ≡ false → new ≡ places
+  unfolding openPlace
+  new-out r a = rw (r, room ∙ a)
+
+  place-in : admits (node .plan) (live then′) (c .point) ≡ true → firstOf isFree then′ < length then′
+  unfolding freePlace
+  place-in a = place-free (node .plan) (node .echo) (node .next) then′ rules-then (c .point) a
+
+  shared-in : admits (node .plan) (live then′) (c .point) ≡ true
+      → shared c seq after (held then′) node₀ t₀ reply
+      ≡ acceptedTaken seq (firstOf isFree then′) (opened o (getD then′ (firstOf isFree then′) nobody)) after
+      (held (changedAt (opened o) (firstOf isFree then′) then′)) reply
+  unfolding shared openedAt foundIn held
+  shared-in a = rw (heard-plan (c .recovery) node, a, lt-ltb (firstOf isFree then′) (length then′) (place-in a))
+
+  shared-out : admits (node .plan) (live then′) (c .point) ≡ false
+      → shared c seq after (held then′) node₀ t₀ reply ≡ causeTaken 33 (c .control) seq noRoom after (held then′) reply
+  unfolding shared held
+  shared-out a = rw (heard-plan (c .recovery) node, a)
+
+  shared-same : repeatsAt (g .old) c seq s ≡ false → shared c seq after (held then′) node₀ t₀ reply ≡ comes new
+  shared-same r = split (admits (node .plan) (live then′) (c .point))
+      (λ a. let h = place-in a in
+      let n = rules-then .size in
+      shared-in a ∙ entered-same (firstOf isFree then′) r (omega arith) ∙ ap (λ (q : ℕ). comes q) (sym (new-in r a)))
+      (λ a. shared-out a ∙ full-same r ∙ ap (λ (q : ℕ). comes q) (sym (new-out r a)))
+
+  -- ---- whether there is such a session
+  met : ltb (g .old) (length l) ≡ true → repeatsAt (g .old) c seq s ≡ isRepeat c seq s
+  unfolding repeatsAt
+  met e = let n = rules .size in let h = ltb-true (g .old) (length l) e in rw (lt-ltb (g .old) places (omega arith))
+
+  unmet : ltb (g .old) (length l) ≡ false → repeatsAt (g .old) c seq s ≡ false
+  unfolding repeatsAt
+  unmet e = let n = rules .size in let h = ltb-false (g .old) (length l) e in rw (le-ltb (g .old) places (omega arith))
+
+  found-at : ltb (g .old) (length l) ≡ true → foundIn (hasId (c .imsi) (c .ebi)) l ≡ F.At (g .old)
+  unfolding foundIn
+  found-at e = rw (← old, e)
+
+  found-no : ltb (g .old) (length l) ≡ false → foundIn (hasId (c .imsi) (c .ebi)) l ≡ F.Nothing
+  unfolding foundIn
+  found-no e = rw (← old, e)
+
+  pub settled-same : settledAt (foundIn (hasId (c .imsi) (c .ebi)) l) c seq after (held l) node₀ t₀ reply ≡ comes new
+  unfolding settledAt held
+  settled-same = split (ltb (g .old) (length l))
+      (λ e. rw (found-at e)
+      (split (isRepeat c seq s)
+      (λ r. let t = met e ∙ r in rw r (repeat-same t ∙ ap (λ (q : ℕ). comes q) (sym (new-repeat t))))
+      (λ r. rw r (shared-same (met e ∙ r)))))
+      (λ e. rw (found-no e)
+      (ap (λ (x : List Session). shared c seq after (held x) node₀ t₀ reply)
+      (sym (changed-out freed (g .old) l (ltb-false (g .old) (length l) e)))
+      ∙ shared-same (unmet e)))

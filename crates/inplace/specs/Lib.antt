@@ -1,0 +1,5 @@
+pub mod Single
+pub mod Create
+pub mod Restart
+pub mod Seen
+pub mod Whole

@@ -1,0 +1,203 @@
+-- Where the exchange restarted: all records are freed, so nobody has an IMSI and EBI, the first place is free, and none counts. What a
+-- Create then comes to on the records as they were before they are freed is what it comes to on the freed table.
+-- Assumes nothing.
+use Prim.Native.Nat.{ℕ, suc, _<_, _≤_}
+use mathlib.Core.Bool.{Bool, true, false}
+use mathlib.Core.List.{List, [], _∷_, map}
+use mathlib.Core.Path.{_≡_, refl, sym, ap, _∙_}
+use native.Mathlib.Omega.{arith}
+use lib.ListN.{length, getD, set, List·getD-eq-default}
+use lib.Dec.{ltb}
+use borrow.Author.Tests.{le-ltb, ltb-true, ltb-false}
+use Rattle.octets.specs.Choice.{pick, split}
+use Rattle.octets.specs.Places.{map-none, map-all, map-at}
+use Rattle.octets.specs.Sums.{sumOf}
+use Rattle.octets.specs.Search.{firstOf}
+use Rattle.tunnel.specs.Numbering.{places}
+use Rattle.session.specs.declared.Session.{Session}
+use Rattle.session.specs.Session.{isFree, hasId, freed, opened, blankAt}
+use Rattle.table.specs.declared.Node.{Node}
+use Rattle.table.specs.declared.Change.the-variants as Ch
+use Rattle.table.specs.Rules.{keepsRules, rules-of}
+use Rattle.table.specs.Change.{nobody}
+use Rattle.table.specs.Become.{changedBy}
+use Rattle.table.specs.Find.{foundIn}
+use Rattle.table.specs.Own.{hearing}
+use Rattle.rules.specs.Survey.{weightOf}
+use Rattle.readers.specs.declared.Recovery.{Recovery}
+use Rattle.readers.specs.declared.Recovery.the-variants as R
+use Rattle.requests.specs.declared.Create as C
+use Rattle.timing.specs.Timing.{held}
+use Rattle.control.specs.Echoes.{restartsBy, heardNode, heardBy, heard-freed, heard-same, heard-keeps}
+use Rattle.control.specs.Creates.{openingOf, settledAt, heardCreate}
+use Rattle.openings.specs.declared.Sight.{Sight}
+use Rattle.openings.specs.declared.Pair.{Pair}
+use Rattle.openings.specs.declared.Opened.{Opened}
+use Rattle.openings.specs.Openings.{repeatsAt, openPlace, pairBy, pairWith, Made, unmovedOn, fullOn, enteredOn, openOn, nodeAfter, freedCount, pairPut, placedPair}
+use Rattle.inplace.specs.Create.{placedTwo, heard-plan, opened-freed, settled-same}
+
+-- ---- a table of which every record is freed
+freed-free : (s : Session) → isFree (freed s) ≡ true
+unfolding freed blankAt isFree
+freed-free s = refl
+
+freed-nobody : (imsi ebi : ℕ) (s : Session) → hasId imsi ebi (freed s) ≡ false
+unfolding hasId freed blankAt isFree
+freed-nobody imsi ebi s = refl
+
+freed-weight : (s : Session) → weightOf (freed s) ≡ 0
+unfolding weightOf freed blankAt isFree
+freed-weight s = refl
+
+first-no : (p : Session → Bool) → ((s : Session) → p (freed s) ≡ false) → (l : List Session) → firstOf p (map freed l) ≡ length l
+unfolding firstOf
+first-no p h [] = refl
+first-no p h (x ∷ l) = rw (h x, first-no p h l)
+
+first-yes : (p : Session → Bool) → ((s : Session) → p (freed s) ≡ true) → (l : List Session) → firstOf p (map freed l) ≡ 0
+unfolding firstOf
+first-yes p h [] = refl
+first-yes p h (x ∷ l) = rw (h x)
+
+freed-sum : (l : List Session) → sumOf weightOf (map freed l) ≡ 0
+unfolding sumOf
+freed-sum [] = refl
+freed-sum (x ∷ l) = rw (freed-weight x, freed-sum l)
+
+pub freed-length : (l : List Session) → length (map freed l) ≡ length l
+freed-length [] = refl
+freed-length (x ∷ l) = ap suc (freed-length l)
+
+-- ---- Recovery
+-- it is stored, and the records are freed or stay
+pub heard-either : (r : Recovery) (node : Node) (l : List Session)
+    → heardBy r node (held l) ≡ record { number = 0; size = 0; node = heardNode r node; table = held (pick (restartsBy r node) (map freed l) l) }
+unfolding held
+heard-either r node l = split (restartsBy r node) (λ e. rw e (heard-freed r node (held l) e)) (λ e. rw e (heard-same r node (held l) e))
+
+-- stored twice it is as stored once
+heard-twice : (r : Recovery) (node : Node) → heardNode r (heardNode r node) ≡ heardNode r node
+unfolding heardNode hearing
+heard-twice R.None node = refl
+heard-twice (R.Value value) node = refl
+
+-- ---- what is put back where none are freed first, and where all are
+module _ (l : List Session) (p : Pair) (o : Opened) where
+  pub put-none : p .all ≡ false → pairPut l p o ≡ set (set l (p .old) (o .old)) (p .new) (o .new)
+  unfolding pairPut freedCount
+  put-none e = rw (e, map-none (changedBy Ch.Free) l)
+
+  pub put-all : p .all ≡ true → length l ≤ places → pairPut l p o ≡ set (set (map freed l) (p .old) (o .old)) (p .new) (o .new)
+  unfolding pairPut freedCount changedBy
+  put-all e n = rw (e, map-all freed places l n)
+
+module _ (node : Node) (l : List Session) (p : Pair) (m : Made) (e : m .answer .ended ≡ false) where
+  pub placed-none : p .all ≡ false → placedPair node p l m ≡ placedTwo node p l m
+  unfolding placedPair placedTwo nodeAfter heardNode held pairPut
+  placed-none a = rw (e, put-none l p (m .answer) a)
+
+  placed-all : p .all ≡ true → length l ≤ places → heardNode (m .answer .heard) (heardNode (m .answer .heard) node) ≡ heardNode (m .answer .heard) node
+      → placedPair node p l m ≡ placedTwo (heardNode (m .answer .heard) node) p (map freed l) m
+  unfolding placedPair placedTwo nodeAfter heardNode held pairPut freed
+  placed-all a n t = rw (e, put-all l p (m .answer) a n, t)
+
+-- ---- a Create says nothing of the unit's own echo, and its Recovery is stored
+module _ (c : C.Create) (seq : ℕ) (node : Node) (p : Pair) (reply : List ℕ) where
+  pub open-ended : openOn c seq node p reply .answer .ended ≡ false
+  unfolding openOn unmovedOn enteredOn fullOn
+  open-ended = split (repeatsAt (p .old) c seq (p .oldrecord)) (λ e. rw e) (λ e. split (ltb (p .new) places) (λ f. rw (e, f)) (λ f. rw (e, f)))
+
+  open-heard : openOn c seq node p reply .answer .heard ≡ c .recovery
+  unfolding openOn unmovedOn enteredOn fullOn
+  open-heard = split (repeatsAt (p .old) c seq (p .oldrecord)) (λ e. rw e) (λ e. split (ltb (p .new) places) (λ f. rw (e, f)) (λ f. rw (e, f)))
+
+-- ---- a Create after a restart
+module _ (node : Node) (l : List Session) (k : keepsRules node l ≡ true) (c : C.Create) (seq : ℕ) (again : restartsBy (c .recovery) node ≡ true)
+    (g : Sight) (old : g .old ≡ places) (free : g .free ≡ 0) (counts : g .counts ≡ 0) (all : g .all ≡ true) (reply : List ℕ) where
+  abbrev after : Node
+  after = heardNode (c .recovery) node
+
+  abbrev gone : List Session
+  gone = map freed l
+
+  size : length l ≡ places
+  size = rules-of node l k .size
+
+  size-gone : length gone ≡ places
+  size-gone = freed-length l ∙ size
+
+  kept-gone : keepsRules after gone ≡ true
+  unfolding held
+  kept-gone = rw (heard-freed (c .recovery) node (held l) again) at (heard-keeps node (held l) k (c .recovery))
+
+  past : (m : List Session) (q : ℕ) → length m ≡ places → places ≤ q → getD m q nobody ≡ nobody
+  past m q n h = List·getD-eq-default m nobody (omega arith)
+
+  -- the record that it is about is nobody's, before and after
+  old-here : getD l (g .old) nobody ≡ nobody
+  old-here = past l (g .old) size (omega arith)
+
+  old-gone : getD gone (g .old) nobody ≡ nobody
+  old-gone = past gone (g .old) size-gone (omega arith)
+
+  no-repeat : (s : Session) → repeatsAt (g .old) c seq s ≡ false
+  unfolding repeatsAt
+  no-repeat s = rw (le-ltb (g .old) places (omega arith))
+
+  abbrev new : ℕ
+  new = openPlace g node c seq (getD l (g .old) nobody)
+
+  new-same : openPlace g after c seq (getD gone (g .old) nobody) ≡ new
+  unfolding openPlace
+  new-same = rw (old-gone, old-here, heard-plan (c .recovery) node)
+
+  -- the record of a place, once it is opened
+  opened-here : (q : ℕ) → q < places → opened (openingOf c seq) (getD gone q nobody) ≡ opened (openingOf c seq) (getD l q nobody)
+  opened-here q h =
+      let n = size in
+      rw (map-at freed l q nobody nobody (omega arith)) (opened-freed (openingOf c seq) (getD l q nobody))
+
+  made-same : (q : ℕ) → openOn c seq after (pairWith g gone q) reply ≡ openOn c seq node (pairWith g l q) reply
+  unfolding openOn pairBy enteredOn fullOn
+  made-same q = rw (no-repeat (getD gone (g .old) nobody), no-repeat (getD l (g .old) nobody), old-gone, old-here)
+      (split (ltb q places)
+      (λ e. rw (e, opened-here q (ltb-true q places e), heard-plan (c .recovery) node))
+      (λ e. let h = ltb-false q places e in rw (e, past gone q size-gone h, past l q size h)))
+
+  -- the places are those of the records before
+  places-same : (q : ℕ) (m : Made) → placedTwo after (pairWith g gone q) gone m ≡ placedTwo after (pairWith g l q) gone m
+  unfolding placedTwo pairBy
+  places-same q m = refl
+
+  abbrev comes : Made
+  comes = openOn c seq node (pairWith g l new) reply
+
+  put-same : placedPair node (pairWith g l new) l comes ≡ placedTwo after (pairWith g l new) gone comes
+  unfolding pairBy
+  put-same =
+      let h = open-heard c seq node (pairWith g l new) reply in
+      let n = size in
+      placed-all node l (pairWith g l new) comes (open-ended c seq node (pairWith g l new) reply) all (omega arith)
+      (rw h (heard-twice (c .recovery) node))
+      ∙ rw h
+
+  settled-gone : settledAt (foundIn (hasId (c .imsi) (c .ebi)) gone) c seq (heardNode (c .recovery) after) (held gone) node (held l) reply
+      ≡ placedTwo after (pairWith g gone (openPlace g after c seq (getD gone (g .old) nobody))) gone
+      (openOn c seq after (pairWith g gone (openPlace g after c seq (getD gone (g .old) nobody))) reply)
+  settled-gone =
+      settled-same after gone kept-gone c seq g
+      (old ∙ sym size ∙ sym (first-no (hasId (c .imsi) (c .ebi)) (freed-nobody (c .imsi) (c .ebi)) l))
+      (free ∙ sym (first-yes isFree freed-free l))
+      (counts ∙ sym (freed-sum l))
+      reply node (held l)
+
+  pub restart-same : heardCreate c seq (heardBy (c .recovery) node (held l)) node (held l) reply ≡ placedPair node (pairWith g l new) l comes
+  unfolding heardCreate held
+  restart-same =
+      rw (heard-freed (c .recovery) node (held l) again)
+      (ap (λ (x : Node). settledAt (foundIn (hasId (c .imsi) (c .ebi)) gone) c seq x (held gone) node (held l) reply) (sym (heard-twice (c .recovery) node))
+      ∙ settled-gone
+      ∙ ap (λ (q : ℕ). placedTwo after (pairWith g gone q) gone (openOn c seq after (pairWith g gone q) reply)) new-same
+      ∙ ap (λ (m : Made). placedTwo after (pairWith g gone new) gone m) (made-same new)
+      ∙ places-same new comes
+      ∙ sym put-same)
