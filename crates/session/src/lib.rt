@@ -1,7 +1,7 @@
 // A session record: its rules, and every way in which one is made or changed. Later fields are added here.
 ghost use mathlib.Core.Path.{_≡_};
 ghost use Rattle.session.specs.Request.{idle, requestOk, sentOnce, countedDown, spent};
-ghost use Rattle.session.specs.Session.{isFree, waitsFor, blank, heldOk, phaseOk, recordOk, blankAt, freed, opened, moved, closed, sent, ticked, isDue};
+ghost use Rattle.session.specs.Session.{isFree, waitsFor, blank, heldOk, phaseOk, recordOk, blankAt, freed, opened, moved, closed, sent, ticked};
 
 // A request of the unit's own: a closing place's Delete Bearer, or the echo.
 #[repr(C)]
@@ -305,13 +305,5 @@ impl Session {
         let next = own.counted_down();
         self.own = next;
         self
-    }
-
-    // A closing place whose request is to be sent now.
-    pub fn is_due(self) -> bool
-        ensures { λ r. ⌜ r ≡ isDue self ⌝ }
-    {
-        let own = self.own;
-        (self.state == Self::CLOSING) & (own.timer == 0)
     }
 }
