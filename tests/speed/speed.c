@@ -1,17 +1,21 @@
 /* One call again and again, on the proved library or on the plain implementation, for counting instructions; and a comparison of what
  * the two answer. The same table, node and datagram go into every call: what a call changes is put back after it.
  *   speed check                          every call with every number of sessions, both ways: answers, tables and buffers are equal
- *   speed library|plain CALL LIVE COUNT  COUNT calls with so many live sessions */
+ *   speed library|plain CALL LIVE COUNT [LENT]  COUNT calls with so many live sessions; LENT records are lent, 64 where it is not said: any
+ *                                        other number is refused (2) with no record looked at
+ *   speed time library|plain CALL LIVE COUNT    the same, and prints the nanoseconds a call */
+#define _POSIX_C_SOURCE 199309L /* for the clock */
 #include "../lent/reading.h"
 #include <stdio.h>
 #include <stdlib.h>
 #include <string.h>
+#include <time.h>
 
 enum { PLACES = 64 };
 static grugavorn_session first[PLACES], records[PLACES];
 static grugavorn_node node;
 static uint8_t reply[128], datagram[256];
-static size_t size;
+static size_t size, lent = PLACES;
 
 static void octets(const char *hex) {
   for (size = 0; hex[0]; hex += 2) {
@@ -46,7 +50,7 @@ static void table(unsigned live, int closing, unsigned ceiling) {
   memcpy(records, first, sizeof records);
 }
 
-static const char *const calls[] = { "packet", "user-echo", "echo", "create", "repeat", "no-room", "modify", "delete", "tick", "tick-closing", "send", "close", "line" };
+static const char *const calls[] = { "packet", "user-echo", "user-short", "echo", "create", "repeat", "no-room", "modify", "delete", "tick", "tick-closing", "send", "close", "line" };
 
 /* the table and the datagram of a call; 0 where it makes no sense with so many sessions */
 static int prepare(const char *call, unsigned live) {
@@ -55,6 +59,7 @@ static int prepare(const char *call, unsigned live) {
   table(last ? PLACES - 1 : live, closing, strcmp(call, "no-room") == 0 && live != 0 ? live : 64);
   if (strcmp(call, "packet") == 0) octets("30FF000400000180" "45000000"), datagram[7] = (uint8_t)(live == 0 ? 128 : 127 + live);
   else if (strcmp(call, "user-echo") == 0) octets("3201000400000000" "12340000");
+  else if (strcmp(call, "user-short") == 0) octets("30FF00");
   else if (strcmp(call, "echo") == 0) octets("40010004" "00010000");
   else if (strcmp(call, "create") == 0) create(1);
   else if (strcmp(call, "no-room") == 0) create(1);
@@ -71,12 +76,12 @@ static grugavorn_handed handed;
 static void once(const char *call, int plain, unsigned live) {
   size_t place = live == 0 ? 0 : live - 1;
   switch (call[0] == 'p' || call[0] == 'u' ? 'u' : call[0] == 't' ? 't' : strcmp(call, "send") == 0 ? 's' : strcmp(call, "close") == 0 ? 'x' : strcmp(call, "line") == 0 ? 'l' : 'c') {
-    case 'u': handed = plain ? reading_user(node, records, PLACES, datagram, size, reply, sizeof reply) : grugavorn_user(node, records, PLACES, datagram, size, reply, sizeof reply); break;
-    case 't': answer = plain ? reading_tick(node, records, PLACES) : grugavorn_tick(node, records, PLACES); break;
-    case 's': answer = plain ? reading_send(node, records, PLACES, reply, sizeof reply) : grugavorn_send(node, records, PLACES, reply, sizeof reply); break;
-    case 'x': answer = plain ? reading_close(node, records, PLACES, place) : grugavorn_close(node, records, PLACES, place); break;
-    case 'l': answer = plain ? reading_line(node, records, PLACES, place, reply, sizeof reply) : grugavorn_line(node, records, PLACES, place, reply, sizeof reply); break;
-    default: answer = plain ? reading_control(node, records, PLACES, datagram, size, reply, sizeof reply) : grugavorn_control(node, records, PLACES, datagram, size, reply, sizeof reply);
+    case 'u': handed = plain ? reading_user(node, records, lent, datagram, size, reply, sizeof reply) : grugavorn_user(node, records, lent, datagram, size, reply, sizeof reply); break;
+    case 't': answer = plain ? reading_tick(node, records, lent) : grugavorn_tick(node, records, lent); break;
+    case 's': answer = plain ? reading_send(node, records, lent, reply, sizeof reply) : grugavorn_send(node, records, lent, reply, sizeof reply); break;
+    case 'x': answer = plain ? reading_close(node, records, lent, place) : grugavorn_close(node, records, lent, place); break;
+    case 'l': answer = plain ? reading_line(node, records, lent, place, reply, sizeof reply) : grugavorn_line(node, records, lent, place, reply, sizeof reply); break;
+    default: answer = plain ? reading_control(node, records, lent, datagram, size, reply, sizeof reply) : grugavorn_control(node, records, lent, datagram, size, reply, sizeof reply);
   }
 }
 
@@ -117,18 +122,25 @@ static int check(void) {
 
 int main(int argc, char **argv) {
   if (argc == 2 && strcmp(argv[1], "check") == 0) return check();
-  if (argc != 5) return 2;
+  int timed = argc == 6 && strcmp(argv[1], "time") == 0;
+  argc -= timed, argv += timed;
+  if (argc != 5 && argc != 6) return 2;
   int plain = strcmp(argv[1], "plain") == 0;
   unsigned live = (unsigned)atoi(argv[3]), sum = 0;
   if (!prepare(argv[2], live)) return 3;
+  if (argc == 6) lent = (size_t)atoi(argv[5]);
   size_t last = live == 0 || strcmp(argv[2], "create") == 0 ? (live == PLACES ? PLACES - 1 : live) : live - 1;
   int all = argv[2][0] == 't';
+  struct timespec start, end;
+  clock_gettime(CLOCK_MONOTONIC, &start);
   for (int i = atoi(argv[4]); i > 0; i--) {
     once(argv[2], plain, live);
     sum += answer.number + handed.number;
     if (all) memcpy(records, first, sizeof records);
     else records[last] = first[last];
   }
+  clock_gettime(CLOCK_MONOTONIC, &end);
   printf("%u\n", sum);
+  if (timed) printf("%.0f\n", ((double)(end.tv_sec - start.tv_sec) * 1e9 + (double)(end.tv_nsec - start.tv_nsec)) / atoi(argv[4]));
   return 0;
 }

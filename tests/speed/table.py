@@ -2,6 +2,9 @@
 elsewhere QEMU's user mode with the plugin that `run` has built from count.c.
 
 The count of a call is that of 100 calls less that of none, by 100: what the host does to put the table back is in both columns.
+Its parts, with 64 live sessions: around is a call that is lent 63 records and refuses them unread (the host, the plan's limits, the node in and
+out, copies of it included); rules is what checking the records takes, measured on a datagram of three octets; work is the rest.
+On x86-64 nanoseconds a call are printed too, for information: they do not repeat.
 """
 import platform
 import subprocess
@@ -12,23 +15,41 @@ CALLS = [("packet", "G-PDU"), ("user-echo", "user echo"), ("echo", "control echo
          ("send", "send"), ("close", "close"), ("line", "line")]
 LIVE = (0, 32, 64)
 TIMES = 100
+NATIVE = platform.machine() == "x86_64"
 
 
-def counted(program, way, call, live, times):
-    native = platform.machine() == "x86_64"
-    counter = (["valgrind", "--tool=callgrind", "--callgrind-out-file=/dev/null"] if native
+def counted(program, way, call, live, times, lent=64):
+    counter = (["valgrind", "--tool=callgrind", "--callgrind-out-file=/dev/null"] if NATIVE
                else ["qemu-x86_64", "-cpu", "max", "-plugin", "target/tests/count.so"])
-    done = subprocess.run(counter + [program, way, call, str(live), str(times)], capture_output=True, text=True)
+    done = subprocess.run(counter + [program, way, call, str(live), str(times), str(lent)], capture_output=True, text=True)
     if done.returncode == 3:
         return None
     if done.returncode != 0:
         sys.exit("speed: %s %s with %d live failed: %s" % (way, call, live, done.stderr[-300:]))
-    return int(done.stderr.split("Collected :" if native else "instructions")[1].split()[0])
+    return int(done.stderr.split("Collected :" if NATIVE else "instructions")[1].split()[0])
 
 
-def instructions(program, way, call, live):
-    none = counted(program, way, call, live, 0)
-    return None if none is None else (counted(program, way, call, live, TIMES) - none) // TIMES
+def instructions(program, way, call, live, lent=64):
+    none = counted(program, way, call, live, 0, lent)
+    return None if none is None else (counted(program, way, call, live, TIMES, lent) - none) // TIMES
+
+
+def parts(program, full):
+    """A line a call with 64 live sessions: around, rules and work, of the library and of the plain implementation."""
+    print("\n%-18s%26s%26s" % ("64 live", "library", "plain"))
+    print("%-18s" % "" + "%26s" % "around  rules   work" * 2)
+    rules = [instructions(program, way, "user-short", 64) - instructions(program, way, "user-short", 64, 63) for way in ("library", "plain")]
+    for (call, name), counts in full:
+        around = [instructions(program, way, call, 64, 63) for way in ("library", "plain")]
+        print("%-18s" % name + "".join("%12d %6d %6d" % (a, r, n - a - r) for a, r, n in zip(around, rules, counts)), flush=True)
+
+
+def times(program, full):
+    """Nanoseconds a call with 64 live sessions, of both."""
+    print("\n%-18s%13s%13s" % ("64 live", "library, ns", "plain, ns"))
+    for (call, name), _ in full:
+        took = [subprocess.run([program, "time", way, call, "64", "200000"], capture_output=True, text=True).stdout.split()[1] for way in ("library", "plain")]
+        print("%-18s%13s%13s" % (name, *took), flush=True)
 
 
 def picture(rows, path):
@@ -57,9 +78,12 @@ def main():
             ours, plain = (instructions(program, way, call, live) for way in ("library", "plain"))
             cells.append("%26s" % "-" if ours is None else "%12d %6d %6.2f" % (ours, plain, ours / plain))
             if live == 64 and ours is not None:
-                full.append((name, ours, plain))
+                full.append(((call, name), (ours, plain)))
         print("%-18s" % name + "".join(cells), flush=True)
-    picture(full, path)
+    parts(program, full)
+    if NATIVE:
+        times(program, full)
+    picture([(name, *counts) for (_, name), counts in full], path)
 
 
 main()
