@@ -120,7 +120,7 @@ module _ (c : C.Create) (seq : ℕ) (small : seq ≤ lastCreated) (node₀ : Nod
           rw k (replaced-none (node .plan) (node .echo) (node .next) (t .recs) r (c .imsi) (c .ebi))
 
 -- the plan stays what it was when a Recovery value is heard
-heard-plan : (r : Recovery) (node : Node) (t : Table) → heardBy r node t .node .plan ≡ node .plan
+pub heard-plan : (r : Recovery) (node : Node) (t : Table) → heardBy r node t .node .plan ≡ node .plan
 unfolding heardBy refused hearing
 heard-plan R.None node t = refl
 heard-plan (R.Value value) node t = refl

@@ -44,7 +44,7 @@ use Rattle.control.specs.Amends.{causeTaken}
 use Rattle.control.specs.Creates.{openingOf, acceptedTaken, noRoom, openedAt, shared, isRepeat, settledAt, heardCreate, createBy, createTaken}
 use Rattle.control.specs.Control.{kindTaken, gateTaken, controlTaken}
 use Rattle.demands.specs.Run.{State, control, Kept}
-use Rattle.demands.specs.Stays.{heard-plan}
+use Rattle.control.specs.CreatesKept.{heard-plan}
 use Rattle.demands.specs.Bounds.{u}
 
 -- ---- what is asked

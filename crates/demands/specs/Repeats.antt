@@ -39,7 +39,8 @@ use Rattle.requests.specs.Create.{createOf}
 use Rattle.control.specs.Echoes.{heardBy, heard-keeps}
 use Rattle.control.specs.Control.{kindTaken, gateTaken, controlTaken}
 use Rattle.demands.specs.Run.{State, left, Event, control, step, reached, ofOctets, Run, Kept, step-keeps, reached-keeps}
-use Rattle.demands.specs.Stays.{heard-plan, reached-plan}
+use Rattle.control.specs.CreatesKept.{heard-plan}
+use Rattle.demands.specs.Stays.{reached-plan}
 use Rattle.demands.specs.Creates.{SoundCreate, NewCreate, heard, repeats, asked, askedU, acceptedOf, create-accepted, create-point, place-in}
 
 -- place i, as it is after Recovery, has the session that the Create repeats

@@ -21,12 +21,10 @@ use Rattle.table.specs.declared.Found.the-variants as F
 use Rattle.table.specs.Rules.{keepsRules, live}
 use Rattle.table.specs.Change.{nobody, changedAt}
 use Rattle.table.specs.Find.{foundIn, ownerOf}
-use Rattle.table.specs.Own.{hearing, freshNode, duePlace}
+use Rattle.table.specs.Own.{freshNode, duePlace}
 use Rattle.header.specs.declared.HeaderCursor.{HeaderCursor}
 use Rattle.header.specs.Header.{headerOf}
 use Rattle.header.specs.Gate.{gateOf}
-use Rattle.readers.specs.declared.Recovery.{Recovery}
-use Rattle.readers.specs.declared.Recovery.the-variants as R
 use Rattle.carried.specs.Carried as carried
 use Rattle.carried.specs.declared.EchoReply.{EchoReply}
 use Rattle.carried.specs.declared.EchoReply.the-variants as E
@@ -42,13 +40,9 @@ use Rattle.timing.specs.Timing.{leastReply, timed, held, refused, freshOf, tick
 use Rattle.control.specs.Echoes.{heardBy, echoTaken, echoEnded, echoReplyTaken, sameFound, freedFound, bearerReplyTaken}
 use Rattle.control.specs.Amends.{causeTaken, modifyDone, modifyBy, modifyFor, modifyTaken, deleteDone, deleteBy, deleteFor, deleteTaken}
 use Rattle.control.specs.Creates.{acceptedTaken, openedAt, shared, isRepeat, settledAt, heardCreate, createBy, createTaken}
+use Rattle.control.specs.CreatesKept.{heard-plan}
 use Rattle.control.specs.Control.{kindTaken, gateTaken, controlTaken}
 use Rattle.demands.specs.Run.{State, left, Event, control, user, tick, send, close, line, step, run, line-step, start, reached}
-
-pub heard-plan : (r : Recovery) (node : Node) (t : Table) → heardBy r node t .node .plan ≡ node .plan
-unfolding heardBy refused hearing
-heard-plan R.None node t = refl
-heard-plan (R.Value value) node t = refl
 
 echo-reply-plan : (node : Node) (t : Table) (seq : ℕ) (r : EchoReply) → echoReplyTaken node t seq r .node .plan ≡ node .plan
 unfolding echoReplyTaken echoEnded timed refused

@@ -1,12 +1,12 @@
 -- Where the exchange restarted: all records are freed, so nobody has an IMSI and EBI, the first place is free, and none counts. What a
 -- Create then comes to on the records as they were before they are freed is what it comes to on the freed table.
 -- Assumes nothing.
-use Prim.Native.Nat.{ℕ, suc, _<_, _≤_}
+use Prim.Native.Nat.{ℕ, _<_, _≤_}
 use mathlib.Core.Bool.{Bool, true, false}
 use mathlib.Core.List.{List, [], _∷_, map}
 use mathlib.Core.Path.{_≡_, refl, sym, ap, _∙_}
 use native.Mathlib.Omega.{arith}
-use lib.ListN.{length, getD, set, List·getD-eq-default}
+use lib.ListN.{length, getD, set, List·getD-eq-default, length-map}
 use lib.Dec.{ltb}
 use borrow.Author.Tests.{le-ltb, ltb-true, ltb-false}
 use Rattle.octets.specs.Choice.{pick, split}
@@ -34,20 +34,13 @@ use Rattle.openings.specs.declared.Sight.{Sight}
 use Rattle.openings.specs.declared.Pair.{Pair}
 use Rattle.openings.specs.declared.Opened.{Opened}
 use Rattle.openings.specs.Openings.{repeatsAt, openPlace, pairBy, pairWith, Made, unmovedOn, fullOn, enteredOn, openOn, nodeAfter, freedCount, pairPut, placedPair}
+use Rattle.openings.specs.Places.{freed-free, freed-weight}
 use Rattle.inplace.specs.Create.{placedTwo, heard-plan, opened-freed, settled-same}
 
 -- ---- a table of which every record is freed
-freed-free : (s : Session) → isFree (freed s) ≡ true
-unfolding freed blankAt isFree
-freed-free s = refl
-
 freed-nobody : (imsi ebi : ℕ) (s : Session) → hasId imsi ebi (freed s) ≡ false
 unfolding hasId freed blankAt isFree
 freed-nobody imsi ebi s = refl
-
-freed-weight : (s : Session) → weightOf (freed s) ≡ 0
-unfolding weightOf freed blankAt isFree
-freed-weight s = refl
 
 first-no : (p : Session → Bool) → ((s : Session) → p (freed s) ≡ false) → (l : List Session) → firstOf p (map freed l) ≡ length l
 unfolding firstOf
@@ -63,10 +56,6 @@ freed-sum : (l : List Session) → sumOf weightOf (map freed l) ≡ 0
 unfolding sumOf
 freed-sum [] = refl
 freed-sum (x ∷ l) = rw (freed-weight x, freed-sum l)
-
-pub freed-length : (l : List Session) → length (map freed l) ≡ length l
-freed-length [] = refl
-freed-length (x ∷ l) = ap suc (freed-length l)
 
 -- ---- Recovery
 -- it is stored, and the records are freed or stay
@@ -124,7 +113,7 @@ module _ (node : Node) (l : List Session) (k : keepsRules node l ≡ true) (c : 
   size = rules-of node l k .size
 
   size-gone : length gone ≡ places
-  size-gone = freed-length l ∙ size
+  size-gone = length-map l freed ∙ size
 
   kept-gone : keepsRules after gone ≡ true
   unfolding held

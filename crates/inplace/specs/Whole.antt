@@ -5,7 +5,7 @@ use mathlib.Core.Bool.{Bool, true, false}
 use mathlib.Core.List.{List, map}
 use mathlib.Core.Path.{_≡_, refl, sym, ap, _∙_}
 use native.Mathlib.Omega.{arith}
-use lib.ListN.{length, drop, getD, set, length-set}
+use lib.ListN.{length, drop, getD, set, length-set, length-map}
 use lib.Seq.{set-out}
 use lib.Dec.{eqb, ltb}
 use borrow.Author.Tests.{eqb-true}
@@ -47,7 +47,7 @@ use Rattle.openings.specs.declared.Pair.{Pair}
 use Rattle.openings.specs.Openings.{newPlace, openPlace, pairBy, pairWith, pairIn, Made, made, unmovedOn, namedMade, namedOn, openOn, wishTaken, takenOn, taken-broken, taken-kept, restedNode, nodeAfter, pairPut, placedPair}
 use Rattle.inplace.specs.Single.{placedOne, namedTaken, named-same}
 use Rattle.inplace.specs.Create.{stays, settled-same}
-use Rattle.inplace.specs.Restart.{freed-length, heard-either, put-none, put-all, placed-none, open-ended, restart-same}
+use Rattle.inplace.specs.Restart.{heard-either, put-none, put-all, placed-none, open-ended, restart-same}
 use Rattle.inplace.specs.Seen.{Cleared, Sees}
 
 -- ---- what is asked for, on the whole table
@@ -154,7 +154,7 @@ module _ (l : List Session) (p : Pair) (e-old : p .oldrecord ≡ getD l (p .old)
   put-freed : p .all ≡ true → length l ≡ places → p .old ≡ places → p .new ≡ places → pairPut l p (unmovedOn number size ended heard p) ≡ map freed l
   put-freed a n i j =
       let o = unmovedOn number size ended heard p in
-      let m = freed-length l in
+      let m = length-map l freed in
       let s = length-set (map freed l) (p .old) (o .old) in
       put-all l p o a (omega arith)
       ∙ set-out (set (map freed l) (p .old) (o .old)) (p .new) (o .new) (omega arith)

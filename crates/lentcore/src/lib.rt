@@ -1,5 +1,5 @@
-// What an entry does beside reading the caller's records and writing them back, on values: the count of records is tested, the call is
-// made on the records as a table, and its answer is parted into what goes back by value and what goes back into the records.
+// What the calls on lent records share, on values: what goes back by value beside the records, and a table by value taken apart and put
+// together again. Fresh is here too: the count of records is tested, and the state is made as a table.
 use plan::Plan;
 use session::Session;
 use table::Node;

@@ -86,11 +86,11 @@ module _ (b : Bounds) (l : List Session) (each : every (recordOk b) l ≡ true) 
       ∙ first-agree (recordOk b) (λ s. eqb (digestOf b s) 0) isFree l each (λ s ok. free-in b s ok)
 
 -- ---- once a place is freed; a place that there is not changes nothing
-freed-free : (s : Session) → isFree (freed s) ≡ true
+pub freed-free : (s : Session) → isFree (freed s) ≡ true
 unfolding freed blankAt isFree
 freed-free s = refl
 
-freed-weight : (s : Session) → weightOf (freed s) ≡ 0
+pub freed-weight : (s : Session) → weightOf (freed s) ≡ 0
 unfolding weightOf freed blankAt isFree
 freed-weight s = refl
 
