@@ -1,24 +1,24 @@
--- Modify (34) and Delete (36), once their headers are read: who it is for, what is refused with which cause and to whom, what is
--- changed, and the reply.
+-- Modify (34), Delete (36) and the reply to a Delete Bearer (100), on the record of the session that they are for: what is refused with which
+-- cause and to whom, what becomes of the record, and the reply. A record that is free stands for a session that there is not.
 -- Assumes nothing.
 use Prim.Native.Nat.{ℕ}
-use mathlib.Core.Bool.{Bool, true, false, _&&_}
+use mathlib.Core.Bool.{Bool, false}
 use mathlib.Core.List.{List}
-use mathlib.Core.Path.{_≡_, refl, sym, _∙_}
-use lib.ListN.{getD}
+use mathlib.Core.Path.{_≡_}
+use lib.ListN.{length}
+use lib.Dec.{eqb}
 use Rattle.octets.specs.Choice.{pick}
 use Rattle.octets.specs.Overlay.{overlay}
-use Rattle.tunnel.specs.Numbering.{controlOffset}
 use Rattle.session.specs.declared.Session.{Session}
 use Rattle.session.specs.declared.Peers.{Peers}
-use Rattle.session.specs.Session.{freed, moved}
+use Rattle.session.specs.Session.{isFree, waitsFor, freed, moved}
 use Rattle.table.specs.declared.Node.{Node}
 use Rattle.table.specs.declared.Table.{Table}
-use Rattle.table.specs.declared.Found.{Found}
-use Rattle.table.specs.declared.Found.the-variants as F
-use Rattle.table.specs.Change.{nobody, changedAt}
-use Rattle.table.specs.Find.{ownerOf}
 use Rattle.messages.specs.Messages.{causeReply, faultReply, modifyBearer}
+use Rattle.header.specs.declared.HeaderCursor.{HeaderCursor}
+use Rattle.carried.specs.Carried as carried
+use Rattle.carried.specs.declared.BearerReply.{BearerReply}
+use Rattle.carried.specs.declared.BearerReply.the-variants as B
 use Rattle.readers.specs.declared.Refusal.{Refusal}
 use Rattle.requests.specs.declared.Peer.{Peer}
 use Rattle.requests.specs.declared.Peer.the-variants as P
@@ -29,21 +29,20 @@ use Rattle.requests.specs.declared.Decoded.{Decoded}
 use Rattle.requests.specs.declared.Decoded.the-variants as D
 use Rattle.requests.specs.declared.Request.the-variants as Q
 use Rattle.changes.specs.Change.{modifyOf, deleteOf}
-use Rattle.timing.specs.declared.Answer.{Answer}
-use Rattle.timing.specs.Timing.{Outcome, outcome, held}
+use Rattle.timing.specs.Timing.{Outcome, replied, Done, quiet}
 
 -- ---- a reply with a cause: the number is the cause, the table as it was
-unfoldable pub causeSize : Refusal → ℕ
-causeSize w = pick {A = ℕ} (w .named) 22 18
-
 unfoldable pub causeOctets : ℕ → ℕ → ℕ → Refusal → List ℕ
 causeOctets type teid seq w =
     pick (w .named) (faultReply type teid seq (w .cause) (w .kind) (w .instance)) (causeReply type teid seq (w .cause))
 
 unfoldable pub causeTaken : ℕ → ℕ → ℕ → Refusal → Node → Table → List ℕ → Outcome
-causeTaken type teid seq w node t reply = outcome
-    (record { number = w .cause; size = causeSize w; node = node; table = t })
-    (overlay (causeOctets type teid seq w) reply)
+causeTaken type teid seq w node t reply = replied (w .cause) node t (causeOctets type teid seq w) reply
+
+-- what a writer of a message does: the message is laid over the front of the buffer, and its length is answered
+pub record Wrote (size : ℕ) (after before m : List ℕ) : Type 0 where
+  pub length : size ≡ length m
+  pub octets : after ≡ overlay m before
 
 -- ---- Modify
 -- where the peer is now, of a peer that came or not
@@ -64,57 +63,54 @@ peersOf m s = record {
 }
 
 -- the reply goes to the peer as it is after the change; a Bearer Context that came gets one back
-unfoldable pub modifySize : Context → ℕ
-modifySize C.Absent = 18
-modifySize C.Present = 33
-
 unfoldable pub modifyOctets : Context → ℕ → ℕ → ℕ → List ℕ
 modifyOctets C.Absent teid seq ebi = causeReply 35 teid seq 16
 modifyOctets C.Present teid seq ebi = modifyBearer teid seq ebi
-
--- a length and a buffer as they should be
-pub record Replied (size : ℕ) (reply : List ℕ) (size′ : ℕ) (reply′ : List ℕ) : Type 0 where
-  pub length : size ≡ size′
-  pub octets : reply ≡ reply′
-
-unfoldable pub modifyDone : M.Modify → ℕ → ℕ → Session → Node → Table → List ℕ → Outcome
-modifyDone m seq i s node t reply = outcome
-    (record { number = 0; size = modifySize (m .context); node = node; table = held (changedAt (moved (peersOf m s)) i (t .recs)) })
-    (overlay (modifyOctets (m .context) (peersOf m s .control) seq (s .ebi)) reply)
 
 -- a session that is not there: 64, to nobody
 unfoldable pub notLive : Refusal
 notLive = record { cause = 64; kind = 0; instance = 0; named = false }
 
+unfoldable pub causeOn : ℕ → ℕ → ℕ → Refusal → Session → Done
+causeOn type teid seq w s = record { number = w .cause; session = s; message = causeOctets type teid seq w }
+
+unfoldable pub movedOn : M.Modify → ℕ → Session → Done
+movedOn m seq s = record {
+  number = 0;
+  session = moved (peersOf m s) s;
+  message = modifyOctets (m .context) (peersOf m s .control) seq (s .ebi);
+}
+
 -- all tests pass or nothing changes; a refusal answers the peer as it was
-unfoldable pub modifyBy : Decoded → ℕ → ℕ → Session → Node → Table → List ℕ → Outcome
-modifyBy (D.Refused w) seq i s node t reply = causeTaken 35 (s .control) seq w node t reply
-modifyBy (D.Sound (Q.Modify m)) seq i s node t reply = modifyDone m seq i s node t reply
-modifyBy (D.Sound (Q.Create c)) seq i s node t reply = causeTaken 35 (s .control) seq notLive node t reply
-modifyBy (D.Sound (Q.Delete d)) seq i s node t reply = causeTaken 35 (s .control) seq notLive node t reply
+unfoldable pub modifyRead : Decoded → ℕ → Session → Done
+modifyRead (D.Refused w) seq s = causeOn 35 (s .control) seq w s
+modifyRead (D.Sound (Q.Modify m)) seq s = movedOn m seq s
+modifyRead (D.Sound (Q.Create c)) seq s = causeOn 35 (s .control) seq notLive s
+modifyRead (D.Sound (Q.Delete d)) seq s = causeOn 35 (s .control) seq notLive s
 
-unfoldable pub modifyFor : Found → ℕ → List ℕ → Node → Table → List ℕ → Outcome
-modifyFor F.Nothing seq rest node t reply = causeTaken 35 0 seq notLive node t reply
-modifyFor (F.At i) seq rest node t reply =
-    modifyBy (modifyOf (getD (t .recs) i nobody .ebi) rest) seq i (getD (t .recs) i nobody) node t reply
-
-unfoldable pub modifyTaken : Node → Table → ℕ → ℕ → List ℕ → List ℕ → Outcome
-modifyTaken node t teid seq rest reply = modifyFor (ownerOf controlOffset teid (t .recs)) seq rest node t reply
+unfoldable pub modifyOn : ℕ → List ℕ → Session → Done
+modifyOn seq rest s = pick (isFree s) (causeOn 35 0 seq notLive s) (modifyRead (modifyOf (s .ebi) rest) seq s)
 
 -- ---- Delete
-unfoldable pub deleteDone : ℕ → ℕ → Session → Node → Table → List ℕ → Outcome
-deleteDone seq i s node t reply = outcome
-    (record { number = 0; size = 18; node = node; table = held (changedAt freed i (t .recs)) })
-    (overlay (causeReply 37 (s .control) seq 16) reply)
+unfoldable pub freedOn : ℕ → Session → Done
+freedOn seq s = record { number = 0; session = freed s; message = causeReply 37 (s .control) seq 16 }
 
-unfoldable pub deleteBy : Decoded → ℕ → ℕ → Session → Node → Table → List ℕ → Outcome
-deleteBy (D.Refused w) seq i s node t reply = causeTaken 37 (s .control) seq w node t reply
-deleteBy (D.Sound q) seq i s node t reply = deleteDone seq i s node t reply
+unfoldable pub deleteRead : Decoded → ℕ → Session → Done
+deleteRead (D.Refused w) seq s = causeOn 37 (s .control) seq w s
+deleteRead (D.Sound q) seq s = freedOn seq s
 
-unfoldable pub deleteFor : Found → ℕ → List ℕ → Node → Table → List ℕ → Outcome
-deleteFor F.Nothing seq rest node t reply = causeTaken 37 0 seq notLive node t reply
-deleteFor (F.At i) seq rest node t reply =
-    deleteBy (deleteOf (getD (t .recs) i nobody .ebi) rest) seq i (getD (t .recs) i nobody) node t reply
+unfoldable pub deleteOn : ℕ → List ℕ → Session → Done
+deleteOn seq rest s = pick (isFree s) (causeOn 37 0 seq notLive s) (deleteRead (deleteOf (s .ebi) rest) seq s)
 
-unfoldable pub deleteTaken : Node → Table → ℕ → ℕ → List ℕ → List ℕ → Outcome
-deleteTaken node t teid seq rest reply = deleteFor (ownerOf controlOffset teid (t .recs)) seq rest node t reply
+-- ---- the reply to a Delete Bearer (100): with the awaited number and a readable Cause it frees the session
+unfoldable pub bearerBy : BearerReply → Bool → Session → Done
+bearerBy B.Unreadable mine s = quiet 9 s
+bearerBy (B.Cause cause) mine s = pick mine (quiet 0 (freed s)) (quiet 9 s)
+
+unfoldable pub bearerOn : ℕ → List ℕ → Session → Done
+bearerOn seq rest s = bearerBy (carried.bearerReplyOf rest) (waitsFor seq s) s
+
+-- ---- by type, of the session whose control TEID the header has
+unfoldable pub sessionOf : HeaderCursor → List ℕ → Session → Done
+sessionOf h rest =
+    pick (eqb (h .kind) 34) (modifyOn (h .sequence) rest) (pick (eqb (h .kind) 36) (deleteOn (h .sequence) rest) (bearerOn (h .sequence) rest))

@@ -1,29 +1,21 @@
--- Modify and Delete keep the table rules: a table that kept them before keeps them after, whatever came.
+-- Modify, Delete and the reply to a Delete Bearer leave a record that may stand where it stood, whatever came: so they keep the table rules.
 -- Assumes nothing.
-use Prim.Native.Nat.{ℕ, _<_, _≤_}
-use mathlib.Core.Bool.{Bool, true, false, not, _&&_}
+use Prim.Native.Nat.{ℕ}
+use mathlib.Core.Bool.{Bool, true, false, not}
 use mathlib.Core.List.{List}
-use mathlib.Core.Path.{_≡_, refl, sym, _∙_}
+use mathlib.Core.Path.{_≡_, refl}
 use native.Mathlib.Omega.{arith}
-use lib.ListN.{length, getD}
-use lib.Dec.{eqb, ltb}
-use borrow.Author.Tests.{eqb-true, not-true}
-use Rattle.octets.specs.Choice.{pick, split, impossible, and-left, and-right, differs, tests}
-use Rattle.tunnel.specs.Numbering.{controlOffset, control-fits, base, places}
-use Rattle.tunnel.specs.declared.Holder.{Holder}
-use Rattle.tunnel.specs.declared.Holder.the-variants as H
-use Rattle.tunnel.specs.Tunnel.{holderOf}
+use lib.Dec.{eqb}
+use borrow.Author.Tests.{not-true}
+use Rattle.octets.specs.Choice.{split, and-left, and-right, differs}
 use Rattle.session.specs.declared.Session.{Session}
 use Rattle.session.specs.declared.Bounds.{Bounds}
-use Rattle.session.specs.Session.{isFree, recordOk, heldOk, readOk, freed, moved}
-use Rattle.session.specs.Keep.{live-of}
-use Rattle.table.specs.declared.Node.{Node}
-use Rattle.table.specs.declared.Table.{Table}
-use Rattle.table.specs.declared.Found.{Found}
-use Rattle.table.specs.declared.Found.the-variants as F
-use Rattle.table.specs.Rules.{keepsRules, Rules, rules-of, rules-to, boundsOf}
-use Rattle.table.specs.Change.{nobody, changedAt, record-ok, rules-freed, rules-moved}
-use Rattle.table.specs.Find.{ownerOf, heldIn, owner-is}
+use Rattle.session.specs.Session.{isFree, waitsFor, recordOk, heldOk, readOk, moved}
+use Rattle.session.specs.Keep.{live-of, ok-moved, lighter-moved}
+use Rattle.header.specs.declared.HeaderCursor.{HeaderCursor}
+use Rattle.carried.specs.Carried as carried
+use Rattle.carried.specs.declared.BearerReply.{BearerReply}
+use Rattle.carried.specs.declared.BearerReply.the-variants as B
 use Rattle.requests.specs.declared.Peer.{Peer}
 use Rattle.requests.specs.declared.Peer.the-variants as P
 use Rattle.requests.specs.declared.Modify as M
@@ -31,27 +23,9 @@ use Rattle.requests.specs.declared.Decoded.{Decoded}
 use Rattle.requests.specs.declared.Decoded.the-variants as D
 use Rattle.requests.specs.declared.Request.the-variants as Q
 use Rattle.changes.specs.Change.{modifyOf, deleteOf, PeerSound, ModifySound, modify-sound, new-live}
-use Rattle.timing.specs.Timing.{Outcome, outcome, held}
-use Rattle.control.specs.Amends.{causeTaken, peerTeid, peerAddr, peersOf, modifyDone, modifyBy, modifyFor, modifyTaken, deleteDone, deleteBy, deleteFor, deleteTaken}
-
--- ---- who is found by a number is not free
-held-live : (h : Holder) (l : List Session) (i : ℕ) → heldIn h l ≡ F.At i → isFree (getD l i nobody) ≡ false
-unfolding heldIn
-held-live H.Nobody l i e = let z : _≡_ {A = ℕ} 0 1 = cc in absurd (omega arith)
-held-live (H.At place usage) l i e = split (ltb place (length l) && not (isFree (getD l place nobody)) && eqb (getD l place nobody .usage) usage) there none
-  where
-    there : (ltb place (length l) && not (isFree (getD l place nobody)) && eqb (getD l place nobody .usage) usage) ≡ true → isFree (getD l i nobody) ≡ false
-    there t =
-        let f : F.At place ≡ F.At i = rw t at e in
-        let k : place ≡ i = cc in
-        let n : not (isFree (getD l place nobody)) ≡ true = search (and-left, and-right) in
-        rw (← k) (not-true (isFree (getD l place nobody)) n)
-
-    none : (ltb place (length l) && not (isFree (getD l place nobody)) && eqb (getD l place nobody .usage) usage) ≡ false → isFree (getD l i nobody) ≡ false
-    none t = let f : F.Nothing ≡ F.At i = rw t at e in let z : _≡_ {A = ℕ} 0 1 = cc in absurd (omega arith)
-
-pub owner-live : (n : ℕ) (l : List Session) (i : ℕ) → length l ≡ places → ownerOf controlOffset n l ≡ F.At i → isFree (getD l i nobody) ≡ false
-owner-live n l i s e = held-live (holderOf controlOffset n) l i (sym (owner-is controlOffset n l control-fits (omega arith)) ∙ e)
+use Rattle.timing.specs.Timing.{quiet}
+use Rattle.timing.specs.OnSession.{Fits, fits-same, fits-freed}
+use Rattle.control.specs.Amends.{causeOn, peerTeid, peersOf, movedOn, modifyRead, modifyOn, freedOn, deleteRead, deleteOn, bearerBy, bearerOn, sessionOf}
 
 -- ---- the peers after a Modify are never 0
 peers-known : (b : Bounds) (s : Session) → recordOk b s ≡ true → isFree s ≡ false → (s .control ≡ 0 → ⊥) × (s .user ≡ 0 → ⊥)
@@ -67,46 +41,43 @@ unfolding peerTeid
 peer-some P.Same old h o e = o e
 peer-some (P.New teid addr) old h o e = let k = new-live teid addr h in omega arith
 
-module _ (node : Node) (t : Table) (e : keepsRules node (t .recs) ≡ true) where
-  rules : Rules (node .plan) (node .echo) (node .next) (t .recs)
-  rules = rules-of node (t .recs) e
+module _ (b : Bounds) (s : Session) (ok : recordOk b s ≡ true) where
+  moved-fits : (m : M.Modify) → isFree s ≡ false → ModifySound m → Fits b s (moved (peersOf m s) s)
+  unfolding peersOf
+  moved-fits m n q =
+      let k = peers-known b s ok n in
+      record {
+        ok = ok-moved b s ok (peersOf m s) n (peer-some (m .control) (s .control) (q .control) (k .0)) (peer-some (m .user) (s .user) (q .user) (k .1));
+        lighter = lighter-moved s (peersOf m s);
+      }
 
-  Kept : Outcome → Type 0
-  Kept o = keepsRules (o .answer .node) (o .answer .table .recs) ≡ true
-
-  pub delete-keeps : (teid seq : ℕ) (rest reply : List ℕ) → keepsRules (deleteTaken node t teid seq rest reply .answer .node) (deleteTaken node t teid seq rest reply .answer .table .recs) ≡ true
-  unfolding deleteTaken deleteFor deleteBy deleteDone causeTaken held Kept
-  delete-keeps teid seq rest reply = found (ownerOf controlOffset teid (t .recs))
+  modify-fits : (seq : ℕ) (rest : List ℕ) → Fits b s (modifyOn seq rest s .session)
+  unfolding modifyOn modifyRead movedOn causeOn
+  modify-fits seq rest = split (isFree s) (λ e. rw e (fits-same b s ok)) (λ n. rw n (by n (modifyOf (s .ebi) rest) refl))
     where
-      by : (d : Decoded) (i : ℕ) (s : Session) → Kept (deleteBy d seq i s node t reply)
-      by (D.Refused w) i s = e
-      by (D.Sound q) i s = rules-to node (changedAt freed i (t .recs)) (rules-freed (node .plan) (node .echo) (node .next) (t .recs) rules i)
+      by : isFree s ≡ false → (d : Decoded) → modifyOf (s .ebi) rest ≡ d → Fits b s (modifyRead d seq s .session)
+      by n (D.Refused w) q = fits-same b s ok
+      by n (D.Sound (Q.Modify m)) q = moved-fits m n (modify-sound (s .ebi) rest m q)
+      by n (D.Sound (Q.Create c)) q = fits-same b s ok
+      by n (D.Sound (Q.Delete d)) q = fits-same b s ok
 
-      found : (f : Found) → Kept (deleteFor f seq rest node t reply)
-      found F.Nothing = e
-      found (F.At i) = by (deleteOf (getD (t .recs) i nobody .ebi) rest) i (getD (t .recs) i nobody)
-
-  pub modify-keeps : (teid seq : ℕ) (rest reply : List ℕ) → keepsRules (modifyTaken node t teid seq rest reply .answer .node) (modifyTaken node t teid seq rest reply .answer .table .recs) ≡ true
-  unfolding modifyTaken modifyFor modifyBy modifyDone causeTaken held peersOf Kept
-  modify-keeps teid seq rest reply = found (ownerOf controlOffset teid (t .recs)) refl
+  delete-fits : (seq : ℕ) (rest : List ℕ) → Fits b s (deleteOn seq rest s .session)
+  unfolding deleteOn deleteRead freedOn causeOn
+  delete-fits seq rest = split (isFree s) (λ e. rw e (fits-same b s ok)) (λ n. rw n (by (deleteOf (s .ebi) rest)))
     where
-      done : (i : ℕ) (m : M.Modify) → isFree (getD (t .recs) i nobody) ≡ false → ModifySound m
-          → keepsRules node (changedAt (moved (peersOf m (getD (t .recs) i nobody))) i (t .recs)) ≡ true
-      done i m n q =
-          let k = peers-known (boundsOf (node .plan)) (getD (t .recs) i nobody) (record-ok (node .plan) (node .echo) (node .next) (t .recs) rules i) n in
-          rules-to node (changedAt (moved (peersOf m (getD (t .recs) i nobody))) i (t .recs))
-          (rules-moved (node .plan) (node .echo) (node .next) (t .recs) rules (peersOf m (getD (t .recs) i nobody)) i n
-          (peer-some (m .control) (getD (t .recs) i nobody .control) (q .control) (k .0))
-          (peer-some (m .user) (getD (t .recs) i nobody .user) (q .user) (k .1)))
+      by : (d : Decoded) → Fits b s (deleteRead d seq s .session)
+      by (D.Refused w) = fits-same b s ok
+      by (D.Sound q) = fits-freed b s ok
 
-      by : (i : ℕ) → isFree (getD (t .recs) i nobody) ≡ false → (d : Decoded) → modifyOf (getD (t .recs) i nobody .ebi) rest ≡ d
-          → Kept (modifyBy d seq i (getD (t .recs) i nobody) node t reply)
-      by i n (D.Refused w) q = e
-      by i n (D.Sound (Q.Modify m)) q = done i m n (modify-sound (getD (t .recs) i nobody .ebi) rest m q)
-      by i n (D.Sound (Q.Create c)) q = e
-      by i n (D.Sound (Q.Delete d)) q = e
+  bearer-fits : (mine : Bool) (a : BearerReply) → Fits b s (bearerBy a mine s .session)
+  unfolding bearerBy quiet
+  bearer-fits mine B.Unreadable = fits-same b s ok
+  bearer-fits true (B.Cause cause) = fits-freed b s ok
+  bearer-fits false (B.Cause cause) = fits-same b s ok
 
-      found : (f : Found) → ownerOf controlOffset teid (t .recs) ≡ f → Kept (modifyFor f seq rest node t reply)
-      found F.Nothing q = e
-      found (F.At i) q =
-          by i (owner-live teid (t .recs) i (rules .size) q) (modifyOf (getD (t .recs) i nobody .ebi) rest) refl
+  pub session-fits : (h : HeaderCursor) (rest : List ℕ) → Fits b s (sessionOf h rest s .session)
+  unfolding sessionOf bearerOn
+  session-fits h rest =
+      split (eqb (h .kind) 34) (λ x. rw x (modify-fits (h .sequence) rest))
+      (λ x. split (eqb (h .kind) 36) (λ y. rw (x, y) (delete-fits (h .sequence) rest))
+      (λ y. rw (x, y) (bearer-fits (waitsFor (h .sequence) s) (carried.bearerReplyOf rest))))

@@ -10,7 +10,6 @@ use lib.ListN.{length, getD}
 use lib.Dec.{eqb, ltb}
 use borrow.Author.Tests.{ltb-true, ltb-false}
 use Rattle.octets.specs.Choice.{pick, split}
-use Rattle.octets.specs.Overlay.{overlay}
 use Rattle.octets.specs.Below.{to-equal}
 use Rattle.tunnel.specs.Numbering.{teids}
 use Rattle.tunnel.specs.Tunnel.{controlNumber, userNumber}
@@ -37,7 +36,7 @@ use Rattle.requests.specs.declared.Decoded.the-variants as D
 use Rattle.requests.specs.declared.Request.the-variants as Q
 use Rattle.requests.specs.Create.{createOf, replyTo}
 use Rattle.timing.specs.declared.Answer.{Answer}
-use Rattle.timing.specs.Timing.{Outcome, outcome, held, refused}
+use Rattle.timing.specs.Timing.{Outcome, outcome, replied, held, refused}
 use Rattle.control.specs.Amends.{causeTaken, notLive}
 use Rattle.control.specs.Echoes.{heardBy}
 
@@ -61,9 +60,7 @@ acceptedOctets plan seq i s =
     (userNumber (s .usage) i % teids) (plan .user) (plan .recovery)
 
 unfoldable pub acceptedTaken : ℕ → ℕ → Session → Node → Table → List ℕ → Outcome
-acceptedTaken seq i s node t reply = outcome
-    (record { number = 0; size = 78; node = node; table = t })
-    (overlay (acceptedOctets (node .plan) seq i s) reply)
+acceptedTaken seq i s node t reply = replied 0 node t (acceptedOctets (node .plan) seq i s) reply
 
 -- no room: 73, no field named
 unfoldable pub noRoom : Refusal

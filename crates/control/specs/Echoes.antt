@@ -1,34 +1,24 @@
--- What is done with an Echo Request (1), the reply to the unit's own echo (2) and the reply to its Delete Bearer (100), once their
--- headers and what they carry are read; and what a Recovery value does.
+-- What is done with an Echo Request (1) and the reply to the unit's own echo (2), once their headers and what they carry are read; and what
+-- a Recovery value does.
 -- Assumes nothing.
 use Prim.Native.Nat.{ℕ}
-use mathlib.Core.Bool.{Bool, true, false, _&&_}
+use mathlib.Core.Bool.{Bool, true, false}
 use mathlib.Core.List.{List, map}
-use mathlib.Core.Path.{_≡_, refl, sym, _∙_}
-use lib.Dec.{eqb}
+use mathlib.Core.Path.{_≡_, refl}
 use Rattle.octets.specs.Choice.{pick, split, impossible}
-use Rattle.octets.specs.Overlay.{overlay}
-use Rattle.tunnel.specs.Numbering.{controlOffset}
-use Rattle.session.specs.declared.Session.{Session}
 use Rattle.session.specs.Request.{awaits}
-use Rattle.session.specs.Session.{waitsFor, freed}
+use Rattle.session.specs.Session.{freed}
 use Rattle.table.specs.declared.Node.{Node}
 use Rattle.table.specs.declared.Table.{Table}
-use Rattle.table.specs.declared.Found.{Found}
-use Rattle.table.specs.declared.Found.the-variants as F
 use Rattle.table.specs.Rules.{keepsRules, Rules, rules-of, rules-to}
-use Rattle.table.specs.Change.{changedAt, rules-freed}
-use Rattle.table.specs.Find.{foundIn, ownerOf}
 use Rattle.table.specs.Own.{rested, restarted, hearing, keptAfter, rules-heard, rules-rested}
 use Rattle.messages.specs.Messages.{echoOf}
 use Rattle.readers.specs.declared.Recovery.{Recovery}
 use Rattle.readers.specs.declared.Recovery.the-variants as R
 use Rattle.carried.specs.declared.EchoReply.{EchoReply}
 use Rattle.carried.specs.declared.EchoReply.the-variants as E
-use Rattle.carried.specs.declared.BearerReply.{BearerReply}
-use Rattle.carried.specs.declared.BearerReply.the-variants as B
 use Rattle.timing.specs.declared.Answer.{Answer}
-use Rattle.timing.specs.Timing.{Outcome, outcome, timed, held, refused}
+use Rattle.timing.specs.Timing.{Outcome, replied, timed, held, refused}
 
 -- whether a Recovery says that the exchange restarted, and the node once it is stored
 unfoldable pub restartsBy : Recovery → Node → Bool
@@ -59,9 +49,8 @@ heard-same (R.Value value) node t e = rw e
 
 -- Echo Request (1): Recovery, and the answer
 unfoldable pub echoTaken : Node → Table → ℕ → Recovery → List ℕ → Outcome
-echoTaken node t seq recovery reply = outcome
-    (record { number = 0; size = 13; node = heardBy recovery node t .node; table = heardBy recovery node t .table })
-    (overlay (echoOf 2 seq (node .plan .recovery)) reply)
+echoTaken node t seq recovery reply =
+    replied 0 (heardBy recovery node t .node) (heardBy recovery node t .table) (echoOf 2 seq (node .plan .recovery)) reply
 
 -- the echo's answer (2): awaited and readable, it ends the echo; Recovery is looked at
 unfoldable pub echoEnded : Answer → Answer
@@ -75,25 +64,6 @@ echoEnded a = record {
 unfoldable pub echoReplyTaken : Node → Table → ℕ → EchoReply → Answer
 echoReplyTaken node t seq E.Unreadable = refused 9 node t
 echoReplyTaken node t seq (E.Carries recovery) = pick (awaits seq (node .echo)) (echoEnded (heardBy recovery node t)) (refused 9 node t)
-
--- the place that awaits the number is the one whose control number it is
-unfoldable pub foundAt : ℕ → Found → Found
-foundAt i (F.At j) = pick (eqb i j) (F.At i) F.Nothing
-foundAt i F.Nothing = F.Nothing
-
-unfoldable pub sameFound : Found → Found → Found
-sameFound (F.At i) f = foundAt i f
-sameFound F.Nothing f = F.Nothing
-
-unfoldable pub freedFound : Found → Node → Table → Answer
-freedFound (F.At i) node t = record { number = 0; size = 0; node = node; table = held (changedAt freed i (t .recs)) }
-freedFound F.Nothing node t = refused 9 node t
-
--- the reply to a Delete Bearer (100): with the awaited number, that place's control TEID and a readable Cause it frees the place
-unfoldable pub bearerReplyTaken : Node → Table → ℕ → ℕ → BearerReply → Answer
-bearerReplyTaken node t teid seq B.Unreadable = refused 9 node t
-bearerReplyTaken node t teid seq (B.Cause cause) =
-    freedFound (sameFound (foundIn (waitsFor seq) (t .recs)) (ownerOf controlOffset teid (t .recs))) node t
 
 -- ---- each keeps the rules
 module _ (node : Node) (t : Table) (e : keepsRules node (t .recs) ≡ true) where
@@ -109,17 +79,6 @@ module _ (node : Node) (t : Table) (e : keepsRules node (t .recs) ≡ true) wher
       → keepsRules (echoTaken node t seq r reply .answer .node) (echoTaken node t seq r reply .answer .table .recs) ≡ true
   unfolding echoTaken
   echo-keeps seq r reply = heard-keeps r
-
-  pub freed-keeps : (f : Found) → keepsRules (freedFound f node t .node) (freedFound f node t .table .recs) ≡ true
-  unfolding freedFound refused held
-  freed-keeps (F.At i) = rules-to node (changedAt freed i (t .recs)) (rules-freed (node .plan) (node .echo) (node .next) (t .recs) rules i)
-  freed-keeps F.Nothing = e
-
-  pub bearer-reply-keeps : (teid seq : ℕ) (b : BearerReply)
-      → keepsRules (bearerReplyTaken node t teid seq b .node) (bearerReplyTaken node t teid seq b .table .recs) ≡ true
-  unfolding bearerReplyTaken refused
-  bearer-reply-keeps teid seq B.Unreadable = e
-  bearer-reply-keeps teid seq (B.Cause cause) = freed-keeps (sameFound (foundIn (waitsFor seq) (t .recs)) (ownerOf controlOffset teid (t .recs)))
 
 -- an echo that ends leaves a table that keeps its rules
 pub ended-keeps : (a : Answer) → keepsRules (a .node) (a .table .recs) ≡ true → keepsRules (echoEnded a .node) (echoEnded a .table .recs) ≡ true

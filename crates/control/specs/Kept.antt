@@ -11,17 +11,23 @@ use borrow.Author.Tests.{ltb-true}
 use Rattle.octets.specs.Choice.{pick, split}
 use Rattle.octets.specs.Every.{every, every-at}
 use Rattle.octets.specs.BigEndian.{isOctet, numberOf, numberFrom}
+use Rattle.tunnel.specs.Numbering.{controlOffset}
 use Rattle.session.specs.Session.{lastCreated}
 use Rattle.table.specs.declared.Node.{Node}
 use Rattle.table.specs.declared.Table.{Table}
-use Rattle.table.specs.Rules.{keepsRules}
+use Rattle.table.specs.Rules.{boundsOf, keepsRules}
+use Rattle.table.specs.Find.{placeFound, ownerOf}
 use Rattle.header.specs.declared.HeaderCursor.{HeaderCursor}
 use Rattle.header.specs.Header.{headerOf, sequenceOf, sequenceBehind, sequenceBare, withTeid}
 use Rattle.header.specs.Gate.{gateOf}
 use Rattle.carried.specs.Carried as carried
-use Rattle.timing.specs.Timing.{Outcome, outcome, leastReply, refused}
-use Rattle.control.specs.Echoes.{echo-keeps, echo-reply-keeps, bearer-reply-keeps}
-use Rattle.control.specs.AmendsKept.{modify-keeps, delete-keeps}
+use Rattle.timing.specs.Timing.{Outcome, outcome, onOwner, leastReply, refused}
+use Rattle.timing.specs.OnSession.{on-keeps}
+use Rattle.control.specs.Kind.{Kind, kindBy}
+use Rattle.control.specs.Kind as K
+use Rattle.control.specs.Amends.{sessionOf}
+use Rattle.control.specs.Echoes.{echo-keeps, echo-reply-keeps}
+use Rattle.control.specs.AmendsKept.{session-fits}
 use Rattle.control.specs.CreatesKept.{create-keeps}
 use Rattle.control.specs.Control.{kindTaken, gateTaken, controlTaken}
 
@@ -42,24 +48,23 @@ sequence-small d o =
     (λ t. rw t (three (getD d 4 0) (getD d 5 0) (getD d 6 0) (every-at isOctet d 4 0 o refl) (every-at isOctet d 5 0 o refl) (every-at isOctet d 6 0 o refl)))
 
 module _ (node : Node) (t : Table) (e : keepsRules node (t .recs) ≡ true) (reply : List ℕ) where
-  kind-keeps : (h : HeaderCursor) (rest : List ℕ) → h .sequence ≤ lastCreated
-      → keepsRules (kindTaken h rest node t reply .answer .node) (kindTaken h rest node t reply .answer .table .recs) ≡ true
-  unfolding kindTaken refused
-  kind-keeps h rest s =
-      split (eqb (h .kind) 1) (λ a. rw a (echo-keeps node t e (h .sequence) (carried.echoOf rest) reply))
-      (λ a. split (eqb (h .kind) 2) (λ b. rw (a, b) (echo-reply-keeps node t (h .sequence) (carried.echoReplyOf rest) e))
-      (λ b. split (eqb (h .kind) 32) (λ c. rw (a, b, c) (create-keeps node t (h .sequence) rest reply e s))
-      (λ c. split (eqb (h .kind) 34) (λ d. rw (a, b, c, d) (modify-keeps node t e (h .teid) (h .sequence) rest reply))
-      (λ d. split (eqb (h .kind) 36) (λ f. rw (a, b, c, d, f) (delete-keeps node t e (h .teid) (h .sequence) rest reply))
-      (λ f. split (eqb (h .kind) 100) (λ g. rw (a, b, c, d, f, g) (bearer-reply-keeps node t e (h .teid) (h .sequence) (carried.bearerReplyOf rest)))
-      (λ g. rw (a, b, c, d, f, g) e))))))
+  kind-keeps : (k : Kind) (h : HeaderCursor) (rest : List ℕ) → h .sequence ≤ lastCreated
+      → keepsRules (kindTaken k h rest node t reply .answer .node) (kindTaken k h rest node t reply .answer .table .recs) ≡ true
+  unfolding kindTaken onOwner refused
+  kind-keeps K.Echo h rest s = echo-keeps node t e (h .sequence) (carried.echoOf rest) reply
+  kind-keeps K.EchoReply h rest s = echo-reply-keeps node t (h .sequence) (carried.echoReplyOf rest) e
+  kind-keeps K.Create h rest s = create-keeps node t (h .sequence) rest reply e s
+  kind-keeps K.Named h rest s =
+      on-keeps node (t .recs) (placeFound (ownerOf controlOffset (h .teid) (t .recs)) (t .recs)) (sessionOf h rest) reply e
+      (λ x ok. session-fits (boundsOf (node .plan)) x ok h rest)
+  kind-keeps K.Other h rest s = e
 
   pub control-keeps : (d : List ℕ) → every isOctet d ≡ true
       → keepsRules (controlTaken node t d reply .answer .node) (controlTaken node t d reply .answer .table .recs) ≡ true
   unfolding controlTaken gateTaken refused
   control-keeps d o =
       split (ltb (length reply) leastReply) (λ a. rw a e)
-      (λ a. split (eqb (gateOf d) 0) (λ b. rw (a, e, b) (kind-keeps (headerOf d) (drop (headerOf d .fields) d) (sequence-small d o)))
+      (λ a. split (eqb (gateOf d) 0) (λ b. rw (a, e, b) (kind-keeps (kindBy (headerOf d .kind)) (headerOf d) (drop (headerOf d .fields) d) (sequence-small d o)))
       (λ b. split (eqb (gateOf d) 5) (λ c. rw (a, e, b, c) e) (λ c. rw (a, e, b, c) e)))
 
 -- the same, said of all

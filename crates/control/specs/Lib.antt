@@ -1,3 +1,4 @@
+pub mod Kind
 pub mod Echoes
 pub mod Amends
 pub mod AmendsKept

@@ -18,8 +18,7 @@ use tunnel::UserTeid;
 ghost use mathlib.Core.Path.{_≡_};
 ghost use Rattle.session.specs.Request.{awaits};
 ghost use Rattle.control.specs.Echoes.{restartsBy, heardNode};
-ghost use Rattle.octets.specs.Overlay.{overlay};
-ghost use Rattle.control.specs.Amends.{notLive, causeSize, causeOctets, peerTeid, peerAddr, peersOf, Replied, modifySize, modifyOctets};
+ghost use Rattle.control.specs.Amends.{notLive, causeOctets, Wrote, peerTeid, peerAddr, peersOf, modifyOctets};
 ghost use Rattle.control.specs.Creates.{openingOf, acceptedOctets, noRoom, isRepeat};
 ghost use Rattle.control.specs.Kept.{ControlKeeps};
 
@@ -64,7 +63,7 @@ pub fn not_live() -> Refusal
 
 // A reply with a cause, and the field at fault where one is named; the answer is its length.
 pub fn write_cause(kind: u8, teid: u32, seq: u32, w: Refusal, reply: &mut [u8]) -> usize
-    ensures { λ r. ⌜ Replied r (now (reply .exit)) (causeSize w) (overlay (causeOctets kind teid seq w) (now (reply .entry))) ⌝ }
+    ensures { λ r. ⌜ Wrote r (now (reply .exit)) (now (reply .entry)) (causeOctets kind teid seq w) ⌝ }
 {
     if w.named {
         messages::fault_reply(reply, kind, teid, seq, w.cause, w.kind, w.instance);
@@ -112,7 +111,7 @@ pub fn peers_of(m: Modify, s: Session) -> Peers
 
 // The accepted reply to a Modify; the answer is its length.
 pub fn modify_reply(context: Context, teid: u32, seq: u32, ebi: u8, reply: &mut [u8]) -> usize
-    ensures { λ r. ⌜ Replied r (now (reply .exit)) (modifySize context) (overlay (modifyOctets context teid seq ebi) (now (reply .entry))) ⌝ }
+    ensures { λ r. ⌜ Wrote r (now (reply .exit)) (now (reply .entry)) (modifyOctets context teid seq ebi) ⌝ }
 {
     match context {
         Context::Absent => {
@@ -142,9 +141,9 @@ pub fn opening_of(c: Create, seq: u32) -> Opening
     }
 }
 
-// The accepted reply, from the record of a place.
-pub fn write_accepted(plan: Plan, seq: u32, place: usize, s: Session, reply: &mut [u8])
-    ensures { λ _. ⌜ now (reply .exit) ≡ overlay (acceptedOctets plan seq place s) (now (reply .entry)) ⌝ }
+// The accepted reply, from the record of a place; the answer is its length.
+pub fn write_accepted(plan: Plan, seq: u32, place: usize, s: Session, reply: &mut [u8]) -> usize
+    ensures { λ r. ⌜ Wrote r (now (reply .exit)) (now (reply .entry)) (acceptedOctets plan seq place s) ⌝ }
 {
     let control = ControlTeid::of(s.usage, place);
     let user = UserTeid::of(s.usage, place);
@@ -163,6 +162,7 @@ pub fn write_accepted(plan: Plan, seq: u32, place: usize, s: Session, reply: &mu
             recovery: plan.recovery,
         },
     );
+    78
 }
 
 pub fn no_room() -> Refusal

@@ -39,6 +39,7 @@ use Rattle.requests.specs.declared.Request.the-variants as Q
 use Rattle.requests.specs.Create.{createOf, create-sound}
 use Rattle.timing.specs.declared.Answer.{Answer}
 use Rattle.timing.specs.Timing.{Outcome, leastReply, held, refused}
+use Rattle.control.specs.Kind.{kindBy}
 use Rattle.control.specs.Echoes.{heardBy, heard-keeps}
 use Rattle.control.specs.Amends.{causeTaken}
 use Rattle.control.specs.Creates.{openingOf, acceptedTaken, noRoom, openedAt, shared, isRepeat, settledAt, heardCreate, createBy, createTaken}
@@ -116,7 +117,7 @@ module _ (p : Plan) (s : State) (kept : Kept s) (plan : s .node .plan ≡ p) (d 
   decoded = rw plan (n .sound .fields)
 
   comes-to : controlTaken (s .node) (s .table) d reply ≡ shared c seq (heard c s .node) (held (asked c s)) (s .node) (s .table) reply
-  unfolding controlTaken gateTaken kindTaken createTaken createBy heardCreate leastReply asked
+  unfolding controlTaken gateTaken kindTaken kindBy createTaken createBy heardCreate leastReply asked
   comes-to =
       rw (le-ltb (length reply) 128 room, kept, n .sound .header, n .sound .kind, decoded)
       (settled-shared c seq (heard c s .node) (heard c s .table) (s .node) (s .table) reply (foundIn (hasId (c .imsi) (c .ebi)) (heard c s .table .recs)) refl (n .new))

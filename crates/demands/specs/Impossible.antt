@@ -33,6 +33,7 @@ use Rattle.header.specs.Header.{versionOf, flagP, flagT, kindOf, lengthOf, with
 use Rattle.header.specs.Gate.{gateOf, controlVersion, createType}
 use Rattle.messages.specs.Messages as messages
 use Rattle.timing.specs.Timing.{Outcome, leastReply, held, refused, freshOf}
+use Rattle.control.specs.Kind.{kindBy}
 use Rattle.control.specs.Echoes.{heardBy, echoTaken}
 use Rattle.control.specs.Creates.{openingOf, acceptedTaken}
 use Rattle.control.specs.Control.{kindTaken, gateTaken, controlTaken}
@@ -176,14 +177,14 @@ echo-octet n recovery reply h room = overlay-at (messages.echoOf 2 n recovery) r
 
 echo-answer : (s : State) → Kept s → (reply : List ℕ) → 128 ≤ length reply → (n : ℕ)
     → controlTaken (s .node) (s .table) (echo n) reply ≡ echoTaken (s .node) (s .table) n (carried.echoOf (drop (headerOf (echo n) .fields) (echo n))) reply
-unfolding controlTaken gateTaken kindTaken leastReply
+unfolding controlTaken gateTaken kindTaken kindBy leastReply
 echo-answer s k reply room n = rw (le-ltb (length reply) 128 room, k, echo-gate n, echo-kind n, echo-sequence n)
 
 pub not-one-reply : NotOneReply
 unfolding NotOneReply answered echoTaken
 not-one-reply p es r reply room n h = record {
   number = ap (λ (o : Outcome). o .answer .number) e;
-  size = ap (λ (o : Outcome). o .answer .size) e;
+  size = ap (λ (o : Outcome). o .answer .size) e ∙ messages.size-echo 2 n (reached p es .node .plan .recovery);
   octet = ap (λ (o : Outcome). getD (o .reply) 6 0) e ∙ echo-octet n (reached p es .node .plan .recovery) reply h room;
 }
   where

@@ -8,7 +8,7 @@ use native.Mathlib.Nat.{mul-le-mul-right}
 use native.Mathlib.Omega.{arith}
 use lib.ListN.{length}
 use lib.Dec.{eqb, ltb}
-use borrow.Author.Tests.{eqb-true, eqb-false, eq-eqb, ne-eqb, ltb-true, ltb-false, lt-ltb, not-true}
+use borrow.Author.Tests.{eqb-true, eqb-false, eq-eqb, ne-eqb, ltb-true, ltb-false, not-true}
 use mir.Val.{boolByte}
 use Rattle.octets.specs.Choice.{split, impossible, and-left, and-right, or-true, tests}
 use Rattle.octets.specs.Every.{every}
@@ -26,15 +26,16 @@ use Rattle.session.specs.Keep.{own-ok, live-of}
 use Rattle.table.specs.declared.Node.{Node}
 use Rattle.table.specs.declared.Table.{Table}
 use Rattle.table.specs.Rules.{keepsRules, boundsOf, Rules, rules-of}
-use Rattle.table.specs.Change.{nobody, record-ok, changed-here}
+use Rattle.table.specs.Change.{at-changed, nobody, record-ok, changed-here}
 use Rattle.table.specs.Number.{takenNumber}
 use Rattle.table.specs.Own.{duePlace, due-in}
-use Rattle.timing.specs.Timing.{leastReply, held, refused, closable, closeOf, echoSent, placeSent, dueSent, sendOf}
+use Rattle.timing.specs.OnSession.{on-at}
+use Rattle.timing.specs.Timing.{quiet, onSession, leastReply, held, refused, closeOn, closeOf, echoSent, placeSent, dueSent, sendOf}
 use Rattle.demands.specs.Run.{State, left, Event, control, user, tick, send, close, line, step, line-step, answered, reached, ofOctets, Run, Kept, step-keeps, reached-keeps}
 use Rattle.demands.specs.Stays.{step-plan, reached-plan}
 use Rattle.demands.specs.Bounds.{at}
 use Rattle.demands.specs.Ticks.{place-ticked, all-freed}
-use Rattle.demands.specs.Place.{gone, Same, After, freed-gone, at-changed, control-at}
+use Rattle.demands.specs.Place.{gone, Same, After, freed-gone, control-at}
 
 unfoldable pub isTick : Event → Bool
 isTick (control d reply) = false
@@ -161,11 +162,11 @@ module _ (p : Plan) (i : ℕ) (h : i < 64) where
       due e d = due-timer (at s i) (rw e (first-passes isDue (s .table .recs) nobody (ltb-true (firstOf isDue (s .table .recs)) (length (s .table .recs)) d)))
 
   close-here : (s : State) → Good s → (j : ℕ) → at s i .state ≡ 2 → Spends (p .resend) 0 (at s i) (at (step (close j) s) i)
-  unfolding step left closeOf refused held
+  unfolding step left closeOf closeOn quiet
   close-here s g j c =
-      split (closable j (s .table .recs))
-      (λ q. rw (g .kept, q) (at-changed (Spends (p .resend) 0 (at s i)) closed (s .table .recs) i j (there s g) (same-here s c) (λ e. closed-spends (p .resend) (at s i) c)))
-      (λ q. rw (g .kept, q) (same-here s c))
+      rw (g .kept)
+      (on-at (s .node) (s .table .recs) j closeOn [] (Spends (p .resend) 0 (at s i)) i (there s g) (same-here s c)
+      (λ e. rw (closing-taken (at s i) c) (closed-spends (p .resend) (at s i) c)))
 
   tick-here : (s : State) → Good s → at s i .state ≡ 2 → isDue (at s i) ≡ false → gone (at s i .usage) (at (step tick s) i) ≡ false
       → Spends (p .resend) 1 (at s i) (at (step tick s) i)
@@ -238,9 +239,9 @@ module _ (p : Plan) (i : ℕ) (h : i < 64) where
 
   -- the close: a live place is closing then, and nothing has been sent
   close-is : (s : State) → Good s → at s i .state ≡ 1 → at (step (close i) s) i ≡ closed (at s i)
-  unfolding step left closeOf held closable isFree
+  unfolding step left closeOf onSession held closeOn quiet isFree
   close-is s g c =
-      rw (g .kept, lt-ltb i (length (s .table .recs)) (there s g), ne-eqb (at s i .state) 0 (λ z. omega arith)) (changed-here closed i (s .table .recs) nobody (there s g))
+      rw (g .kept, changed-here (λ x. closeOn x .session) i (s .table .recs) nobody (there s g), ne-eqb (at s i .state) 0 (λ z. omega arith))
 
   live-idle : (s : State) → Good s → at s i .state ≡ 1 → (at s i .own .sends ≡ 0) × (at s i .own .timer ≡ 0)
   unfolding phaseOk isClosing isFree boundsOf

@@ -9,7 +9,7 @@ use mathlib.Core.Path.{_≡_, refl, sym, _∙_}
 use native.Mathlib.Omega.{arith}
 use lib.ListN.{length, drop, getD, length-map}
 use lib.Dec.{eqb, ltb}
-use borrow.Author.Tests.{eqb-true, eqb-false, ne-eqb}
+use borrow.Author.Tests.{ne-eqb}
 use Rattle.octets.specs.Choice.{split, impossible, tests}
 use Rattle.octets.specs.Places.{map-at}
 use Rattle.tunnel.specs.Numbering.{controlOffset, lastUse}
@@ -25,8 +25,8 @@ use Rattle.table.specs.declared.Table.{Table}
 use Rattle.table.specs.declared.Found.{Found}
 use Rattle.table.specs.declared.Found.the-variants as F
 use Rattle.table.specs.Rules.{keepsRules, live}
-use Rattle.table.specs.Change.{nobody, changedAt, length-changed, changed-here, changed-other}
-use Rattle.table.specs.Find.{foundIn, ownerOf}
+use Rattle.table.specs.Change.{at-changed, nobody, changedAt, length-changed}
+use Rattle.table.specs.Find.{placeFound, foundIn, ownerOf}
 use Rattle.table.specs.Own.{restarted, keptAfter}
 use Rattle.header.specs.declared.HeaderCursor.{HeaderCursor}
 use Rattle.header.specs.Header.{headerOf}
@@ -44,9 +44,12 @@ use Rattle.requests.specs.declared.Decoded.the-variants as D
 use Rattle.requests.specs.declared.Request.the-variants as Q
 use Rattle.requests.specs.Create.{createOf, replyTo}
 use Rattle.changes.specs.Change.{modifyOf, deleteOf}
-use Rattle.timing.specs.Timing.{leastReply, held, refused}
-use Rattle.control.specs.Echoes.{heardBy, echoTaken, echoEnded, echoReplyTaken, sameFound, freedFound, bearerReplyTaken}
-use Rattle.control.specs.Amends.{peersOf, causeTaken, modifyDone, modifyBy, modifyFor, modifyTaken, deleteDone, deleteBy, deleteFor, deleteTaken}
+use Rattle.timing.specs.Timing.{quiet, onOwner, leastReply, held, refused}
+use Rattle.timing.specs.OnSession.{on-at}
+use Rattle.control.specs.Kind.{Kind, kindBy}
+use Rattle.control.specs.Kind as K
+use Rattle.control.specs.Echoes.{heardBy, echoTaken, echoEnded, echoReplyTaken}
+use Rattle.control.specs.Amends.{peersOf, causeTaken, causeOn, movedOn, modifyRead, modifyOn, freedOn, deleteRead, deleteOn, bearerBy, bearerOn, sessionOf}
 use Rattle.control.specs.Creates.{openingOf, acceptedTaken, openedAt, shared, isRepeat, settledAt, heardCreate, createBy, createTaken}
 use Rattle.control.specs.Control.{kindTaken, gateTaken, controlTaken}
 
@@ -95,15 +98,38 @@ opened-after : (s x : Session) (o : Opening) → x .usage ≡ s .usage → After
 unfolding gone opened isFree
 opened-after s x o e g = let f : eqb (nextUse (x .usage)) (s .usage) ≡ false = ne-eqb (nextUse (x .usage)) (s .usage) (λ z. next-other (x .usage) (z ∙ sym e)) in impossible (sym (rw f at g))
 
--- ---- one record changed: what is at place i is as it was, or changed if it is that one
-pub at-changed : (P : Session → Type 0) (f : Session → Session) (l : List Session) (i j : ℕ) → i < length l
-    → P (getD l i nobody) → (i ≡ j → P (f (getD l i nobody))) → P (getD (changedAt f j l) i nobody)
-at-changed P f l i j h a b =
-    split (eqb i j)
-    (λ t. let e = eqb-true i j t in
-    let q : getD (changedAt f j l) i nobody ≡ f (getD l i nobody) = rw (← e) (changed-here f i l nobody h) in
-    rw q (b e))
-    (λ t. rw (changed-other f j l i nobody (eqb-false i j t)) a)
+-- what concerns one session leaves it the same, or frees it
+module _ (s : Session) where
+  modify-after : (seq : ℕ) (rest : List ℕ) → After s (modifyOn seq rest s .session)
+  unfolding modifyOn modifyRead movedOn causeOn
+  modify-after seq rest = split (isFree s) (λ e. rw e (left-same s .after)) (λ e. rw e (by (modifyOf (s .ebi) rest)))
+    where
+      by : (d : Decoded) → After s (modifyRead d seq s .session)
+      by (D.Refused w) = left-same s .after
+      by (D.Sound (Q.Modify m)) = moved-after s s (peersOf m s) (left-same s)
+      by (D.Sound (Q.Create c)) = left-same s .after
+      by (D.Sound (Q.Delete d)) = left-same s .after
+
+  delete-after : (seq : ℕ) (rest : List ℕ) → After s (deleteOn seq rest s .session)
+  unfolding deleteOn deleteRead freedOn causeOn
+  delete-after seq rest = split (isFree s) (λ e. rw e (left-same s .after)) (λ e. rw e (by (deleteOf (s .ebi) rest)))
+    where
+      by : (d : Decoded) → After s (deleteRead d seq s .session)
+      by (D.Refused w) = left-same s .after
+      by (D.Sound q) = freed-after s s
+
+  bearer-after : (b : BearerReply) (mine : Bool) → After s (bearerBy b mine s .session)
+  unfolding bearerBy quiet
+  bearer-after B.Unreadable mine = left-same s .after
+  bearer-after (B.Cause c) true = freed-after s s
+  bearer-after (B.Cause c) false = left-same s .after
+
+  session-after : (x : HeaderCursor) (rest : List ℕ) → After s (sessionOf x rest s .session)
+  unfolding sessionOf bearerOn
+  session-after x rest =
+      split (eqb (x .kind) 34) (λ a. rw a (modify-after (x .sequence) rest))
+      (λ a. split (eqb (x .kind) 36) (λ b. rw (a, b) (delete-after (x .sequence) rest))
+      (λ b. rw (a, b) (bearer-after (carried.bearerReplyOf rest) (waitsFor (x .sequence) s))))
 
 module _ (i : ℕ) (l₀ : List Session) where
   abbrev s₀ : Session
@@ -131,47 +157,10 @@ module _ (i : ℕ) (node : Node) (t : Table) (h : i < length (t .recs)) where
   abbrev here : Session
   here = getD (t .recs) i nobody
 
-  freed-found : (f : Found) → After here (getD (freedFound f node t .table .recs) i nobody)
-  unfolding freedFound refused held
-  freed-found (F.At j) = freed-at i (t .recs) (t .recs) j h (left-same here) .after
-  freed-found F.Nothing = left-same here .after
-
   echo-reply-at : (seq : ℕ) (r : EchoReply) → After here (getD (echoReplyTaken node t seq r .table .recs) i nobody)
   unfolding echoReplyTaken echoEnded refused
   echo-reply-at seq E.Unreadable = left-same here .after
   echo-reply-at seq (E.Carries r) = split (awaits seq (node .echo)) (λ a. rw a (heard-at i (t .recs) r node t refl h .after)) (λ a. rw a (left-same here .after))
-
-  bearer-at : (teid seq : ℕ) (b : BearerReply) → After here (getD (bearerReplyTaken node t teid seq b .table .recs) i nobody)
-  unfolding bearerReplyTaken refused
-  bearer-at teid seq B.Unreadable = left-same here .after
-  bearer-at teid seq (B.Cause c) = freed-found (sameFound (foundIn (waitsFor seq) (t .recs)) (ownerOf controlOffset teid (t .recs)))
-
-  modify-at : (teid seq : ℕ) (rest reply : List ℕ) → After here (getD (modifyTaken node t teid seq rest reply .answer .table .recs) i nobody)
-  unfolding modifyTaken modifyFor modifyBy modifyDone causeTaken held
-  modify-at teid seq rest reply = found (ownerOf controlOffset teid (t .recs))
-    where
-      by : (j : ℕ) (s : Session) (d : Decoded) → After here (getD (modifyBy d seq j s node t reply .answer .table .recs) i nobody)
-      by j s (D.Refused w) = left-same here .after
-      by j s (D.Sound (Q.Modify m)) =
-          at-changed (After here) (moved (peersOf m s)) (t .recs) i j h (left-same here .after) (λ e. moved-after here here (peersOf m s) (left-same here))
-      by j s (D.Sound (Q.Create c)) = left-same here .after
-      by j s (D.Sound (Q.Delete d)) = left-same here .after
-
-      found : (f : Found) → After here (getD (modifyFor f seq rest node t reply .answer .table .recs) i nobody)
-      found F.Nothing = left-same here .after
-      found (F.At j) = by j (getD (t .recs) j nobody) (modifyOf (getD (t .recs) j nobody .ebi) rest)
-
-  delete-at : (teid seq : ℕ) (rest reply : List ℕ) → After here (getD (deleteTaken node t teid seq rest reply .answer .table .recs) i nobody)
-  unfolding deleteTaken deleteFor deleteBy deleteDone causeTaken held
-  delete-at teid seq rest reply = found (ownerOf controlOffset teid (t .recs))
-    where
-      by : (j : ℕ) (s : Session) (d : Decoded) → After here (getD (deleteBy d seq j s node t reply .answer .table .recs) i nobody)
-      by j s (D.Refused w) = left-same here .after
-      by j s (D.Sound q) = freed-at i (t .recs) (t .recs) j h (left-same here) .after
-
-      found : (f : Found) → After here (getD (deleteFor f seq rest node t reply .answer .table .recs) i nobody)
-      found F.Nothing = left-same here .after
-      found (F.At j) = by j (getD (t .recs) j nobody) (deleteOf (getD (t .recs) j nobody .ebi) rest)
 
   -- Create: what Recovery and the replaced session left, and the place that is taken
   module _ (c : C.Create) (seq : ℕ) (reply : List ℕ) where
@@ -204,22 +193,21 @@ module _ (i : ℕ) (node : Node) (t : Table) (h : i < length (t .recs)) where
       by (D.Sound (Q.Modify m)) = left-same here .after
       by (D.Sound (Q.Delete d)) = left-same here .after
 
-  kind-at : (x : HeaderCursor) (rest reply : List ℕ) → After here (getD (kindTaken x rest node t reply .answer .table .recs) i nobody)
-  unfolding kindTaken echoTaken refused
-  kind-at x rest reply =
-      split (eqb (x .kind) 1) (λ a. rw a (heard-at i (t .recs) (carried.echoOf rest) node t refl h .after))
-      (λ a. split (eqb (x .kind) 2) (λ b. rw (a, b) (echo-reply-at (x .sequence) (carried.echoReplyOf rest)))
-      (λ b. split (eqb (x .kind) 32) (λ c. rw (a, b, c) (create-at (x .sequence) rest reply))
-      (λ c. split (eqb (x .kind) 34) (λ d. rw (a, b, c, d) (modify-at (x .teid) (x .sequence) rest reply))
-      (λ d. split (eqb (x .kind) 36) (λ f. rw (a, b, c, d, f) (delete-at (x .teid) (x .sequence) rest reply))
-      (λ f. split (eqb (x .kind) 100) (λ g. rw (a, b, c, d, f, g) (bearer-at (x .teid) (x .sequence) (carried.bearerReplyOf rest)))
-      (λ g. rw (a, b, c, d, f, g) (left-same here .after)))))))
+  kind-at : (k : Kind) (x : HeaderCursor) (rest reply : List ℕ) → After here (getD (kindTaken k x rest node t reply .answer .table .recs) i nobody)
+  unfolding kindTaken echoTaken onOwner refused
+  kind-at K.Echo x rest reply = heard-at i (t .recs) (carried.echoOf rest) node t refl h .after
+  kind-at K.EchoReply x rest reply = echo-reply-at (x .sequence) (carried.echoReplyOf rest)
+  kind-at K.Create x rest reply = create-at (x .sequence) rest reply
+  kind-at K.Named x rest reply =
+      on-at node (t .recs) (placeFound (ownerOf controlOffset (x .teid) (t .recs)) (t .recs)) (sessionOf x rest) reply (After here) i h
+      (left-same here .after) (λ e. session-after here x rest)
+  kind-at K.Other x rest reply = left-same here .after
 
   pub control-at : (d reply : List ℕ) → After here (getD (controlTaken node t d reply .answer .table .recs) i nobody)
   unfolding controlTaken gateTaken refused
   control-at d reply =
       split (ltb (length reply) leastReply) (λ a. rw a (left-same here .after))
       (λ a. split (keepsRules node (t .recs))
-      (λ e. split (eqb (gateOf d) 0) (λ b. rw (a, e, b) (kind-at (headerOf d) (drop (headerOf d .fields) d) reply))
+      (λ e. split (eqb (gateOf d) 0) (λ b. rw (a, e, b) (kind-at (kindBy (headerOf d .kind)) (headerOf d) (drop (headerOf d .fields) d) reply))
       (λ b. split (eqb (gateOf d) 5) (λ c. rw (a, e, b, c) (left-same here .after)) (λ c. rw (a, e, b, c) (left-same here .after))))
       (λ e. rw (a, e) (left-same here .after)))

@@ -23,6 +23,7 @@ use Rattle.session.specs.Session.{hasId, isFree, opened}
 use Rattle.table.specs.Change.{nobody, changedAt, changed-here, length-changed}
 use Rattle.table.specs.Own.{hearing, keptAfter, restarted}
 use Rattle.table.specs.Room.{freePlace}
+use Rattle.control.specs.Kind.{kindBy}
 use Rattle.control.specs.Creates.{openingOf, acceptedTaken, isRepeat, settledAt, heardCreate, createBy, createTaken}
 use Rattle.timing.specs.Timing.{Outcome, leastReply, held, refused}
 use Rattle.session.specs.declared.Session.{Session}
@@ -76,7 +77,7 @@ module _ (p : Plan) (s : State) (kept : Kept s) (plan : s .node .plan ≡ p) (d 
 
   repeated : (i : ℕ) → i < 64 → repeats c (headerOf d .sequence) (getD (heard c s .table .recs) i nobody) ≡ true
       → controlTaken (s .node) (s .table) d reply ≡ acceptedTaken (headerOf d .sequence) i (getD (heard c s .table .recs) i nobody) (heard c s .node) (heard c s .table) reply
-  unfolding controlTaken gateTaken kindTaken createTaken createBy heardCreate settledAt leastReply repeats places
+  unfolding controlTaken gateTaken kindTaken kindBy createTaken createBy heardCreate settledAt leastReply repeats places
   repeated i h e =
       let a = and-left (hasId (c .imsi) (c .ebi) (getD (heard c s .table .recs) i nobody)) (isRepeat c (headerOf d .sequence) (getD (heard c s .table .recs) i nobody)) e in
       let b = and-right (hasId (c .imsi) (c .ebi) (getD (heard c s .table .recs) i nobody)) (isRepeat c (headerOf d .sequence) (getD (heard c s .table .recs) i nobody)) e in

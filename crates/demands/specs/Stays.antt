@@ -10,17 +10,15 @@ use Rattle.octets.specs.Choice.{split}
 use Rattle.plan.specs.declared.Plan.{Plan}
 use Rattle.plan.specs.Plan.{accepted}
 use Rattle.sharing.specs.Sharing.{admits}
-use Rattle.session.specs.declared.Session.{Session}
 use Rattle.session.specs.Request.{awaits}
-use Rattle.session.specs.Session.{isFree, hasId, freed, waitsFor}
-use Rattle.tunnel.specs.Numbering.{controlOffset}
+use Rattle.session.specs.Session.{isFree, hasId, freed}
 use Rattle.table.specs.declared.Node.{Node}
 use Rattle.table.specs.declared.Table.{Table}
 use Rattle.table.specs.declared.Found.{Found}
 use Rattle.table.specs.declared.Found.the-variants as F
 use Rattle.table.specs.Rules.{keepsRules, live}
 use Rattle.table.specs.Change.{nobody, changedAt}
-use Rattle.table.specs.Find.{foundIn, ownerOf}
+use Rattle.table.specs.Find.{foundIn}
 use Rattle.table.specs.Own.{freshNode, duePlace}
 use Rattle.header.specs.declared.HeaderCursor.{HeaderCursor}
 use Rattle.header.specs.Header.{headerOf}
@@ -28,17 +26,16 @@ use Rattle.header.specs.Gate.{gateOf}
 use Rattle.carried.specs.Carried as carried
 use Rattle.carried.specs.declared.EchoReply.{EchoReply}
 use Rattle.carried.specs.declared.EchoReply.the-variants as E
-use Rattle.carried.specs.declared.BearerReply.{BearerReply}
-use Rattle.carried.specs.declared.BearerReply.the-variants as B
 use Rattle.requests.specs.declared.Create as C
 use Rattle.requests.specs.declared.Decoded.{Decoded}
 use Rattle.requests.specs.declared.Decoded.the-variants as D
 use Rattle.requests.specs.declared.Request.the-variants as Q
 use Rattle.requests.specs.Create.{createOf, replyTo}
-use Rattle.changes.specs.Change.{modifyOf, deleteOf}
-use Rattle.timing.specs.Timing.{leastReply, timed, held, refused, freshOf, tickOf, closable, closeOf, echoSent, placeSent, dueSent, sendOf}
-use Rattle.control.specs.Echoes.{heardBy, echoTaken, echoEnded, echoReplyTaken, sameFound, freedFound, bearerReplyTaken}
-use Rattle.control.specs.Amends.{causeTaken, modifyDone, modifyBy, modifyFor, modifyTaken, deleteDone, deleteBy, deleteFor, deleteTaken}
+use Rattle.timing.specs.Timing.{onSession, onOwner, leastReply, timed, held, refused, freshOf, tickOf, closeOf, echoSent, placeSent, dueSent, sendOf}
+use Rattle.control.specs.Kind.{Kind, kindBy}
+use Rattle.control.specs.Kind as K
+use Rattle.control.specs.Echoes.{heardBy, echoTaken, echoEnded, echoReplyTaken}
+use Rattle.control.specs.Amends.{causeTaken}
 use Rattle.control.specs.Creates.{acceptedTaken, openedAt, shared, isRepeat, settledAt, heardCreate, createBy, createTaken}
 use Rattle.control.specs.CreatesKept.{heard-plan}
 use Rattle.control.specs.Control.{kindTaken, gateTaken, controlTaken}
@@ -48,42 +45,6 @@ echo-reply-plan : (node : Node) (t : Table) (seq : ℕ) (r : EchoReply) → echo
 unfolding echoReplyTaken echoEnded timed refused
 echo-reply-plan node t seq E.Unreadable = refl
 echo-reply-plan node t seq (E.Carries r) = split (awaits seq (node .echo)) (λ a. rw a (heard-plan r node t)) (λ a. rw a)
-
-freed-plan : (f : Found) (node : Node) (t : Table) → freedFound f node t .node .plan ≡ node .plan
-unfolding freedFound refused
-freed-plan (F.At i) node t = refl
-freed-plan F.Nothing node t = refl
-
-bearer-plan : (node : Node) (t : Table) (teid seq : ℕ) (b : BearerReply) → bearerReplyTaken node t teid seq b .node .plan ≡ node .plan
-unfolding bearerReplyTaken refused
-bearer-plan node t teid seq B.Unreadable = refl
-bearer-plan node t teid seq (B.Cause c) = freed-plan (sameFound (foundIn (waitsFor seq) (t .recs)) (ownerOf controlOffset teid (t .recs))) node t
-
-modify-plan : (node : Node) (t : Table) (teid seq : ℕ) (rest reply : List ℕ) → modifyTaken node t teid seq rest reply .answer .node .plan ≡ node .plan
-unfolding modifyTaken modifyFor modifyBy modifyDone causeTaken
-modify-plan node t teid seq rest reply = found (ownerOf controlOffset teid (t .recs))
-  where
-    by : (i : ℕ) (s : Session) (d : Decoded) → modifyBy d seq i s node t reply .answer .node .plan ≡ node .plan
-    by i s (D.Refused w) = refl
-    by i s (D.Sound (Q.Modify m)) = refl
-    by i s (D.Sound (Q.Create c)) = refl
-    by i s (D.Sound (Q.Delete d)) = refl
-
-    found : (f : Found) → modifyFor f seq rest node t reply .answer .node .plan ≡ node .plan
-    found F.Nothing = refl
-    found (F.At i) = by i (getD (t .recs) i nobody) (modifyOf (getD (t .recs) i nobody .ebi) rest)
-
-delete-plan : (node : Node) (t : Table) (teid seq : ℕ) (rest reply : List ℕ) → deleteTaken node t teid seq rest reply .answer .node .plan ≡ node .plan
-unfolding deleteTaken deleteFor deleteBy deleteDone causeTaken
-delete-plan node t teid seq rest reply = found (ownerOf controlOffset teid (t .recs))
-  where
-    by : (i : ℕ) (s : Session) (d : Decoded) → deleteBy d seq i s node t reply .answer .node .plan ≡ node .plan
-    by i s (D.Refused w) = refl
-    by i s (D.Sound q) = refl
-
-    found : (f : Found) → deleteFor f seq rest node t reply .answer .node .plan ≡ node .plan
-    found F.Nothing = refl
-    found (F.At i) = by i (getD (t .recs) i nobody) (deleteOf (getD (t .recs) i nobody .ebi) rest)
 
 module _ (c : C.Create) (seq : ℕ) (node₀ : Node) (t₀ : Table) (reply : List ℕ) where
   shared-plan : (node : Node) (t : Table) → node .plan ≡ node₀ .plan → shared c seq node t node₀ t₀ reply .answer .node .plan ≡ node₀ .plan
@@ -113,23 +74,20 @@ create-plan node t seq rest reply = by (createOf (node .plan) rest)
     by (D.Sound (Q.Delete d)) = refl
 
 module _ (node : Node) (t : Table) where
-  kind-plan : (h : HeaderCursor) (rest reply : List ℕ) → kindTaken h rest node t reply .answer .node .plan ≡ node .plan
-  unfolding kindTaken echoTaken refused
-  kind-plan h rest reply =
-      split (eqb (h .kind) 1) (λ a. rw a (heard-plan (carried.echoOf rest) node t))
-      (λ a. split (eqb (h .kind) 2) (λ b. rw (a, b) (echo-reply-plan node t (h .sequence) (carried.echoReplyOf rest)))
-      (λ b. split (eqb (h .kind) 32) (λ c. rw (a, b, c) (create-plan node t (h .sequence) rest reply))
-      (λ c. split (eqb (h .kind) 34) (λ d. rw (a, b, c, d) (modify-plan node t (h .teid) (h .sequence) rest reply))
-      (λ d. split (eqb (h .kind) 36) (λ f. rw (a, b, c, d, f) (delete-plan node t (h .teid) (h .sequence) rest reply))
-      (λ f. split (eqb (h .kind) 100) (λ g. rw (a, b, c, d, f, g) (bearer-plan node t (h .teid) (h .sequence) (carried.bearerReplyOf rest)))
-      (λ g. rw (a, b, c, d, f, g)))))))
+  kind-plan : (k : Kind) (h : HeaderCursor) (rest reply : List ℕ) → kindTaken k h rest node t reply .answer .node .plan ≡ node .plan
+  unfolding kindTaken echoTaken onOwner onSession refused
+  kind-plan K.Echo h rest reply = heard-plan (carried.echoOf rest) node t
+  kind-plan K.EchoReply h rest reply = echo-reply-plan node t (h .sequence) (carried.echoReplyOf rest)
+  kind-plan K.Create h rest reply = create-plan node t (h .sequence) rest reply
+  kind-plan K.Named h rest reply = refl
+  kind-plan K.Other h rest reply = refl
 
   control-plan : (d reply : List ℕ) → controlTaken node t d reply .answer .node .plan ≡ node .plan
   unfolding controlTaken gateTaken refused
   control-plan d reply =
       split (ltb (length reply) leastReply) (λ a. rw a)
       (λ a. split (keepsRules node (t .recs))
-      (λ e. split (eqb (gateOf d) 0) (λ b. rw (a, e, b) (kind-plan (headerOf d) (drop (headerOf d .fields) d) reply))
+      (λ e. split (eqb (gateOf d) 0) (λ b. rw (a, e, b) (kind-plan (kindBy (headerOf d .kind)) (headerOf d) (drop (headerOf d .fields) d) reply))
       (λ b. split (eqb (gateOf d) 5) (λ c. rw (a, e, b, c)) (λ c. rw (a, e, b, c))))
       (λ e. rw (a, e)))
 
@@ -138,8 +96,8 @@ module _ (node : Node) (t : Table) where
   tick-plan = split (keepsRules node (t .recs)) (λ e. rw e) (λ e. rw e)
 
   close-plan : (i : ℕ) → closeOf node t i .node .plan ≡ node .plan
-  unfolding closeOf refused
-  close-plan i = split (keepsRules node (t .recs)) (λ e. split (closable i (t .recs)) (λ q. rw (e, q)) (λ q. rw (e, q))) (λ e. rw e)
+  unfolding closeOf onSession refused
+  close-plan i = split (keepsRules node (t .recs)) (λ e. rw e) (λ e. rw e)
 
   send-plan : (reply : List ℕ) → sendOf node t reply .answer .node .plan ≡ node .plan
   unfolding sendOf dueSent echoSent placeSent timed refused

@@ -24,7 +24,7 @@ use Rattle.table.specs.declared.Found.{Found}
 use Rattle.table.specs.declared.Found.the-variants as F
 use Rattle.table.specs.Rules.{keepsRules, rules-of, rules-to, live}
 use Rattle.table.specs.Change.{nobody, changedAt, rules-freed}
-use Rattle.table.specs.Find.{foundIn, ownerOf}
+use Rattle.table.specs.Find.{placeFound, foundIn, ownerOf}
 use Rattle.table.specs.Own.{duePlace}
 use Rattle.table.specs.Room.{freePlace, place-free}
 use Rattle.header.specs.declared.HeaderCursor.{HeaderCursor}
@@ -44,9 +44,11 @@ use Rattle.requests.specs.Create.{createOf, replyTo}
 use Rattle.changes.specs.Change.{modifyOf, deleteOf}
 use Rattle.requestclaims.specs.Answers.{numberFor, CreateAnswers, ModifyAnswers, DeleteAnswers, createNumbers, modifyNumbers, deleteNumbers, create-answers, modify-answers, delete-answers}
 use Rattle.timing.specs.declared.Answer.{Answer}
-use Rattle.timing.specs.Timing.{Outcome, leastReply, held, refused, freshOf, tickOf, closable, closeOf, echoSent, placeSent, dueSent, sendOf}
-use Rattle.control.specs.Echoes.{heardBy, echoTaken, echoEnded, echoReplyTaken, sameFound, freedFound, bearerReplyTaken, heard-keeps}
-use Rattle.control.specs.Amends.{causeTaken, notLive, modifyDone, modifyBy, modifyFor, modifyTaken, deleteDone, deleteBy, deleteFor, deleteTaken}
+use Rattle.timing.specs.Timing.{Outcome, Done, quiet, onSession, onOwner, leastReply, held, refused, freshOf, tickOf, closeOn, closeOf, echoSent, placeSent, dueSent, sendOf}
+use Rattle.control.specs.Kind.{Kind, kindBy}
+use Rattle.control.specs.Kind as K
+use Rattle.control.specs.Echoes.{heardBy, echoTaken, echoEnded, echoReplyTaken, heard-keeps}
+use Rattle.control.specs.Amends.{causeTaken, causeOn, notLive, movedOn, modifyRead, modifyOn, freedOn, deleteRead, deleteOn, bearerBy, bearerOn, sessionOf}
 use Rattle.control.specs.Creates.{acceptedTaken, noRoom, openedAt, shared, isRepeat, settledAt, heardCreate, createBy, createTaken}
 use Rattle.control.specs.Control.{kindTaken, gateTaken, controlTaken}
 use Rattle.placeline.specs.Line.{lineOf}
@@ -95,8 +97,8 @@ module _ (node : Node) (t : Table) (e : keepsRules node (t .recs) ≡ true) wher
   tick-number = rw e
 
   close-number : (i : ℕ) → among (closeOf node t i .number) closeNumbers ≡ true
-  unfolding closeOf refused closeNumbers
-  close-number i = split (closable i (t .recs)) (λ q. rw (e, q)) (λ q. rw (e, q))
+  unfolding closeOf onSession closeOn quiet closeNumbers
+  close-number i = split (isFree (getD (t .recs) i nobody)) (λ q. rw (e, q)) (λ q. rw (e, q))
 
   send-number : (reply : List ℕ) → among (sendOf node t reply .answer .number) sendNumbers ≡ true
   unfolding sendOf dueSent echoSent placeSent refused sendNumbers
@@ -123,44 +125,43 @@ unfolding echoReplyTaken echoEnded refused controlNumbers
 echo-reply-number node t seq E.Unreadable = refl
 echo-reply-number node t seq (E.Carries recovery) = split (awaits seq (node .echo)) (λ q. rw q) (λ q. rw q)
 
-freed-number : (f : Found) (node : Node) (t : Table) → AnsweredBare (freedFound f node t)
-unfolding freedFound refused controlNumbers
-freed-number (F.At i) node t = refl
-freed-number F.Nothing node t = refl
+-- what concerns one session
+abbrev AnsweredOn : Done → Type 0
+AnsweredOn d = among (d .number) controlNumbers ≡ true
 
-bearer-reply-number : (node : Node) (t : Table) (teid seq : ℕ) (b : BearerReply) → AnsweredBare (bearerReplyTaken node t teid seq b)
-unfolding bearerReplyTaken refused controlNumbers
-bearer-reply-number node t teid seq B.Unreadable = refl
-bearer-reply-number node t teid seq (B.Cause cause) =
-    freed-number (sameFound (foundIn (waitsFor seq) (t .recs)) (ownerOf controlOffset teid (t .recs))) node t
+module _ (seq : ℕ) (rest : List ℕ) (s : Session) where
+  modify-number : AnsweredOn (modifyOn seq rest s)
+  unfolding modifyOn modifyRead movedOn causeOn notLive numberFor ModifyAnswers modifyNumbers controlNumbers every
+  modify-number = split (isFree s) (λ e. rw e) (λ e. rw e (by (modifyOf (s .ebi) rest) (modify-answers (s .ebi) rest .number)))
+    where
+      by : (d : Decoded) → among (numberFor d) modifyNumbers ≡ true → AnsweredOn (modifyRead d seq s)
+      by (D.Refused w) h = among-more (w .cause) modifyNumbers controlNumbers refl h
+      by (D.Sound (Q.Modify m)) h = refl
+      by (D.Sound (Q.Create c)) h = refl
+      by (D.Sound (Q.Delete d)) h = refl
 
-modify-number : (node : Node) (t : Table) (teid seq : ℕ) (rest reply : List ℕ) → Answered (modifyTaken node t teid seq rest reply)
-unfolding modifyTaken modifyFor modifyBy modifyDone causeTaken notLive numberFor ModifyAnswers modifyNumbers controlNumbers every
-modify-number node t teid seq rest reply = found (ownerOf controlOffset teid (t .recs))
-  where
-    by : (i : ℕ) (s : Session) (d : Decoded) → among (numberFor d) modifyNumbers ≡ true → Answered (modifyBy d seq i s node t reply)
-    by i s (D.Refused w) h = among-more (w .cause) modifyNumbers controlNumbers refl h
-    by i s (D.Sound (Q.Modify m)) h = refl
-    by i s (D.Sound (Q.Create c)) h = refl
-    by i s (D.Sound (Q.Delete d)) h = refl
+  delete-number : AnsweredOn (deleteOn seq rest s)
+  unfolding deleteOn deleteRead freedOn causeOn notLive numberFor DeleteAnswers deleteNumbers controlNumbers every
+  delete-number = split (isFree s) (λ e. rw e) (λ e. rw e (by (deleteOf (s .ebi) rest) (delete-answers (s .ebi) rest .number)))
+    where
+      by : (d : Decoded) → among (numberFor d) deleteNumbers ≡ true → AnsweredOn (deleteRead d seq s)
+      by (D.Refused w) h = among-more (w .cause) deleteNumbers controlNumbers refl h
+      by (D.Sound q) h = refl
 
-    found : (f : Found) → Answered (modifyFor f seq rest node t reply)
-    found F.Nothing = refl
-    found (F.At i) =
-        by i (getD (t .recs) i nobody) (modifyOf (getD (t .recs) i nobody .ebi) rest) (modify-answers (getD (t .recs) i nobody .ebi) rest .number)
+  bearer-number : AnsweredOn (bearerOn seq rest s)
+  unfolding bearerOn bearerBy quiet controlNumbers
+  bearer-number = by (carried.bearerReplyOf rest) (waitsFor seq s)
+    where
+      by : (b : BearerReply) (mine : Bool) → AnsweredOn (bearerBy b mine s)
+      by B.Unreadable mine = refl
+      by (B.Cause cause) true = refl
+      by (B.Cause cause) false = refl
 
-delete-number : (node : Node) (t : Table) (teid seq : ℕ) (rest reply : List ℕ) → Answered (deleteTaken node t teid seq rest reply)
-unfolding deleteTaken deleteFor deleteBy deleteDone causeTaken notLive numberFor DeleteAnswers deleteNumbers controlNumbers every
-delete-number node t teid seq rest reply = found (ownerOf controlOffset teid (t .recs))
-  where
-    by : (i : ℕ) (s : Session) (d : Decoded) → among (numberFor d) deleteNumbers ≡ true → Answered (deleteBy d seq i s node t reply)
-    by i s (D.Refused w) h = among-more (w .cause) deleteNumbers controlNumbers refl h
-    by i s (D.Sound q) h = refl
-
-    found : (f : Found) → Answered (deleteFor f seq rest node t reply)
-    found F.Nothing = refl
-    found (F.At i) =
-        by i (getD (t .recs) i nobody) (deleteOf (getD (t .recs) i nobody .ebi) rest) (delete-answers (getD (t .recs) i nobody .ebi) rest .number)
+session-number : (h : HeaderCursor) (rest : List ℕ) (s : Session) → AnsweredOn (sessionOf h rest s)
+unfolding sessionOf
+session-number h rest s =
+    split (eqb (h .kind) 34) (λ a. rw a (modify-number (h .sequence) rest s))
+    (λ a. split (eqb (h .kind) 36) (λ b. rw (a, b) (delete-number (h .sequence) rest s)) (λ b. rw (a, b) (bearer-number (h .sequence) rest s)))
 
 -- whoever the sharing rule admits finds a place: this is where 11 falls away
 free-found : (node : Node) (l : List Session) (a : ℕ) → keepsRules node l ≡ true → admits (node .plan) (live l) a ≡ true → foundIn isFree l ≡ F.At (freePlace l)
@@ -219,22 +220,19 @@ gate-number d =
     (eqb (kindOf d) createType && ltb 0 (teidOf d))
 
 module _ (node : Node) (t : Table) (e : keepsRules node (t .recs) ≡ true) (reply : List ℕ) where
-  kind-number : (h : HeaderCursor) (rest : List ℕ) → Answered (kindTaken h rest node t reply)
-  unfolding kindTaken echoTaken refused controlNumbers
-  kind-number h rest =
-      split (eqb (h .kind) 1) (λ a. rw a)
-      (λ a. split (eqb (h .kind) 2) (λ b. rw (a, b) (echo-reply-number node t (h .sequence) (carried.echoReplyOf rest)))
-      (λ b. split (eqb (h .kind) 32) (λ c. rw (a, b, c) (create-number node t (h .sequence) rest reply e))
-      (λ c. split (eqb (h .kind) 34) (λ d. rw (a, b, c, d) (modify-number node t (h .teid) (h .sequence) rest reply))
-      (λ d. split (eqb (h .kind) 36) (λ f. rw (a, b, c, d, f) (delete-number node t (h .teid) (h .sequence) rest reply))
-      (λ f. split (eqb (h .kind) 100) (λ g. rw (a, b, c, d, f, g) (bearer-reply-number node t (h .teid) (h .sequence) (carried.bearerReplyOf rest)))
-      (λ g. rw (a, b, c, d, f, g)))))))
+  kind-number : (k : Kind) (h : HeaderCursor) (rest : List ℕ) → Answered (kindTaken k h rest node t reply)
+  unfolding kindTaken echoTaken onOwner onSession refused controlNumbers
+  kind-number K.Echo h rest = refl
+  kind-number K.EchoReply h rest = echo-reply-number node t (h .sequence) (carried.echoReplyOf rest)
+  kind-number K.Create h rest = create-number node t (h .sequence) rest reply e
+  kind-number K.Named h rest = session-number h rest (getD (t .recs) (placeFound (ownerOf controlOffset (h .teid) (t .recs)) (t .recs)) nobody)
+  kind-number K.Other h rest = refl
 
   control-number : (d : List ℕ) → Answered (controlTaken node t d reply)
   unfolding controlTaken gateTaken refused controlNumbers
   control-number d =
       split (ltb (length reply) leastReply) (λ a. rw a)
-      (λ a. split (eqb (gateOf d) 0) (λ b. rw (a, e, b) (kind-number (headerOf d) (drop (headerOf d .fields) d)))
+      (λ a. split (eqb (gateOf d) 0) (λ b. rw (a, e, b) (kind-number (kindBy (headerOf d .kind)) (headerOf d) (drop (headerOf d .fields) d)))
       (λ b. split (eqb (gateOf d) 5) (λ c. rw (a, e, b, c)) (λ c. rw (a, e, b, c) (gate-number d))))
 
 -- ---- the claims

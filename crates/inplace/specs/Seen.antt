@@ -31,6 +31,8 @@ use Rattle.requests.specs.declared.Decoded.the-variants as D
 use Rattle.requests.specs.declared.Request.the-variants as Q
 use Rattle.requests.specs.Create.{createOf, CreateSound, create-sound}
 use Rattle.timing.specs.Timing.{leastReply}
+use Rattle.control.specs.Kind.{Kind, kindBy}
+use Rattle.control.specs.Kind as K
 use Rattle.glance.specs.Digest.{digestOf}
 use Rattle.glance.specs.Glance.{standsBy}
 use Rattle.glance.specs.Look.{keyPlace, freeIn}
@@ -38,7 +40,7 @@ use Rattle.glance.specs.declared.Look.{Look}
 use Rattle.glance.specs.declared.Seen.{Seen}
 use Rattle.wishes.specs.declared.Wish.{Wish}
 use Rattle.wishes.specs.declared.Wish.the-variants as W
-use Rattle.wishes.specs.Wishes.{asksEnd, asksOpen, asksKind, asksPast, asksFor, restartsIn, idKey, namedBy, atPlace, aimOf}
+use Rattle.wishes.specs.Wishes.{asksEnd, asksOpen, asksBy, asksKind, asksPast, asksFor, restartsIn, idKey, namedBy, atPlace, aimOf}
 use Rattle.openings.specs.declared.Sight.{Sight}
 use Rattle.openings.specs.Openings.{oldBy, sightBy, sightOf}
 use Rattle.openings.specs.Places.{key-place, free-place}
@@ -142,22 +144,19 @@ module _ (node : Node) where
   end-sound E.Unreadable seq = tt
   end-sound (E.Carries recovery) seq = split (awaits seq (node .echo)) (λ e. rw e tt) (λ e. rw e tt)
 
-  kind-sound : (h : HeaderCursor) (rest : List ℕ) → SoundWish node (asksKind h rest node)
-  unfolding SoundWish asksKind
-  kind-sound h rest =
-      split (eqb (h .kind) 34) (λ a. rw a tt)
-      (λ a. split (eqb (h .kind) 36) (λ b. rw (a, b) tt)
-      (λ b. split (eqb (h .kind) 32) (λ c. rw (a, b, c) (open-sound rest (h .sequence) (createOf (node .plan) rest) refl))
-      (λ c. split (eqb (h .kind) 100) (λ d. rw (a, b, c, d) tt)
-      (λ d. split (eqb (h .kind) 1) (λ e. rw (a, b, c, d, e) tt)
-      (λ e. split (eqb (h .kind) 2) (λ f. rw (a, b, c, d, e, f) (end-sound (carried.echoReplyOf rest) (h .sequence)))
-      (λ f. rw (a, b, c, d, e, f) tt))))))
+  kind-sound : (h : HeaderCursor) (rest : List ℕ) (k : Kind) → SoundWish node (asksBy k h rest node)
+  unfolding SoundWish asksBy
+  kind-sound h rest K.Echo = tt
+  kind-sound h rest K.EchoReply = end-sound (carried.echoReplyOf rest) (h .sequence)
+  kind-sound h rest K.Create = open-sound rest (h .sequence) (createOf (node .plan) rest) refl
+  kind-sound h rest K.Named = tt
+  kind-sound h rest K.Other = tt
 
   pub asks-sound : (d : List ℕ) (room : ℕ) → SoundWish node (asksFor node d room)
-  unfolding SoundWish asksFor asksPast
+  unfolding SoundWish asksFor asksPast asksKind
   asks-sound d room =
       split (ltb room leastReply) (λ a. rw a tt)
-      (λ a. split (eqb (gateOf d) 0) (λ b. rw (a, b) (kind-sound (headerOf d) (drop (headerOf d .fields) d)))
+      (λ a. split (eqb (gateOf d) 0) (λ b. rw (a, b) (kind-sound (headerOf d) (drop (headerOf d .fields) d) (kindBy (headerOf d .kind))))
       (λ b. split (eqb (gateOf d) 5) (λ c. rw (a, b, c) tt) (λ c. rw (a, b, c) tt)))
 
 -- ---- what was seen says what is gone by

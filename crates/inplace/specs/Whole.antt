@@ -8,7 +8,6 @@ use native.Mathlib.Omega.{arith}
 use lib.ListN.{length, drop, getD, set, length-set, length-map}
 use lib.Seq.{set-out}
 use lib.Dec.{eqb, ltb}
-use borrow.Author.Tests.{eqb-true}
 use Rattle.octets.specs.Choice.{pick, split}
 use Rattle.octets.specs.Overlay.{overlay}
 use Rattle.tunnel.specs.Numbering.{places}
@@ -19,7 +18,7 @@ use Rattle.table.specs.declared.Node.{Node}
 use Rattle.table.specs.declared.Table.{Table}
 use Rattle.table.specs.Rules.{keepsRules, rules-of}
 use Rattle.table.specs.Change.{nobody}
-use Rattle.messages.specs.Messages.{versionNotSupported}
+use Rattle.messages.specs.Messages.{versionNotSupported, echoOf}
 use Rattle.header.specs.declared.HeaderCursor.{HeaderCursor}
 use Rattle.header.specs.Header.{headerOf}
 use Rattle.header.specs.Gate.{gateOf}
@@ -33,19 +32,21 @@ use Rattle.requests.specs.declared.Decoded.{Decoded}
 use Rattle.requests.specs.declared.Decoded.the-variants as D
 use Rattle.requests.specs.declared.Request.the-variants as Q
 use Rattle.requests.specs.Create.{createOf, replyTo}
-use Rattle.timing.specs.Timing.{Outcome, outcome, leastReply, held, refused}
+use Rattle.timing.specs.Timing.{Outcome, outcome, replied, onOwner, leastReply, held, refused}
 use Rattle.control.specs.Echoes.{restartsBy, heardNode, heardBy, heard-same as heard-still, echoTaken, echoEnded, echoReplyTaken}
-use Rattle.control.specs.Amends.{causeTaken}
+use Rattle.control.specs.Kind.{Kind, kindBy}
+use Rattle.control.specs.Kind as K
+use Rattle.control.specs.Amends.{causeTaken, sessionOf}
 use Rattle.control.specs.Creates.{heardCreate, createBy, createTaken}
 use Rattle.control.specs.Control.{kindTaken, gateTaken, controlTaken}
 use Rattle.single.specs.Single.{Singled, singleOf}
 use Rattle.wishes.specs.declared.Wish.{Wish}
 use Rattle.wishes.specs.declared.Wish.the-variants as W
-use Rattle.wishes.specs.Wishes.{asksEnd, asksOpen, asksKind, asksPast, asksFor, restartsIn, brokenBy}
+use Rattle.wishes.specs.Wishes.{asksEnd, asksOpen, asksBy, asksKind, asksPast, asksFor, restartsIn, brokenBy}
 use Rattle.openings.specs.declared.Sight.{Sight}
 use Rattle.openings.specs.declared.Pair.{Pair}
 use Rattle.openings.specs.Openings.{newPlace, openPlace, pairBy, pairWith, pairIn, Made, made, unmovedOn, namedMade, namedOn, openOn, wishTaken, takenOn, taken-broken, taken-kept, restedNode, nodeAfter, pairPut, placedPair}
-use Rattle.inplace.specs.Single.{placedOne, namedTaken, named-same}
+use Rattle.inplace.specs.Single.{placedOne, named-same}
 use Rattle.inplace.specs.Create.{stays, settled-same}
 use Rattle.inplace.specs.Restart.{heard-either, put-none, put-all, placed-none, open-ended, restart-same}
 use Rattle.inplace.specs.Seen.{Cleared, Sees}
@@ -54,10 +55,10 @@ use Rattle.inplace.specs.Seen.{Cleared, Sees}
 unfoldable pub askedTaken : Node → Table → Wish → List ℕ → List ℕ → Outcome
 askedTaken node t W.Short d reply = outcome (refused 1 node t) reply
 askedTaken node t (W.Silent number) d reply = outcome (refused number node t) reply
-askedTaken node t W.Version d reply = outcome (record { number = 5; size = 8; node = node; table = t }) (overlay versionNotSupported reply)
+askedTaken node t W.Version d reply = replied 5 node t versionNotSupported reply
 askedTaken node t (W.Echo recovery seq) d reply = echoTaken node t seq recovery reply
 askedTaken node t (W.Ended recovery) d reply = outcome (echoEnded (heardBy recovery node t)) reply
-askedTaken node t (W.Named h) d reply = namedTaken h (drop (h .fields) d) node t reply
+askedTaken node t (W.Named h) d reply = onOwner node (t .recs) (h .teid) (sessionOf h (drop (h .fields) d)) reply
 askedTaken node t (W.Refused w to seq) d reply = causeTaken 33 to seq w node t reply
 askedTaken node t (W.Open c seq) d reply = heardCreate c seq (heardBy (c .recovery) node t) node t reply
 
@@ -75,29 +76,18 @@ module _ (node : Node) (t : Table) (reply : List ℕ) where
   open-asked d seq rest (D.Sound (Q.Modify m)) = refl
   open-asked d seq rest (D.Sound (Q.Delete x)) = refl
 
-  kind-asked : (d : List ℕ) (h : HeaderCursor) → kindTaken h (drop (h .fields) d) node t reply ≡ askedTaken node t (asksKind h (drop (h .fields) d) node) d reply
-  unfolding kindTaken asksKind askedTaken namedTaken createTaken
-  kind-asked d h =
-      split (eqb (h .kind) 34)
-      (λ a. let k = eqb-true (h .kind) 34 a in
-      rw (ap (λ (x : ℕ). eqb x 1) k, ap (λ (x : ℕ). eqb x 2) k, ap (λ (x : ℕ). eqb x 32) k, a) (rw a))
-      (λ a. split (eqb (h .kind) 36)
-      (λ b. let k = eqb-true (h .kind) 36 b in
-      rw (ap (λ (x : ℕ). eqb x 1) k, ap (λ (x : ℕ). eqb x 2) k, ap (λ (x : ℕ). eqb x 32) k, a, b) (rw (a, b)))
-      (λ b. split (eqb (h .kind) 32)
-      (λ c. let k = eqb-true (h .kind) 32 c in
-      rw (ap (λ (x : ℕ). eqb x 1) k, ap (λ (x : ℕ). eqb x 2) k, a, b, c) (open-asked d (h .sequence) (drop (h .fields) d) (createOf (node .plan) (drop (h .fields) d))))
-      (λ c. split (eqb (h .kind) 100)
-      (λ e. let k = eqb-true (h .kind) 100 e in
-      rw (ap (λ (x : ℕ). eqb x 1) k, ap (λ (x : ℕ). eqb x 2) k, a, b, c, e) (rw (a, b)))
-      (λ e. split (eqb (h .kind) 1) (λ f. rw (a, b, c, e, f))
-      (λ f. split (eqb (h .kind) 2) (λ i. rw (a, b, c, e, f, i) (end-asked d (h .sequence) (carried.echoReplyOf (drop (h .fields) d))))
-      (λ i. rw (a, b, c, e, f, i)))))))
+  kind-asked : (d : List ℕ) (h : HeaderCursor) (k : Kind) → kindTaken k h (drop (h .fields) d) node t reply ≡ askedTaken node t (asksBy k h (drop (h .fields) d) node) d reply
+  unfolding kindTaken asksBy askedTaken createTaken
+  kind-asked d h K.Echo = refl
+  kind-asked d h K.EchoReply = end-asked d (h .sequence) (carried.echoReplyOf (drop (h .fields) d))
+  kind-asked d h K.Create = open-asked d (h .sequence) (drop (h .fields) d) (createOf (node .plan) (drop (h .fields) d))
+  kind-asked d h K.Named = refl
+  kind-asked d h K.Other = refl
 
   gate-asked : (d : List ℕ) (number : ℕ) → gateTaken number d node t reply ≡ askedTaken node t (asksPast number node d) d reply
-  unfolding gateTaken asksPast askedTaken
+  unfolding gateTaken asksPast asksKind askedTaken
   gate-asked d number =
-      split (eqb number 0) (λ a. rw a (kind-asked d (headerOf d))) (λ a. split (eqb number 5) (λ b. rw (a, b)) (λ b. rw (a, b)))
+      split (eqb number 0) (λ a. rw a (kind-asked d (headerOf d) (kindBy (headerOf d .kind)))) (λ a. split (eqb number 5) (λ b. rw (a, b)) (λ b. rw (a, b)))
 
 -- with room for the reply a broken table is number 2
 module _ (node : Node) where
@@ -113,21 +103,18 @@ module _ (node : Node) where
   open-broken seq rest (D.Sound (Q.Modify m)) = refl
   open-broken seq rest (D.Sound (Q.Delete x)) = refl
 
-  kind-broken : (h : HeaderCursor) (rest : List ℕ) → brokenBy (asksKind h rest node) ≡ 2
-  unfolding asksKind brokenBy
-  kind-broken h rest =
-      split (eqb (h .kind) 34) (λ a. rw a)
-      (λ a. split (eqb (h .kind) 36) (λ b. rw (a, b))
-      (λ b. split (eqb (h .kind) 32) (λ c. rw (a, b, c) (open-broken (h .sequence) rest (createOf (node .plan) rest)))
-      (λ c. split (eqb (h .kind) 100) (λ d. rw (a, b, c, d))
-      (λ d. split (eqb (h .kind) 1) (λ e. rw (a, b, c, d, e))
-      (λ e. split (eqb (h .kind) 2) (λ f. rw (a, b, c, d, e, f) (end-broken (h .sequence) (carried.echoReplyOf rest)))
-      (λ f. rw (a, b, c, d, e, f)))))))
+  kind-broken : (h : HeaderCursor) (rest : List ℕ) (k : Kind) → brokenBy (asksBy k h rest node) ≡ 2
+  unfolding asksBy brokenBy
+  kind-broken h rest K.Echo = refl
+  kind-broken h rest K.EchoReply = end-broken (h .sequence) (carried.echoReplyOf rest)
+  kind-broken h rest K.Create = open-broken (h .sequence) rest (createOf (node .plan) rest)
+  kind-broken h rest K.Named = refl
+  kind-broken h rest K.Other = refl
 
   past-broken : (d : List ℕ) (number : ℕ) → brokenBy (asksPast number node d) ≡ 2
-  unfolding asksPast brokenBy
+  unfolding asksPast asksKind brokenBy
   past-broken d number =
-      split (eqb number 0) (λ a. rw a (kind-broken (headerOf d) (drop (headerOf d .fields) d)))
+      split (eqb number 0) (λ a. rw a (kind-broken (headerOf d) (drop (headerOf d .fields) d) (kindBy (headerOf d .kind))))
       (λ a. split (eqb number 5) (λ b. rw (a, b)) (λ b. rw (a, b)))
 
 -- take control datagram by what is asked for
@@ -227,7 +214,7 @@ module _ (node : Node) (l : List Session) (d reply : List ℕ) (g : Sight) where
         let w = W.Echo r seq in
         rw (heard-either r node l, ← all-of w sees)
         (sym (placed-by node (pairFor w) l (wishTaken node w (pairFor w) d reply) (pick (g .all) (map freed l) l)
-        (put-heard w 13 false r (rules-of node l k .size) refl (sees .cleared))))
+        (put-heard w (length (echoOf 2 seq (node .plan .recovery))) false r (rules-of node l k .size) refl (sees .cleared))))
 
     ended-same : (r : Recovery) → Sees node l (W.Ended r) g → outcome (echoEnded (heardBy r node (held l))) reply ≡ comesTo (W.Ended r)
     unfolding echoEnded wishTaken unmovedOn nodeAfter restedNode restartsIn newPlace pairIn pairBy
@@ -252,11 +239,11 @@ module _ (node : Node) (l : List Session) (d reply : List ℕ) (g : Sight) where
     one-same h q a =
         sym (placed-by node (pairFor (W.Named h)) l (namedMade q (pairFor (W.Named h))) (set l (g .old) (q .answer .session)) (one-put h q a))
 
-    single-same : (h : HeaderCursor) → Sees node l (W.Named h) g → namedTaken h (drop (h .fields) d) node (held l) reply ≡ comesTo (W.Named h)
+    single-same : (h : HeaderCursor) → Sees node l (W.Named h) g → onOwner node l (h .teid) (sessionOf h (drop (h .fields) d)) reply ≡ comesTo (W.Named h)
     unfolding wishTaken namedOn restartsIn
     single-same h sees =
         let i = sees .named h refl in
-        named-same node l reply (rules-of node l k) h (drop (h .fields) d)
+        named-same node l reply (rules-of node l k .size) h (drop (h .fields) d)
         ∙ ap (λ (x : ℕ). placedOne node x l (singleOf h (drop (h .fields) d) (getD l x nobody) reply)) (sym i)
         ∙ one-same h (singleOf h (drop (h .fields) d) (getD l (g .old) nobody) reply) (none (W.Named h) sees refl)
         ∙ at-old h
@@ -280,10 +267,10 @@ module _ (node : Node) (l : List Session) (d reply : List ℕ) (g : Sight) where
         ∙ sym (placed-none node l (pairWith g l q) (openOn c seq node (pairWith g l q) reply) (open-ended c seq node (pairWith g l q) reply) (all-at w ∙ a ∙ e))))
 
     wish-same : (w : Wish) → Sees node l w g → askedTaken node (held l) w d reply ≡ comesTo w
-    unfolding askedTaken wishTaken restartsIn refused causeTaken
+    unfolding askedTaken wishTaken restartsIn refused causeTaken held
     wish-same W.Short sees = still-same W.Short 1 0 reply (none W.Short sees refl)
     wish-same (W.Silent number) sees = still-same (W.Silent number) number 0 reply (none (W.Silent number) sees refl)
-    wish-same W.Version sees = still-same W.Version 5 8 (overlay versionNotSupported reply) (none W.Version sees refl)
+    wish-same W.Version sees = still-same W.Version 5 (length versionNotSupported) (overlay versionNotSupported reply) (none W.Version sees refl)
     wish-same (W.Echo r seq) sees = echo-same r seq sees
     wish-same (W.Ended r) sees = ended-same r sees
     wish-same (W.Named h) sees = single-same h sees

@@ -77,14 +77,18 @@ unfoldable pub echoLeft : Node → ℕ → List ℕ → Posted
 echoLeft node k reply = posted
     (record {
       number = 0;
-      size = 13;
+      size = length (echoOf 1 (sentOnce (node .plan .resend) k (node .echo) .number) (node .plan .recovery));
       node = timed (sentOnce (node .plan .resend) k (node .echo)) (stepped (node .echo .sends) k (node .next)) node;
     })
     (overlay (echoOf 1 (sentOnce (node .plan .resend) k (node .echo) .number) (node .plan .recovery)) reply)
 
 unfoldable pub placeLeft : Node → ℕ → Session → List ℕ → Posted
 placeLeft node k s reply = posted
-    (record { number = 0; size = 17; node = timed (node .echo) (stepped (s .own .sends) k (node .next)) node })
+    (record {
+      number = 0;
+      size = length (deleteBearer (s .control) (sentOnce (node .plan .resend) k (s .own) .number) (s .ebi));
+      node = timed (node .echo) (stepped (s .own .sends) k (node .next)) node;
+    })
     (overlay (deleteBearer (s .control) (sentOnce (node .plan .resend) k (s .own) .number) (s .ebi)) reply)
 
 unfoldable pub sendLeft : Sending → Node → Session → List ℕ → Posted

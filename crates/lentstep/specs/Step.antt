@@ -1,14 +1,14 @@
 -- Tick and close on lent records, in the steps that are taken, and that these steps are the call's own definition on the lent list.
 -- Assumes nothing.
 use Prim.Native.Nat.{ℕ}
-use mathlib.Core.Bool.{Bool, true, not, _&&_, _||_}
+use mathlib.Core.Bool.{Bool, true, false, not, _&&_, _||_}
 use mathlib.Core.List.{List, [], _∷_, map}
 use mathlib.Core.Path.{_≡_, refl, sym, _∙_}
 use native.Mathlib.Omega.{arith}
-use lib.ListN.{length, getD, set, List·getD-eq-default}
+use lib.ListN.{length, getD, set}
 use lib.Seq.{set-getD}
-use lib.Dec.{eqb, leb, ltb}
-use borrow.Author.Tests.{eqb-true, ltb-false}
+use lib.Dec.{eqb, leb}
+use borrow.Author.Tests.{eqb-true}
 use Rattle.octets.specs.Choice.{pick, split, impossible, and-left, and-right, tests}
 use Rattle.octets.specs.Every.{every}
 use Rattle.octets.specs.Places.{mapFirst, map-none, map-all}
@@ -27,7 +27,7 @@ use Rattle.table.specs.Change.{nobody, changedAt}
 use Rattle.table.specs.Own.{echoTicked, allTicked}
 use Rattle.rules.specs.Survey.{silent}
 use Rattle.glance.specs.Glance.{standsOf}
-use Rattle.timing.specs.Timing.{timed, held, refused, tickOf, closable, closeOf}
+use Rattle.timing.specs.Timing.{quiet, timed, held, onSession, refused, tickOf, closeOn, closeOf}
 use Rattle.lentcore.specs.declared.Left.{Left}
 use Rattle.lentcore.specs.Lent.{left, rules-other}
 
@@ -45,22 +45,23 @@ tickCount how node = pick {A = ℕ} (eqb how 0 || eqb how 1 && not (spent (node 
 unfoldable pub tickLeft : ℕ → Node → Left
 tickLeft how node = pick (eqb how 0) (refusal 2 node) (refusal 0 (timed (echoTicked (node .plan) (node .echo)) (node .next) node))
 
--- ---- close
+-- ---- close: what is said of the record, where the rules are kept
 unfoldable pub closedBy : Bool → Session → Session
-closedBy kept s = pick (kept && not (isFree s)) (closed s) s
+closedBy kept s = pick kept (closeOn s .session) s
 
 unfoldable pub closeLeft : Bool → Node → Session → Left
-closeLeft kept node s = pick kept (pick (isFree s) (refusal 10 node) (refusal 0 node)) (refusal 2 node)
+closeLeft kept node s = refusal (pick {A = ℕ} kept (closeOn s .number) 2) node
 
 -- ---- laws
 -- the rules count the records
 pub kept-long : (node : Node) (l : List Session) → keepsRules node l ≡ true → length l ≡ places
 kept-long node l e = split (eqb (length l) places) (λ t. eqb-true (length l) places t) (λ t. impossible (sym (rules-other node l t) ∙ e))
 
--- a place that there is not reads as free
-closable-is : (i : ℕ) (l : List Session) → closable i l ≡ not (isFree (getD l i nobody))
-unfolding closable isFree blankAt
-closable-is i l = split (ltb i (length l)) (λ t. rw t) (λ t. rw (t, List·getD-eq-default l nobody (ltb-false i (length l) t)))
+-- in the words of the code
+pub closed-is : (kept : Bool) (s : Session) → closedBy kept s ≡ pick (kept && not (isFree s)) (closed s) s
+unfolding closedBy closeOn quiet
+closed-is true s = split (isFree s) (λ e. rw e) (λ e. rw e)
+closed-is false s = refl
 
 -- ---- where no place awaits a number no timer runs, and a tick changes no record
 still-timer : (b : Bounds) (s : Session) → recordOk b s ≡ true → silent s ≡ true → s .own .timer ≡ 0
@@ -98,9 +99,7 @@ lent-tick node l zs how c n r e-h e-c e-n e-z e-r = split (keepsRules node l)
 pub lent-close : (node : Node) (l zs : List Session) (i : ℕ) (kept : Bool) (s c : Session) (r : Left)
     → kept ≡ keepsRules node l → s ≡ getD l i (blankAt 0) → c ≡ closedBy kept s → zs ≡ set l i c → r ≡ closeLeft kept node s
     → left r zs ≡ closeOf node (held l) i
-unfolding closedBy closeLeft refusal left held refused closeOf changedAt
+unfolding closedBy closeLeft refusal left held refused closeOf onSession closeOn quiet changedAt
 lent-close node l zs i kept s c r e-k e-s e-c e-z e-r = split (keepsRules node l)
-    (λ t. split (isFree (getD l i nobody))
-    (λ f. rw (e-r, e-z, e-c, e-s, e-k, t, closable-is i l, f, set-getD l i nobody))
-    (λ f. rw (e-r, e-z, e-c, e-s, e-k, t, closable-is i l, f)))
+    (λ t. split (isFree (getD l i nobody)) (λ f. rw (e-r, e-z, e-c, e-s, e-k, t, f)) (λ f. rw (e-r, e-z, e-c, e-s, e-k, t, f)))
     (λ t. rw (e-r, e-z, e-c, e-s, e-k, t, set-getD l i nobody))

@@ -6,7 +6,7 @@ use mathlib.Core.Bool.{Bool, true, false, _&&_}
 use mathlib.Core.List.{List}
 use mathlib.Core.Path.{_≡_, ap}
 use native.Mathlib.Omega.{arith}
-use lib.ListN.{getD, set, drop}
+use lib.ListN.{length, getD, set, drop}
 use lib.Dec.{eqb, ltb}
 use Rattle.octets.specs.Choice.{pick}
 use Rattle.octets.specs.Overlay.{overlay}
@@ -30,7 +30,7 @@ use Rattle.readers.specs.declared.Recovery.the-variants as R
 use Rattle.requests.specs.declared.Create as C
 use Rattle.timing.specs.Timing.{Outcome, outcome, timed, held}
 use Rattle.control.specs.Echoes.{heardNode}
-use Rattle.control.specs.Amends.{causeSize, causeOctets}
+use Rattle.control.specs.Amends.{causeOctets}
 use Rattle.control.specs.Creates.{openingOf, acceptedOctets, noRoom, isRepeat}
 use Rattle.glance.specs.Glance.{standsBy}
 use Rattle.glance.specs.declared.Look.{Look}
@@ -117,21 +117,32 @@ made a reply = record { answer = a; reply = reply }
 unfoldable pub unmovedOn : ℕ → ℕ → Bool → Recovery → Pair → Opened
 unmovedOn number size ended heard p = record { number = number; size = size; ended = ended; heard = heard; old = p .oldrecord; new = p .newrecord }
 
+-- the same, with a message that answers
+abbrev pub stillOn : ℕ → Recovery → Pair → List ℕ → List ℕ → Made
+stillOn number heard p m reply = made (unmovedOn number (length m) false heard p) (overlay m reply)
+
 -- no room: 73, and the replaced session is gone
 unfoldable pub fullOn : C.Create → ℕ → Pair → List ℕ → Made
 fullOn c seq p reply = made
-    (record { number = noRoom .cause; size = causeSize noRoom; ended = false; heard = c .recovery; old = freed (p .oldrecord); new = p .newrecord })
+    (record { number = noRoom .cause; size = length (causeOctets 33 (c .control) seq noRoom); ended = false; heard = c .recovery; old = freed (p .oldrecord); new = p .newrecord })
     (overlay (causeOctets 33 (c .control) seq noRoom) reply)
 
 unfoldable pub enteredOn : C.Create → ℕ → Node → Pair → List ℕ → Made
 enteredOn c seq node p reply = made
-    (record { number = 0; size = 78; ended = false; heard = c .recovery; old = freed (p .oldrecord); new = opened (openingOf c seq) (p .newrecord) })
+    (record {
+      number = 0;
+      size = length (acceptedOctets (node .plan) seq (p .new) (opened (openingOf c seq) (p .newrecord)));
+      ended = false;
+      heard = c .recovery;
+      old = freed (p .oldrecord);
+      new = opened (openingOf c seq) (p .newrecord);
+    })
     (overlay (acceptedOctets (node .plan) seq (p .new) (opened (openingOf c seq) (p .newrecord))) reply)
 
 unfoldable pub openOn : C.Create → ℕ → Node → Pair → List ℕ → Made
 openOn c seq node p reply =
     pick (repeatsAt (p .old) c seq (p .oldrecord))
-    (made (unmovedOn 0 78 false (c .recovery) p) (overlay (acceptedOctets (node .plan) seq (p .old) (p .oldrecord)) reply))
+    (stillOn 0 (c .recovery) p (acceptedOctets (node .plan) seq (p .old) (p .oldrecord)) reply)
     (pick (ltb (p .new) places) (enteredOn c seq node p reply) (fullOn c seq p reply))
 
 -- what concerns the session of the record
@@ -146,11 +157,11 @@ namedOn h rest p reply = namedMade (singleOf h rest (p .oldrecord) reply) p
 unfoldable pub wishTaken : Node → Wish → Pair → List ℕ → List ℕ → Made
 wishTaken node W.Short p d reply = made (unmovedOn 1 0 false R.None p) reply
 wishTaken node (W.Silent number) p d reply = made (unmovedOn number 0 false R.None p) reply
-wishTaken node W.Version p d reply = made (unmovedOn 5 8 false R.None p) (overlay versionNotSupported reply)
-wishTaken node (W.Echo recovery seq) p d reply = made (unmovedOn 0 13 false recovery p) (overlay (echoOf 2 seq (node .plan .recovery)) reply)
+wishTaken node W.Version p d reply = stillOn 5 R.None p versionNotSupported reply
+wishTaken node (W.Echo recovery seq) p d reply = stillOn 0 recovery p (echoOf 2 seq (node .plan .recovery)) reply
 wishTaken node (W.Ended recovery) p d reply = made (unmovedOn 0 0 true recovery p) reply
 wishTaken node (W.Named h) p d reply = namedOn h (drop (h .fields) d) p reply
-wishTaken node (W.Refused w to seq) p d reply = made (unmovedOn (w .cause) (causeSize w) false R.None p) (overlay (causeOctets 33 to seq w) reply)
+wishTaken node (W.Refused w to seq) p d reply = stillOn (w .cause) R.None p (causeOctets 33 to seq w) reply
 wishTaken node (W.Open c seq) p d reply = openOn c seq node p reply
 
 -- whether the table keeps its rules is said

@@ -223,10 +223,10 @@ fn entered_on(c: Create, seq: u32, node: Node, p: Pair, reply: &mut [u8]) -> Ope
     let o = control::opening_of(c, seq);
     let new = t.opened(o);
     let old = s.freed();
-    control::write_accepted(plan, seq, p.new, new, reply);
+    let size = control::write_accepted(plan, seq, p.new, new, reply);
     Opened {
         number: 0,
-        size: 78,
+        size,
         ended: false,
         heard,
         old,
@@ -243,8 +243,8 @@ fn open_on(c: Create, seq: u32, node: Node, p: Pair, reply: &mut [u8]) -> Opened
     if repeat {
         let heard = c.recovery;
         let plan = node.plan;
-        control::write_accepted(plan, seq, p.old, s, reply);
-        return unmoved(0, 78, false, heard, p);
+        let size = control::write_accepted(plan, seq, p.old, s, reply);
+        return unmoved(0, size, false, heard, p);
     }
     if p.new < Table::PLACES {
         return entered_on(c, seq, node, p, reply);

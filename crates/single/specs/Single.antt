@@ -1,33 +1,33 @@
--- A Modify, a Delete and the reply to a Delete Bearer on one record: what they come to from the record of the place that the header's
--- number names alone. That this is what they come to on the whole table is the law in crate inplace.
+-- What concerns one session, done on the record of the place that the header's number names: that record is the session, or the number has
+-- none. The sentences themselves are in crate control; that this is what they come to on the whole table is the law in crate inplace.
 -- Assumes nothing.
 use Prim.Native.Nat.{ℕ}
-use mathlib.Core.Bool.{Bool, false, not, _&&_}
-use mathlib.Core.List.{List}
+use mathlib.Core.Bool.{Bool, true, false, not, _&&_}
+use mathlib.Core.List.{List, []}
+use mathlib.Core.Path.{_≡_, refl, sym, _∙_}
+use lib.ListN.{length}
 use lib.Dec.{eqb}
-use Rattle.octets.specs.Choice.{pick}
+use borrow.Author.Tests.{not-true}
+use Rattle.octets.specs.Choice.{pick, split, impossible, and-left}
 use Rattle.octets.specs.Overlay.{overlay}
 use Rattle.tunnel.specs.Numbering.{controlOffset}
 use Rattle.tunnel.specs.Tunnel.{holderOf}
 use Rattle.tunnel.specs.declared.Holder.{Holder}
 use Rattle.tunnel.specs.declared.Holder.the-variants as H
 use Rattle.session.specs.declared.Session.{Session}
-use Rattle.session.specs.Session.{isFree, waitsFor, freed, moved}
-use Rattle.messages.specs.Messages.{causeReply}
+use Rattle.session.specs.Request.{awaits, idle}
+use Rattle.session.specs.Session.{isFree, waitsFor, blankAt}
+use Rattle.table.specs.Change.{nobody}
 use Rattle.header.specs.declared.HeaderCursor.{HeaderCursor}
-use Rattle.readers.specs.declared.Refusal.{Refusal}
 use Rattle.carried.specs.Carried as carried
 use Rattle.carried.specs.declared.BearerReply.{BearerReply}
 use Rattle.carried.specs.declared.BearerReply.the-variants as B
-use Rattle.requests.specs.declared.Modify as M
-use Rattle.requests.specs.declared.Decoded.{Decoded}
-use Rattle.requests.specs.declared.Decoded.the-variants as D
-use Rattle.requests.specs.declared.Request.the-variants as Q
 use Rattle.changes.specs.Change.{modifyOf, deleteOf}
-use Rattle.control.specs.Amends.{causeSize, causeOctets, notLive, peersOf, modifySize, modifyOctets}
+use Rattle.timing.specs.Timing.{Done, quiet}
+use Rattle.control.specs.Amends.{notLive, causeOn, modifyRead, modifyOn, deleteRead, deleteOn, bearerBy, bearerOn, sessionOf}
 use Rattle.single.specs.declared.Single.{Single}
 
--- ---- what they come to: an answer, and the reply buffer as it is left
+-- ---- what is done, with the reply buffer as it is left
 pub record Singled : Type 0 where
   pub answer : Single
   pub reply : List ℕ
@@ -35,63 +35,62 @@ pub record Singled : Type 0 where
 abbrev pub singled : Single → List ℕ → Singled
 singled a reply = record { answer = a; reply = reply }
 
-abbrev pub answered : ℕ → ℕ → Session → Single
-answered number size s = record { number = number; size = size; session = s }
+unfoldable pub single : Done → Single
+single d = record { number = d .number; size = length (d .message); session = d .session }
 
-unfoldable pub silent : ℕ → Session → Single
-silent number s = answered number 0 s
-
-unfoldable pub causeOn : ℕ → ℕ → ℕ → Refusal → Session → List ℕ → Singled
-causeOn type teid seq w s reply = singled
-    (answered (w .cause) (causeSize w) s)
-    (overlay (causeOctets type teid seq w) reply)
+unfoldable pub doneWith : Done → List ℕ → Singled
+doneWith d reply = singled (single d) (overlay (d .message) reply)
 
 -- whether a record is the session that a number means: taken, and in that use
 unfoldable pub ownedBy : Holder → Session → Bool
 ownedBy (H.At place usage) s = not (isFree s) && eqb (s .usage) usage
 ownedBy H.Nobody s = false
 
-unfoldable pub movedOn : M.Modify → ℕ → Session → List ℕ → Singled
-movedOn m seq s reply = singled
-    (answered 0 (modifySize (m .context)) (moved (peersOf m s) s))
-    (overlay (modifyOctets (m .context) (peersOf m s .control) seq (s .ebi)) reply)
+-- the session of a number is this record, or there is none and the record stays
+unfoldable pub ofNumber : ℕ → (Session → Done) → Session → Done
+ofNumber teid f s =
+    pick (ownedBy (holderOf controlOffset teid) s) (f s) (record { number = f nobody .number; session = s; message = f nobody .message })
 
-unfoldable pub modifyRead : Decoded → ℕ → Session → List ℕ → Singled
-modifyRead (D.Refused w) seq s reply = causeOn 35 (s .control) seq w s reply
-modifyRead (D.Sound (Q.Modify m)) seq s reply = movedOn m seq s reply
-modifyRead (D.Sound (Q.Create c)) seq s reply = causeOn 35 (s .control) seq notLive s reply
-modifyRead (D.Sound (Q.Delete d)) seq s reply = causeOn 35 (s .control) seq notLive s reply
-
-unfoldable pub modifyOn : Session → ℕ → ℕ → List ℕ → List ℕ → Singled
-modifyOn s teid seq rest reply =
-    pick (ownedBy (holderOf controlOffset teid) s) (modifyRead (modifyOf (s .ebi) rest) seq s reply)
-    (causeOn 35 0 seq notLive s reply)
-
-unfoldable pub freedOn : ℕ → Session → List ℕ → Singled
-freedOn seq s reply = singled
-    (answered 0 18 (freed s))
-    (overlay (causeReply 37 (s .control) seq 16) reply)
-
-unfoldable pub deleteRead : Decoded → ℕ → Session → List ℕ → Singled
-deleteRead (D.Refused w) seq s reply = causeOn 37 (s .control) seq w s reply
-deleteRead (D.Sound q) seq s reply = freedOn seq s reply
-
-unfoldable pub deleteOn : Session → ℕ → ℕ → List ℕ → List ℕ → Singled
-deleteOn s teid seq rest reply =
-    pick (ownedBy (holderOf controlOffset teid) s) (deleteRead (deleteOf (s .ebi) rest) seq s reply)
-    (causeOn 37 0 seq notLive s reply)
-
--- the reply to a Delete Bearer frees the record that awaits its number
-unfoldable pub bearerBy : BearerReply → Bool → Session → Single
-bearerBy B.Unreadable mine s = silent 9 s
-bearerBy (B.Cause cause) mine s = pick mine (silent 0 (freed s)) (silent 9 s)
-
-unfoldable pub bearerOn : Session → ℕ → ℕ → List ℕ → Single
-bearerOn s teid seq rest = bearerBy (carried.bearerReplyOf rest) (ownedBy (holderOf controlOffset teid) s && waitsFor seq s) s
-
--- by type
 unfoldable pub singleOf : HeaderCursor → List ℕ → Session → List ℕ → Singled
-singleOf h rest s reply =
-    pick (eqb (h .kind) 34) (modifyOn s (h .teid) (h .sequence) rest reply)
-    (pick (eqb (h .kind) 36) (deleteOn s (h .teid) (h .sequence) rest reply)
-    (singled (bearerOn s (h .teid) (h .sequence) rest) reply))
+singleOf h rest s reply = doneWith (ofNumber (h .teid) (sessionOf h rest) s) reply
+
+-- ---- laws, in the words of the code
+owned-taken : (h : Holder) (s : Session) → ownedBy h s ≡ true → isFree s ≡ false
+unfolding ownedBy
+owned-taken (H.At place usage) s e = not-true (isFree s) (and-left (not (isFree s)) (eqb (s .usage) usage) e)
+owned-taken H.Nobody s e = impossible e
+
+module _ (teid seq : ℕ) (rest : List ℕ) (s : Session) where
+  abbrev owned : Bool
+  owned = ownedBy (holderOf controlOffset teid) s
+
+  pub modify-none : (h : Holder) (b : Bool) → h ≡ holderOf controlOffset teid → b ≡ ownedBy h s → b ≡ false → ofNumber teid (modifyOn seq rest) s ≡ causeOn 35 0 seq notLive s
+  unfolding ofNumber modifyOn causeOn isFree blankAt
+  modify-none h b e-h e-b e = rw (← e-h, ← e-b, e)
+
+  pub modify-some : (h : Holder) (b : Bool) → h ≡ holderOf controlOffset teid → b ≡ ownedBy h s → b ≡ true → ofNumber teid (modifyOn seq rest) s ≡ modifyRead (modifyOf (s .ebi) rest) seq s
+  unfolding ofNumber modifyOn
+  modify-some h b e-h e-b e = rw (← e-h, ← e-b, e, owned-taken h s (sym e-b ∙ e))
+
+  pub delete-none : (h : Holder) (b : Bool) → h ≡ holderOf controlOffset teid → b ≡ ownedBy h s → b ≡ false → ofNumber teid (deleteOn seq rest) s ≡ causeOn 37 0 seq notLive s
+  unfolding ofNumber deleteOn causeOn isFree blankAt
+  delete-none h b e-h e-b e = rw (← e-h, ← e-b, e)
+
+  pub delete-some : (h : Holder) (b : Bool) → h ≡ holderOf controlOffset teid → b ≡ ownedBy h s → b ≡ true → ofNumber teid (deleteOn seq rest) s ≡ deleteRead (deleteOf (s .ebi) rest) seq s
+  unfolding ofNumber deleteOn
+  delete-some h b e-h e-b e = rw (← e-h, ← e-b, e, owned-taken h s (sym e-b ∙ e))
+
+  pub bearer-is : ofNumber teid (bearerOn seq rest) s ≡ bearerBy (carried.bearerReplyOf rest) (owned && waitsFor seq s) s
+  unfolding ofNumber bearerOn bearerBy quiet waitsFor awaits blankAt idle
+  bearer-is = split owned (λ e. rw e) (λ e. rw e (by (carried.bearerReplyOf rest)))
+    where
+      by : (b : BearerReply) → record { number = bearerBy b false nobody .number; session = s; message = bearerBy b false nobody .message } ≡ bearerBy b false s
+      by B.Unreadable = refl
+      by (B.Cause cause) = refl
+
+-- it has no reply
+pub bearer-quiet : (b : BearerReply) (mine : Bool) (s : Session) → bearerBy b mine s .message ≡ []
+unfolding bearerBy quiet
+bearer-quiet B.Unreadable mine s = refl
+bearer-quiet (B.Cause cause) true s = refl
+bearer-quiet (B.Cause cause) false s = refl

@@ -9,7 +9,9 @@ use session::Session;
 use tunnel::ControlTeid;
 use tunnel::Holder;
 ghost use mathlib.Core.Path.{_≡_};
-ghost use Rattle.single.specs.Single.{ownedBy, singled, silent, causeOn, movedOn, modifyRead, modifyOn, freedOn, deleteRead, deleteOn, bearerBy, bearerOn, singleOf};
+ghost use Rattle.timing.specs.Timing.{quiet};
+ghost use Rattle.control.specs.Amends.{causeOn, movedOn, modifyRead, modifyOn, freedOn, deleteRead, deleteOn, bearerBy, bearerOn};
+ghost use Rattle.single.specs.Single.{singled, single, doneWith, ownedBy, ofNumber, singleOf};
 
 // Document 01's number, the reply's length, and the session's record as it is then.
 pub struct Single {
@@ -20,7 +22,7 @@ pub struct Single {
 
 // A number alone: no reply, the record as it was.
 fn refused(number: u8, s: Session) -> Single
-    ensures { λ r. ⌜ r ≡ silent number s ⌝ }
+    ensures { λ r. ⌜ r ≡ single (quiet number s) ⌝ }
 {
     Single {
         number,
@@ -38,7 +40,7 @@ fn cause_on(
     s: Session,
     reply: &mut [u8],
 ) -> Single
-    ensures { λ r. ⌜ singled r (now (reply .exit)) ≡ causeOn kind teid seq w s (now (reply .entry)) ⌝ }
+    ensures { λ r. ⌜ singled r (now (reply .exit)) ≡ doneWith (causeOn kind teid seq w s) (now (reply .entry)) ⌝ }
 {
     let size = control::write_cause(kind, teid, seq, w, reply);
     Single {
@@ -63,7 +65,7 @@ fn owned_by(h: Holder, s: Session) -> bool
 
 // A Modify whose tests all passed.
 fn moved_on(m: Modify, seq: u32, s: Session, reply: &mut [u8]) -> Single
-    ensures { λ r. ⌜ singled r (now (reply .exit)) ≡ movedOn m seq s (now (reply .entry)) ⌝ }
+    ensures { λ r. ⌜ singled r (now (reply .exit)) ≡ doneWith (movedOn m seq s) (now (reply .entry)) ⌝ }
 {
     let peers = control::peers_of(m, s);
     let context = m.context;
@@ -77,7 +79,7 @@ fn moved_on(m: Modify, seq: u32, s: Session, reply: &mut [u8]) -> Single
 }
 
 fn modify_read(d: Decoded, seq: u32, s: Session, reply: &mut [u8]) -> Single
-    ensures { λ r. ⌜ singled r (now (reply .exit)) ≡ modifyRead d seq s (now (reply .entry)) ⌝ }
+    ensures { λ r. ⌜ singled r (now (reply .exit)) ≡ doneWith (modifyRead d seq s) (now (reply .entry)) ⌝ }
 {
     match d {
         Decoded::Refused(w) => cause_on(35, s.control, seq, w, s, reply),
@@ -91,7 +93,7 @@ fn modify_read(d: Decoded, seq: u32, s: Session, reply: &mut [u8]) -> Single
 
 // Modify: the record is the session of the header's number, else 64.
 fn modify_on(s: Session, teid: ControlTeid, seq: u32, rest: &[u8], reply: &mut [u8]) -> Single
-    ensures { λ r. ⌜ singled r (now (reply .exit)) ≡ modifyOn s (teid .0) seq (now (rest .entry)) (now (reply .entry)) ⌝ }
+    ensures { λ r. ⌜ singled r (now (reply .exit)) ≡ doneWith (ofNumber (teid .0) (modifyOn seq (now (rest .entry))) s) (now (reply .entry)) ⌝ }
 {
     let holder = teid.holder();
     let owned = owned_by(holder, s);
@@ -104,7 +106,7 @@ fn modify_on(s: Session, teid: ControlTeid, seq: u32, rest: &[u8], reply: &mut [
 }
 
 fn freed_on(seq: u32, s: Session, reply: &mut [u8]) -> Single
-    ensures { λ r. ⌜ singled r (now (reply .exit)) ≡ freedOn seq s (now (reply .entry)) ⌝ }
+    ensures { λ r. ⌜ singled r (now (reply .exit)) ≡ doneWith (freedOn seq s) (now (reply .entry)) ⌝ }
 {
     let freed = s.freed();
     messages::cause_reply(reply, 37, s.control, seq, 16);
@@ -116,7 +118,7 @@ fn freed_on(seq: u32, s: Session, reply: &mut [u8]) -> Single
 }
 
 fn delete_read(d: Decoded, seq: u32, s: Session, reply: &mut [u8]) -> Single
-    ensures { λ r. ⌜ singled r (now (reply .exit)) ≡ deleteRead d seq s (now (reply .entry)) ⌝ }
+    ensures { λ r. ⌜ singled r (now (reply .exit)) ≡ doneWith (deleteRead d seq s) (now (reply .entry)) ⌝ }
 {
     match d {
         Decoded::Refused(w) => cause_on(37, s.control, seq, w, s, reply),
@@ -126,7 +128,7 @@ fn delete_read(d: Decoded, seq: u32, s: Session, reply: &mut [u8]) -> Single
 
 // Delete: the record is the session of the header's number, else 64.
 fn delete_on(s: Session, teid: ControlTeid, seq: u32, rest: &[u8], reply: &mut [u8]) -> Single
-    ensures { λ r. ⌜ singled r (now (reply .exit)) ≡ deleteOn s (teid .0) seq (now (rest .entry)) (now (reply .entry)) ⌝ }
+    ensures { λ r. ⌜ singled r (now (reply .exit)) ≡ doneWith (ofNumber (teid .0) (deleteOn seq (now (rest .entry))) s) (now (reply .entry)) ⌝ }
 {
     let holder = teid.holder();
     let owned = owned_by(holder, s);
@@ -140,7 +142,7 @@ fn delete_on(s: Session, teid: ControlTeid, seq: u32, rest: &[u8], reply: &mut [
 
 // The reply to a Delete Bearer: it frees the record that awaits its number, if the record is the session of the header's number.
 fn bearer_by(answer: BearerReply, mine: bool, s: Session) -> Single
-    ensures { λ r. ⌜ r ≡ bearerBy answer mine s ⌝ }
+    ensures { λ r. ⌜ r ≡ single (bearerBy answer mine s) ⌝ }
 {
     let BearerReply::Cause(_) = answer else {
         return refused(9, s);
@@ -153,7 +155,7 @@ fn bearer_by(answer: BearerReply, mine: bool, s: Session) -> Single
 }
 
 fn bearer_on(s: Session, teid: ControlTeid, seq: u32, rest: &[u8]) -> Single
-    ensures { λ r. ⌜ r ≡ bearerOn s (teid .0) seq (now (rest .entry)) ⌝ }
+    ensures { λ r. ⌜ r ≡ single (ofNumber (teid .0) (bearerOn seq (now (rest .entry))) s) ⌝ }
 {
     let answer = carried::read_bearer_reply(rest);
     let holder = teid.holder();

@@ -9,7 +9,10 @@ use mathlib.Core.Path.{_≡_, refl, sym, _∙_}
 use native.Mathlib.Omega.{arith}
 use lib.ListN.{length, getD, set, length-set, length-map}
 use lib.Seq.{set-out, getD-set-same, getD-set-other}
+use lib.Dec.{eqb}
+use borrow.Author.Tests.{eqb-true, eqb-false}
 use mir.Val.{boolByte}
+use Rattle.octets.specs.Choice.{split}
 use Rattle.octets.specs.Every.{every, every-at, every-set, every-map}
 use Rattle.octets.specs.Places.{any-default}
 use Rattle.octets.specs.Sums.{sumOf, countOf, sum-set-most, sum-map-most}
@@ -19,9 +22,8 @@ use Rattle.sharing.specs.Sharing.{guaranteeAt, ceilingAt, within-less}
 use Rattle.session.specs.declared.Request.{Request}
 use Rattle.session.specs.declared.Session.{Session}
 use Rattle.session.specs.declared.Bounds.{Bounds}
-use Rattle.session.specs.declared.Peers.{Peers}
-use Rattle.session.specs.Session.{isFree, isOn, hasId, waitsFor, recordOk, blankAt, freed, closed, moved, ticked}
-use Rattle.session.specs.Keep.{Lighter, ok-blank, ok-freed, ok-closed, ok-moved, ok-ticked, lighter-freed, lighter-closed, lighter-moved, lighter-ticked}
+use Rattle.session.specs.Session.{isFree, isOn, hasId, waitsFor, recordOk, blankAt, freed, ticked}
+use Rattle.session.specs.Keep.{Lighter, ok-blank, ok-freed, ok-ticked, lighter-freed, lighter-ticked}
 use Rattle.table.specs.Rules.{liveOn, live, boundsOf, Rules}
 
 -- a record that nobody ever took; what is read of a place that there is not
@@ -53,6 +55,16 @@ module _ (f : Session → Session) (i : ℕ) (l : List Session) where
   pub changed-other : (j : ℕ) (d : Session) → j ≢ i → getD (changedAt f i l) j d ≡ getD l j d
   unfolding changedAt
   changed-other j d n = getD-set-other l i j (f (getD l i nobody)) d n
+
+-- what is at a place is as it was, or changed if it is that one
+pub at-changed : (P : Session → Type 0) (f : Session → Session) (l : List Session) (i j : ℕ) → i < length l
+    → P (getD l i nobody) → (i ≡ j → P (f (getD l i nobody))) → P (getD (changedAt f j l) i nobody)
+at-changed P f l i j h a b =
+    split (eqb i j)
+    (λ t. let e = eqb-true i j t in
+    let q : getD (changedAt f j l) i nobody ≡ f (getD l i nobody) = rw (← e) (changed-here f i l nobody h) in
+    rw q (b e))
+    (λ t. rw (changed-other f j l i nobody (eqb-false i j t)) a)
 
 -- ---- fewer of everything
 pub record Less (m l : List Session) : Type 0 where
@@ -106,15 +118,6 @@ module _ (p : Plan) (echo : Request) (next : ℕ) (l : List Session) (r : Rules 
   pub rules-freed : (i : ℕ) → Rules p echo next (changedAt freed i l)
   unfolding changedAt
   rules-freed i = rules-set i (freed (getD l i nobody)) (ok-freed (boundsOf p) (getD l i nobody) (record-ok i)) (lighter-freed (getD l i nobody))
-
-  pub rules-closed : (i : ℕ) → Rules p echo next (changedAt closed i l)
-  unfolding changedAt
-  rules-closed i = rules-set i (closed (getD l i nobody)) (ok-closed (boundsOf p) (getD l i nobody) (record-ok i)) (lighter-closed (getD l i nobody))
-
-  pub rules-moved : (q : Peers) (i : ℕ) → isFree (getD l i nobody) ≡ false → (q .control ≡ 0 → ⊥) → (q .user ≡ 0 → ⊥) → Rules p echo next (changedAt (moved q) i l)
-  unfolding changedAt
-  rules-moved q i n hc hu =
-      rules-set i (moved q (getD l i nobody)) (ok-moved (boundsOf p) (getD l i nobody) (record-ok i) q n hc hu) (lighter-moved (getD l i nobody) q)
 
   pub rules-all-freed : Rules p echo next (map freed l)
   rules-all-freed = rules-map freed (λ s e. ok-freed (boundsOf p) s e) lighter-freed

@@ -55,6 +55,11 @@ unfoldable pub usedBy : Holder → Session → Found
 usedBy H.Nobody s = Nothing
 usedBy (H.At place usage) s = pick (not (isFree s) && eqb (s .usage) usage) (At place) Nothing
 
+-- the place that was found, or one that there is not
+unfoldable pub placeFound : Found → List Session → ℕ
+placeFound (At i) l = i
+placeFound Nothing l = length l
+
 -- ---- laws of the search
 module _ (p : Session → Bool) (l : List Session) where
   module _ (i : ℕ) (came : firstOf p l ≡ i + firstOf p (drop i l)) where

@@ -2,7 +2,7 @@
 -- Assumes nothing.
 use Prim.Native.Nat.{ℕ, _<_, _≤_}
 use mathlib.Core.Bool.{Bool, true, false, not, _&&_}
-use mathlib.Core.List.{List, map}
+use mathlib.Core.List.{List, [], map}
 use mathlib.Core.Path.{_≡_, refl, sym, _∙_}
 use native.Mathlib.Omega.{arith}
 use lib.ListN.{length, getD, replicate}
@@ -15,14 +15,15 @@ use Rattle.plan.specs.declared.Plan.{Plan}
 use Rattle.plan.specs.Plan.{accepted}
 use Rattle.session.specs.declared.Request.{Request}
 use Rattle.session.specs.Request.{lastNumber, idle, sentOnce}
-use Rattle.session.specs.Session.{isDue, closed, sent}
+use Rattle.session.specs.Session.{isDue, sent}
 use Rattle.table.specs.declared.Node.{Node}
 use Rattle.table.specs.declared.Table.{Table}
-use Rattle.table.specs.Rules.{keepsRules, Rules, rules-of, rules-to}
-use Rattle.table.specs.Change.{nobody, changedAt, rules-closed}
+use Rattle.table.specs.Rules.{boundsOf, keepsRules, Rules, rules-of, rules-to}
+use Rattle.table.specs.Change.{nobody, changedAt}
 use Rattle.table.specs.Number.{after, after-range, awaited, takenNumber, taken-free, taken-range}
 use Rattle.table.specs.Own.{rested, freshNode, duePlace, echoTicked, allTicked, rules-fresh, rules-tick, rules-next, rules-echo-sent, rules-sent}
-use Rattle.timing.specs.Timing.{leastReply, timed, held, refused, freshOf, tickOf, closable, closeOf, stepped, echoSent, placeSent, dueSent, sendOf}
+use Rattle.timing.specs.OnSession.{on-keeps, fits-closed}
+use Rattle.timing.specs.Timing.{leastReply, timed, held, refused, freshOf, tickOf, closeOn, closeOf, stepped, echoSent, placeSent, dueSent, sendOf}
 
 -- from an accepted plan a table starts that keeps its rules
 pub fresh-keeps : (p : Plan) → accepted p ≡ true → keepsRules (freshOf p .node) (freshOf p .table .recs) ≡ true
@@ -40,11 +41,8 @@ module _ (node : Node) (t : Table) (e : keepsRules node (t .recs) ≡ true) wher
       (rules-tick (node .plan) (node .echo) (node .next) (t .recs) rules))
 
   pub close-keeps : (i : ℕ) → keepsRules (closeOf node t i .node) (closeOf node t i .table .recs) ≡ true
-  unfolding closeOf held refused
-  close-keeps i =
-      split (closable i (t .recs))
-      (λ q. rw (e, q) (rules-to node (changedAt closed i (t .recs)) (rules-closed (node .plan) (node .echo) (node .next) (t .recs) rules i)))
-      (λ q. rw (e, q) e)
+  unfolding closeOf
+  close-keeps i = rw e (on-keeps node (t .recs) i closeOn [] e (fits-closed (boundsOf (node .plan))))
 
   -- the number that a send takes is awaited by nobody
   abbrev number : ℕ

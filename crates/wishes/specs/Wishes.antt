@@ -23,6 +23,8 @@ use Rattle.requests.specs.declared.Decoded.the-variants as D
 use Rattle.requests.specs.declared.Request.the-variants as Q
 use Rattle.requests.specs.Create.{createOf, replyTo}
 use Rattle.timing.specs.Timing.{leastReply}
+use Rattle.control.specs.Kind.{Kind, kindBy}
+use Rattle.control.specs.Kind as K
 use Rattle.control.specs.Echoes.{restartsBy}
 use Rattle.control.specs.Amends.{notLive}
 use Rattle.wishes.specs.declared.Wish.{Wish}
@@ -41,14 +43,15 @@ asksOpen (D.Sound (Q.Modify m)) seq rest = W.Refused notLive (replyTo rest) seq
 asksOpen (D.Sound (Q.Delete d)) seq rest = W.Refused notLive (replyTo rest) seq
 
 -- by type
+unfoldable pub asksBy : Kind → HeaderCursor → List ℕ → Node → Wish
+asksBy K.Echo h rest node = W.Echo (carried.echoOf rest) (h .sequence)
+asksBy K.EchoReply h rest node = asksEnd (carried.echoReplyOf rest) (h .sequence) node
+asksBy K.Create h rest node = asksOpen (createOf (node .plan) rest) (h .sequence) rest
+asksBy K.Named h rest node = W.Named h
+asksBy K.Other h rest node = W.Silent 0
+
 unfoldable pub asksKind : HeaderCursor → List ℕ → Node → Wish
-asksKind h rest node =
-    pick (eqb (h .kind) 34) (W.Named h)
-    (pick (eqb (h .kind) 36) (W.Named h)
-    (pick (eqb (h .kind) 32) (asksOpen (createOf (node .plan) rest) (h .sequence) rest)
-    (pick (eqb (h .kind) 100) (W.Named h)
-    (pick (eqb (h .kind) 1) (W.Echo (carried.echoOf rest) (h .sequence))
-    (pick (eqb (h .kind) 2) (asksEnd (carried.echoReplyOf rest) (h .sequence) node) (W.Silent 0))))))
+asksKind h rest node = asksBy (kindBy (h .kind)) h rest node
 
 -- by the header's refusal
 unfoldable pub asksPast : ℕ → Node → List ℕ → Wish

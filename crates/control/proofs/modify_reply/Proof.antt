@@ -1,5 +1,6 @@
-use mathlib.Core.Path.{refl}
-use Rattle.control.specs.Amends.{modifySize, modifyOctets}
+use mathlib.Core.Path.{sym}
+use Rattle.messages.specs.Messages.{size-cause, size-modify}
+use Rattle.control.specs.Amends.{modifyOctets}
 use borrow.Author.Needs.{needs}
 use Rattle.control.proofs.modify_reply.Statement.{statement}
 use Rattle.control.proofs.modify_reply.Tie as tie
@@ -20,15 +21,15 @@ same-length : tie.Need-same-length
 same-length c = search needs
 
 returns : tie.Need-returns
-unfolding modifySize modifyOctets
-returns c = rw (c .before .before .before .before .enum-told .given .1) (record { length = refl; octets = c .before .before .cause-reply .ensures })
+unfolding modifyOctets
+returns c = rw (c .before .before .before .before .enum-told .given .1) (record { length = sym (size-cause _ _ _ _); octets = c .before .before .cause-reply .ensures })
 
 same-length-2 : tie.Need-same-length-2
 same-length-2 c = search needs
 
 returns-2 : tie.Need-returns-2
-unfolding modifySize modifyOctets
-returns-2 c = rw (c .before .before .before .before .enum-told2 .given .1) (record { length = refl; octets = c .before .before .modify-bearer .ensures })
+unfolding modifyOctets
+returns-2 c = rw (c .before .before .before .before .enum-told2 .given .1) (record { length = sym (size-modify _ _ _); octets = c .before .before .modify-bearer .ensures })
 
 pub modify-reply-spec : {M : Type 1} → statement M
 modify-reply-spec =

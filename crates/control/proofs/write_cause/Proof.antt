@@ -1,5 +1,6 @@
-use mathlib.Core.Path.{refl}
-use Rattle.control.specs.Amends.{causeSize, causeOctets}
+use mathlib.Core.Path.{sym}
+use Rattle.messages.specs.Messages.{size-fault, size-cause}
+use Rattle.control.specs.Amends.{causeOctets}
 use borrow.Author.Needs.{needs}
 use Rattle.control.proofs.write_cause.Statement.{statement}
 use Rattle.control.proofs.write_cause.Tie as tie
@@ -11,8 +12,8 @@ same-length : tie.Need-same-length
 same-length c = search needs
 
 returns : tie.Need-returns
-unfolding causeSize causeOctets
-returns c = rw (c .before .before .before .before .if1 .taken) (record { length = refl; octets = c .before .before .fault-reply .ensures })
+unfolding causeOctets
+returns c = rw (c .before .before .before .before .if1 .taken) (record { length = sym (size-fault _ _ _ _ _ _); octets = c .before .before .fault-reply .ensures })
 
 cause-reply-requires : tie.Need-cause-reply-requires
 cause-reply-requires c κs = search needs
@@ -21,8 +22,8 @@ same-length-2 : tie.Need-same-length-2
 same-length-2 c = search needs
 
 returns-2 : tie.Need-returns-2
-unfolding causeSize causeOctets
-returns-2 c = rw (c .before .before .before .before .if1 .left) (record { length = refl; octets = c .before .before .cause-reply .ensures })
+unfolding causeOctets
+returns-2 c = rw (c .before .before .before .before .if1 .left) (record { length = sym (size-cause _ _ _ _); octets = c .before .before .cause-reply .ensures })
 
 pub write-cause-spec : {M : Type 1} → statement M
 write-cause-spec =

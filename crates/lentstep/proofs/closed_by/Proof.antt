@@ -1,4 +1,4 @@
-use Rattle.lentstep.specs.Step.{closedBy}
+use Rattle.lentstep.specs.Step.{closed-is}
 use borrow.Author.Needs.{needs}
 use Rattle.lentstep.proofs.closed_by.Statement.{statement}
 use Rattle.lentstep.proofs.closed_by.Tie as tie
@@ -10,12 +10,10 @@ closed-requires : tie.Need-closed-requires
 closed-requires c κs = search needs
 
 returns : tie.Need-returns
-unfolding closedBy
-returns c = rw (← c .before .before .is-free .ensures, c .before .if1 .taken, c .closed .ensures)
+returns c = rw (closed-is, ← c .before .before .is-free .ensures, c .before .if1 .taken, c .closed .ensures)
 
 returns-2 : tie.Need-returns-2
-unfolding closedBy
-returns-2 c = rw (← c .before .is-free .ensures, c .if1 .left)
+returns-2 c = rw (closed-is, ← c .before .is-free .ensures, c .if1 .left)
 
 pub closed-by-spec : {M : Type 1} → statement M
 closed-by-spec = tie.close (tie.spec is-free-requires closed-requires returns returns-2)

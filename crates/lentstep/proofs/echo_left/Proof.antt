@@ -1,3 +1,4 @@
+use Rattle.messages.specs.Messages.{size-echo}
 use Rattle.timing.specs.Timing.{timed}
 use Rattle.lentstep.specs.Send.{echoLeft}
 use borrow.Author.Needs.{needs}
@@ -18,7 +19,7 @@ same-length c = search needs
 
 returns : tie.Need-returns
 unfolding echoLeft timed
-returns c = rw (c .before .before .echo-of .ensures, c .before .before .before .before .stepped .ensures, c .before .before .before .before .before .sent-once .ensures)
+returns c = rw (size-echo, c .before .before .echo-of .ensures, c .before .before .before .before .stepped .ensures, c .before .before .before .before .before .sent-once .ensures)
 
 pub echo-left-spec : {M : Type 1} → statement M
 echo-left-spec =

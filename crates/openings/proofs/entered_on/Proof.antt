@@ -20,7 +20,7 @@ same-length c = search needs
 
 returns : tie.Need-returns
 unfolding enteredOn
-returns c = rw (c .before .before .write-accepted .ensures, c .before .before .before .before .freed .ensures, c .before .before .before .before .before .opened .ensures, c .before .before .before .before .before .before .opening-of .ensures)
+returns c = rw (c .before .before .write-accepted .ensures .length, c .before .before .write-accepted .ensures .octets, c .before .before .before .before .freed .ensures, c .before .before .before .before .before .opened .ensures, c .before .before .before .before .before .before .opening-of .ensures)
 
 pub entered-on-spec : {M : Type 1} → statement M
 entered-on-spec =

@@ -20,7 +20,7 @@ same-length c = search needs
 
 returns : tie.Need-returns
 unfolding openOn places
-returns c = rw (sym (c .before .before .before .before .before .before .before .repeats .ensures) ∙ c .before .before .before .before .before .before .if1 .taken, c .before .before .before .write-accepted .ensures, c .unmoved .ensures)
+returns c = rw (sym (c .before .before .before .before .before .before .before .repeats .ensures) ∙ c .before .before .before .before .before .before .if1 .taken, c .unmoved .ensures, c .before .before .before .write-accepted .ensures .length, c .before .before .before .write-accepted .ensures .octets)
 
 entered-on-requires : tie.Need-entered-on-requires
 entered-on-requires c κs = search needs

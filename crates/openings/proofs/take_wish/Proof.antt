@@ -1,3 +1,4 @@
+use Rattle.messages.specs.Messages.{size-version, size-echo}
 use Rattle.openings.specs.Openings.{wishTaken}
 use borrow.Author.Needs.{needs}
 use Rattle.openings.proofs.take_wish.Statement.{statement}
@@ -109,7 +110,7 @@ same-length c = search needs
 -- src/lib.rt:312:1
 returns-3 : tie.Need-returns-3
 unfolding wishTaken
-returns-3 c = rw (c .before .before .before .before .before .enum-told2 .given .1, c .unmoved3 .ensures, c .before .before .before .version-not-supported .ensures)
+returns-3 c = rw (c .before .before .before .before .before .enum-told2 .given .1, c .unmoved3 .ensures, c .before .before .before .version-not-supported .ensures, size-version)
 
 -- src/lib.rt:312:1
 same-length-2 : tie.Need-same-length-2
@@ -118,7 +119,7 @@ same-length-2 c = search needs
 -- src/lib.rt:312:1
 returns-4 : tie.Need-returns-4
 unfolding wishTaken
-returns-4 c = rw (c .before .before .before .before .before .before .before .w2 .given .1, c .unmoved4 .ensures, c .before .before .before .echo-of .ensures)
+returns-4 c = rw (c .before .before .before .before .before .before .before .w2 .given .1, c .unmoved4 .ensures, c .before .before .before .echo-of .ensures, size-echo)
 
 -- src/lib.rt:312:1
 returns-5 : tie.Need-returns-5

@@ -1,4 +1,4 @@
-use Rattle.single.specs.Single.{bearerBy}
+use Rattle.control.specs.Amends.{bearerBy}
 use borrow.Author.Needs.{needs}
 use Rattle.single.proofs.bearer_by.Statement.{statement}
 use Rattle.single.proofs.bearer_by.Tie as tie

@@ -1,4 +1,4 @@
-use Rattle.single.specs.Single.{bearerOn}
+use Rattle.single.specs.Single.{bearer-is}
 use borrow.Author.Needs.{needs}
 use Rattle.single.proofs.bearer_on.Statement.{statement}
 use Rattle.single.proofs.bearer_on.Tie as tie
@@ -32,8 +32,7 @@ bearer-by-requires c κs = search needs
 
 -- src/lib.rt:167:1
 returns : tie.Need-returns
-unfolding bearerOn
-returns c = rw (c .bearer-by .ensures, c .before .waits-for .ensures, c .before .before .owned-by .ensures, c .before .before .before .holder .ensures, c .before .before .before .before .read-bearer-reply .ensures)
+returns c = rw (bearer-is, c .bearer-by .ensures, c .before .waits-for .ensures, c .before .before .owned-by .ensures, c .before .before .before .holder .ensures, c .before .before .before .before .read-bearer-reply .ensures)
 
 pub bearer-on-spec : {M : Type 1} → statement M
 bearer-on-spec =

@@ -1,6 +1,5 @@
-use mathlib.Core.Path.{sym, _∙_}
 use borrow.Author.Tests.{not-true, not-false}
-use Rattle.single.specs.Single.{deleteOn}
+use Rattle.single.specs.Single.{delete-none, delete-some}
 use borrow.Author.Needs.{needs}
 use Rattle.single.proofs.delete_on.Statement.{statement}
 use Rattle.single.proofs.delete_on.Tie as tie
@@ -21,8 +20,7 @@ same-length : tie.Need-same-length
 same-length c = search needs
 
 returns : tie.Need-returns
-unfolding deleteOn
-returns c = rw (← c .before .before .before .before .before .before .before .holder .ensures, sym (c .before .before .before .before .before .before .owned-by .ensures) ∙ not-true _ (c .before .before .before .before .before .if1 .taken), ← c .before .before .before .before .not-live .ensures) (c .before .before .cause-on .ensures)
+returns c = rw (delete-none _ _ _ _ _ _ (c .before .before .before .before .before .before .before .holder .ensures) (c .before .before .before .before .before .before .owned-by .ensures) (not-true _ (c .before .before .before .before .before .if1 .taken)), ← c .before .before .before .before .not-live .ensures) (c .before .before .cause-on .ensures)
 
 read-delete-requires : tie.Need-read-delete-requires
 read-delete-requires c κs = search needs
@@ -34,8 +32,7 @@ same-length-2 : tie.Need-same-length-2
 same-length-2 c = search needs
 
 returns-2 : tie.Need-returns-2
-unfolding deleteOn
-returns-2 c = rw (← c .before .before .before .before .before .before .before .holder .ensures, sym (c .before .before .before .before .before .before .owned-by .ensures) ∙ not-false _ (c .before .before .before .before .before .if1 .left), ← c .before .before .before .before .read-delete .ensures) (c .before .before .delete-read .ensures)
+returns-2 c = rw (delete-some _ _ _ _ _ _ (c .before .before .before .before .before .before .before .holder .ensures) (c .before .before .before .before .before .before .owned-by .ensures) (not-false _ (c .before .before .before .before .before .if1 .left)), ← c .before .before .before .before .read-delete .ensures) (c .before .before .delete-read .ensures)
 
 pub delete-on-spec : {M : Type 1} → statement M
 delete-on-spec =

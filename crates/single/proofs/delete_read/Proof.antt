@@ -1,4 +1,4 @@
-use Rattle.single.specs.Single.{deleteRead}
+use Rattle.control.specs.Amends.{deleteRead}
 use borrow.Author.Needs.{needs}
 use Rattle.single.proofs.delete_read.Statement.{statement}
 use Rattle.single.proofs.delete_read.Tie as tie

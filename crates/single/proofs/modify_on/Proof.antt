@@ -1,6 +1,5 @@
-use mathlib.Core.Path.{sym, _∙_}
 use borrow.Author.Tests.{not-true, not-false}
-use Rattle.single.specs.Single.{modifyOn}
+use Rattle.single.specs.Single.{modify-none, modify-some}
 use borrow.Author.Needs.{needs}
 use Rattle.single.proofs.modify_on.Statement.{statement}
 use Rattle.single.proofs.modify_on.Tie as tie
@@ -21,8 +20,7 @@ same-length : tie.Need-same-length
 same-length c = search needs
 
 returns : tie.Need-returns
-unfolding modifyOn
-returns c = rw (← c .before .before .before .before .before .before .before .holder .ensures, sym (c .before .before .before .before .before .before .owned-by .ensures) ∙ not-true _ (c .before .before .before .before .before .if1 .taken), ← c .before .before .before .before .not-live .ensures) (c .before .before .cause-on .ensures)
+returns c = rw (modify-none _ _ _ _ _ _ (c .before .before .before .before .before .before .before .holder .ensures) (c .before .before .before .before .before .before .owned-by .ensures) (not-true _ (c .before .before .before .before .before .if1 .taken)), ← c .before .before .before .before .not-live .ensures) (c .before .before .cause-on .ensures)
 
 read-modify-requires : tie.Need-read-modify-requires
 read-modify-requires c κs = search needs
@@ -34,8 +32,7 @@ same-length-2 : tie.Need-same-length-2
 same-length-2 c = search needs
 
 returns-2 : tie.Need-returns-2
-unfolding modifyOn
-returns-2 c = rw (← c .before .before .before .before .before .before .before .holder .ensures, sym (c .before .before .before .before .before .before .owned-by .ensures) ∙ not-false _ (c .before .before .before .before .before .if1 .left), ← c .before .before .before .before .read-modify .ensures) (c .before .before .modify-read .ensures)
+returns-2 c = rw (modify-some _ _ _ _ _ _ (c .before .before .before .before .before .before .before .holder .ensures) (c .before .before .before .before .before .before .owned-by .ensures) (not-false _ (c .before .before .before .before .before .if1 .left)), ← c .before .before .before .before .read-modify .ensures) (c .before .before .modify-read .ensures)
 
 pub modify-on-spec : {M : Type 1} → statement M
 modify-on-spec =

@@ -1,4 +1,4 @@
-use Rattle.single.specs.Single.{modifyRead}
+use Rattle.control.specs.Amends.{modifyRead}
 use borrow.Author.Needs.{needs}
 use Rattle.single.proofs.modify_read.Statement.{statement}
 use Rattle.single.proofs.modify_read.Tie as tie

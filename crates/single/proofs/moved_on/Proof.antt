@@ -1,4 +1,5 @@
-use Rattle.single.specs.Single.{movedOn}
+use Rattle.control.specs.Amends.{movedOn}
+use Rattle.single.specs.Single.{single, doneWith}
 use borrow.Author.Needs.{needs}
 use Rattle.single.proofs.moved_on.Statement.{statement}
 use Rattle.single.proofs.moved_on.Tie as tie
@@ -16,7 +17,7 @@ same-length : tie.Need-same-length
 same-length c = search needs
 
 returns : tie.Need-returns
-unfolding movedOn
+unfolding movedOn doneWith single
 returns c = rw (c .before .before .modify-reply .ensures .length, c .before .before .modify-reply .ensures .octets, c .before .before .before .before .moved .ensures, c .before .before .before .before .before .peers-of .ensures)
 
 pub moved-on-spec : {M : Type 1} → statement M

@@ -1,10 +1,11 @@
 use mathlib.Core.Path.{refl}
-use Rattle.single.specs.Single.{silent}
+use Rattle.timing.specs.Timing.{quiet}
+use Rattle.single.specs.Single.{single}
 use Rattle.single.proofs.refused.Statement.{statement}
 use Rattle.single.proofs.refused.Tie as tie
 
 returns : tie.Need-returns
-unfolding silent
+unfolding single quiet
 returns c = refl
 
 pub refused-spec : {M : Type 1} → statement M

@@ -1,5 +1,7 @@
 use borrow.Author.Tests.{eq-eqb, ne-eqb}
-use Rattle.single.specs.Single.{singleOf}
+use Rattle.octets.specs.Overlay.{overlay}
+use Rattle.control.specs.Amends.{sessionOf}
+use Rattle.single.specs.Single.{single, doneWith, singleOf, bearer-is, bearer-quiet}
 use borrow.Author.Needs.{needs}
 use Rattle.single.proofs.take_single.Statement.{statement}
 use Rattle.single.proofs.take_single.Tie as tie
@@ -19,7 +21,7 @@ same-length c = search needs
 
 -- src/lib.rt:183:9
 returns : tie.Need-returns
-unfolding singleOf
+unfolding singleOf sessionOf
 returns c = rw (eq-eqb _ _ (c .before .before .before .before .if1 .taken)) (c .before .before .modify-on .ensures)
 
 -- src/lib.rt:186:9
@@ -32,7 +34,7 @@ same-length-2 c = search needs
 
 -- src/lib.rt:186:9
 returns-2 : tie.Need-returns-2
-unfolding singleOf
+unfolding singleOf sessionOf
 returns-2 c = rw (ne-eqb _ _ (c .before .before .before .before .before .if1 .left), eq-eqb _ _ (c .before .before .before .before .if2 .taken)) (c .before .before .delete-on .ensures)
 
 -- src/lib.rt:188:5
@@ -41,8 +43,8 @@ bearer-on-requires c κs = search needs
 
 -- src/lib.rt:178:1
 returns-3 : tie.Need-returns-3
-unfolding singleOf
-returns-3 c = rw (ne-eqb _ _ (c .before .before .if1 .left), ne-eqb _ _ (c .before .if2 .left), c .bearer-on .ensures)
+unfolding singleOf sessionOf doneWith single overlay
+returns-3 c = rw (ne-eqb _ _ (c .before .before .if1 .left), ne-eqb _ _ (c .before .if2 .left), c .bearer-on .ensures, bearer-is, bearer-quiet)
 
 pub take-single-spec : {M : Type 1} → statement M
 take-single-spec =
