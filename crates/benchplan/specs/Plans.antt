@@ -11,7 +11,8 @@ use Rattle.plan.specs.declared.Plan.{Plan}
 use Rattle.plan.specs.Limits.{noPoint}
 use Rattle.table.specs.declared.Node.{Node}
 use Rattle.table.specs.Own.{freshNode}
-use Rattle.timing.specs.Timing.{outcome, freshOf}
+use Rattle.timing.specs.Outcome.{outcome}
+use Rattle.timing.specs.Timing.{freshOf}
 use Rattle.benchtext.specs.declared.Line.{Line}
 use Rattle.benchtext.specs.declared.Line.the-variants as L
 use Rattle.benchplan.specs.declared.Bench.{Bench}

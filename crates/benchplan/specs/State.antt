@@ -11,7 +11,7 @@ use Rattle.plan.specs.Limits.{noPlan}
 use Rattle.table.specs.Change.{nobody}
 use Rattle.table.specs.Own.{freshNode}
 use Rattle.timing.specs.declared.Answer.{Answer}
-use Rattle.timing.specs.Timing.{Outcome, held}
+use Rattle.timing.specs.Outcome.{Outcome}
 use Rattle.benchtext.specs.Prints.{answerText, badText}
 use Rattle.benchplan.specs.declared.Bench.{Bench}
 
@@ -37,7 +37,7 @@ unfoldable pub over : ℕ
 over = 3
 
 unfoldable pub emptyRun : Bench
-emptyRun = record { phase = first; lines = 0; made = 0; node = freshNode noPlan; table = held (replicate 64 nobody) }
+emptyRun = record { phase = first; lines = 0; made = 0; node = freshNode noPlan; table = (replicate 64 nobody) }
 
 -- what a call gets as its reply buffer
 unfoldable pub lentReply : List ℕ

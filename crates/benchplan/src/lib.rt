@@ -8,7 +8,7 @@ use table::Table;
 use timing::Answer;
 ghost use mathlib.Core.Path.{_≡_};
 ghost use lib.ListN.{take};
-ghost use Rattle.timing.specs.Timing.{outcome};
+ghost use Rattle.timing.specs.Outcome.{outcome};
 ghost use Rattle.benchplan.specs.State.{ran, emptyRun, counted, withLine, withMade, endBad, keptIn, answered};
 ghost use Rattle.benchplan.specs.Ended.{placePrinted, placesPrinted, endPlan, ended};
 ghost use Rattle.benchplan.specs.Plans.{firstLine, pointFrom, withPoint, oneMore, planTaken, startLine};

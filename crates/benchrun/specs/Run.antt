@@ -10,7 +10,8 @@ use lib.ListN.{length, take, drop}
 use lib.Dec.{eqb}
 use Rattle.octets.specs.Choice.{pick, split}
 use Rattle.numerals.specs.Laid.{laid, written}
-use Rattle.timing.specs.Timing.{Outcome, sendOf}
+use Rattle.timing.specs.Outcome.{Outcome}
+use Rattle.timing.specs.Timing.{sendOf}
 use Rattle.userside.specs.UserSide.{Took, took, userTaken}
 use Rattle.benchtext.specs.Prints.{answerText, packetText, dueText}
 use Rattle.benchplan.specs.declared.Bench.{Bench}
@@ -49,7 +50,7 @@ userShown x d =
 
 unfoldable pub userRun : List ℕ → Bench → List ℕ → Ran
 userRun d b out =
-    printed (userShown (userTaken (b .node) (b .table .recs) d lentReply) d) (λ made. withMade made b) (b .made) out
+    printed (userShown (userTaken (b .node) (b .table) d lentReply) d) (λ made. withMade made b) (b .made) out
 
 -- ---- laws of the sending loop, with k tries left
 pub sent-length : (b : Bench) (out : List ℕ) → length (sentOne b out .out) ≡ length out
@@ -72,7 +73,7 @@ sent-end x = refl
 
 -- ---- a user datagram, by what came back of it
 module _ (d : List ℕ) (b : Bench) (out : List ℕ) (n p s start : ℕ) (rep payload : List ℕ) (r : ℕ) (o : List ℕ)
-    (e : took n p s rep start ≡ userTaken (b .node) (b .table .recs) d lentReply) (q : payload ≡ drop start d) where
+    (e : took n p s rep start ≡ userTaken (b .node) (b .table) d lentReply) (q : payload ≡ drop start d) where
   pub user-packet : (eqb n 0 && eqb s 0) ≡ true → written r o ≡ laid (b .made) (packetText n (take s rep) payload) out → ran (withMade r b) o ≡ userRun d b out
   unfolding userRun userShown
   user-packet t w = rw (← e, t, ← q) (printed-by (packetText n (take s rep) payload) (λ made. withMade made b) (b .made) r out o w)

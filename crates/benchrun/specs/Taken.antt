@@ -6,7 +6,8 @@ use mathlib.Core.List.{List, []}
 use lib.ListN.{take, replicate}
 use lib.Dec.{eqb}
 use Rattle.octets.specs.Choice.{pick}
-use Rattle.timing.specs.Timing.{outcome, tickOf, closeOf}
+use Rattle.timing.specs.Outcome.{outcome}
+use Rattle.timing.specs.Timing.{tickOf, closeOf}
 use Rattle.control.specs.Control.{controlTaken}
 use Rattle.benchtext.specs.declared.Line.{Line}
 use Rattle.benchtext.specs.declared.Line.the-variants.{Node, Point, Control, User, Tick, Close, BadPoint, Bad}

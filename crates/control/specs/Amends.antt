@@ -13,7 +13,6 @@ use Rattle.session.specs.declared.Session.{Session}
 use Rattle.session.specs.declared.Peers.{Peers}
 use Rattle.session.specs.Session.{isFree, waitsFor, freed, moved}
 use Rattle.table.specs.declared.Node.{Node}
-use Rattle.table.specs.declared.Table.{Table}
 use Rattle.messages.specs.Messages.{causeReply, faultReply, modifyBearer}
 use Rattle.header.specs.declared.HeaderCursor.{HeaderCursor}
 use Rattle.carried.specs.Carried as carried
@@ -29,14 +28,14 @@ use Rattle.requests.specs.declared.Decoded.{Decoded}
 use Rattle.requests.specs.declared.Decoded.the-variants as D
 use Rattle.requests.specs.declared.Request.the-variants as Q
 use Rattle.changes.specs.Change.{modifyOf, deleteOf}
-use Rattle.timing.specs.Timing.{Outcome, replied, Done, quiet}
+use Rattle.timing.specs.Outcome.{Outcome, replied, Done, quiet}
 
 -- ---- a reply with a cause: the number is the cause, the table as it was
 unfoldable pub causeOctets : ℕ → ℕ → ℕ → Refusal → List ℕ
 causeOctets type teid seq w =
     pick (w .named) (faultReply type teid seq (w .cause) (w .kind) (w .instance)) (causeReply type teid seq (w .cause))
 
-unfoldable pub causeTaken : ℕ → ℕ → ℕ → Refusal → Node → Table → List ℕ → Outcome
+unfoldable pub causeTaken : ℕ → ℕ → ℕ → Refusal → Node → List Session → List ℕ → Outcome
 causeTaken type teid seq w node t reply = replied (w .cause) node t (causeOctets type teid seq w) reply
 
 -- what a writer of a message does: the message is laid over the front of the buffer, and its length is answered

@@ -23,7 +23,7 @@ use Rattle.requests.specs.declared.Decoded.{Decoded}
 use Rattle.requests.specs.declared.Decoded.the-variants as D
 use Rattle.requests.specs.declared.Request.the-variants as Q
 use Rattle.changes.specs.Change.{modifyOf, deleteOf, PeerSound, ModifySound, modify-sound, new-live}
-use Rattle.timing.specs.Timing.{quiet}
+use Rattle.timing.specs.Outcome.{quiet}
 use Rattle.timing.specs.OnSession.{Fits, fits-same, fits-freed}
 use Rattle.control.specs.Amends.{causeOn, peerTeid, peersOf, movedOn, modifyRead, modifyOn, freedOn, deleteRead, deleteOn, bearerBy, bearerOn, sessionOf}
 

@@ -21,7 +21,6 @@ use Rattle.session.specs.declared.Session.{Session}
 use Rattle.session.specs.declared.Opening.{Opening}
 use Rattle.session.specs.Session.{isFree, hasId, opened, freed}
 use Rattle.table.specs.declared.Node.{Node}
-use Rattle.table.specs.declared.Table.{Table}
 use Rattle.table.specs.declared.Found.{Found}
 use Rattle.table.specs.declared.Found.the-variants as F
 use Rattle.table.specs.Rules.{live}
@@ -35,8 +34,7 @@ use Rattle.requests.specs.declared.Decoded.{Decoded}
 use Rattle.requests.specs.declared.Decoded.the-variants as D
 use Rattle.requests.specs.declared.Request.the-variants as Q
 use Rattle.requests.specs.Create.{createOf, replyTo}
-use Rattle.timing.specs.declared.Answer.{Answer}
-use Rattle.timing.specs.Timing.{Outcome, outcome, replied, held, refused}
+use Rattle.timing.specs.Outcome.{State, Outcome, noReply, replied}
 use Rattle.control.specs.Amends.{causeTaken, notLive}
 use Rattle.control.specs.Echoes.{heardBy}
 
@@ -59,7 +57,7 @@ acceptedOctets plan seq i s =
     createAccepted (s .control) seq (controlNumber (s .usage) i % teids) (plan .control) (addressOf (plan .pool) i) (s .ebi)
     (userNumber (s .usage) i % teids) (plan .user) (plan .recovery)
 
-unfoldable pub acceptedTaken : ℕ → ℕ → Session → Node → Table → List ℕ → Outcome
+unfoldable pub acceptedTaken : ℕ → ℕ → Session → Node → List Session → List ℕ → Outcome
 acceptedTaken seq i s node t reply = replied 0 node t (acceptedOctets (node .plan) seq i s) reply
 
 -- no room: 73, no field named
@@ -67,40 +65,40 @@ unfoldable pub noRoom : Refusal
 noRoom = record { cause = 73; kind = 0; instance = 0; named = false }
 
 -- a place taken: where none is free, 11 and the table as it was lent
-unfoldable pub openedAt : Found → C.Create → ℕ → Node → Table → Node → Table → List ℕ → Outcome
-openedAt F.Nothing c seq node t node₀ t₀ reply = outcome (refused 11 node₀ t₀) reply
+unfoldable pub openedAt : Found → C.Create → ℕ → Node → List Session → Node → List Session → List ℕ → Outcome
+openedAt F.Nothing c seq node t node₀ t₀ reply = noReply 11 node₀ t₀ reply
 openedAt (F.At i) c seq node t node₀ t₀ reply =
-    acceptedTaken seq i (opened (openingOf c seq) (getD (t .recs) i nobody)) node (held (changedAt (opened (openingOf c seq)) i (t .recs))) reply
+    acceptedTaken seq i (opened (openingOf c seq) (getD t i nobody)) node (changedAt (opened (openingOf c seq)) i t) reply
 
 -- the sharing rule, on the table without the replaced session
-unfoldable pub shared : C.Create → ℕ → Node → Table → Node → Table → List ℕ → Outcome
+unfoldable pub shared : C.Create → ℕ → Node → List Session → Node → List Session → List ℕ → Outcome
 shared c seq node t node₀ t₀ reply =
-    pick (admits (node .plan) (live (t .recs)) (c .point))
-    (openedAt (foundIn isFree (t .recs)) c seq node t node₀ t₀ reply)
+    pick (admits (node .plan) (live t) (c .point))
+    (openedAt (foundIn isFree t) c seq node t node₀ t₀ reply)
     (causeTaken 33 (c .control) seq noRoom node t reply)
 
 -- a repeat: the session with this IMSI and EBI has this access point and creating number. Any other session with them is freed first
 unfoldable pub isRepeat : C.Create → ℕ → Session → Bool
 isRepeat c seq s = eqb (s .point) (c .point) && eqb (s .created) seq
 
-unfoldable pub settledAt : Found → C.Create → ℕ → Node → Table → Node → Table → List ℕ → Outcome
+unfoldable pub settledAt : Found → C.Create → ℕ → Node → List Session → Node → List Session → List ℕ → Outcome
 settledAt F.Nothing c seq node t node₀ t₀ reply = shared c seq node t node₀ t₀ reply
 settledAt (F.At i) c seq node t node₀ t₀ reply =
-    pick (isRepeat c seq (getD (t .recs) i nobody))
-    (acceptedTaken seq i (getD (t .recs) i nobody) node t reply)
-    (shared c seq node (held (changedAt freed i (t .recs))) node₀ t₀ reply)
+    pick (isRepeat c seq (getD t i nobody))
+    (acceptedTaken seq i (getD t i nobody) node t reply)
+    (shared c seq node (changedAt freed i t) node₀ t₀ reply)
 
 -- after Recovery
-unfoldable pub heardCreate : C.Create → ℕ → Answer → Node → Table → List ℕ → Outcome
-heardCreate c seq a node₀ t₀ reply = settledAt (foundIn (hasId (c .imsi) (c .ebi)) (a .table .recs)) c seq (a .node) (a .table) node₀ t₀ reply
+unfoldable pub heardCreate : C.Create → ℕ → State → Node → List Session → List ℕ → Outcome
+heardCreate c seq a node₀ t₀ reply = settledAt (foundIn (hasId (c .imsi) (c .ebi)) (a .table)) c seq (a .node) (a .table) node₀ t₀ reply
 
-unfoldable pub createBy : Decoded → ℕ → ℕ → Node → Table → List ℕ → Outcome
+unfoldable pub createBy : Decoded → ℕ → ℕ → Node → List Session → List ℕ → Outcome
 createBy (D.Refused w) seq to node t reply = causeTaken 33 to seq w node t reply
 createBy (D.Sound (Q.Create c)) seq to node t reply = heardCreate c seq (heardBy (c .recovery) node t) node t reply
 createBy (D.Sound (Q.Modify m)) seq to node t reply = causeTaken 33 to seq notLive node t reply
 createBy (D.Sound (Q.Delete d)) seq to node t reply = causeTaken 33 to seq notLive node t reply
 
-unfoldable pub createTaken : Node → Table → ℕ → List ℕ → List ℕ → Outcome
+unfoldable pub createTaken : Node → List Session → ℕ → List ℕ → List ℕ → Outcome
 createTaken node t seq rest reply = createBy (createOf (node .plan) rest) seq (replyTo rest) node t reply
 
 -- ---- the rule goes by the counts of the plan's access points alone

@@ -21,7 +21,6 @@ use Rattle.session.specs.declared.Opening.{Opening}
 use Rattle.session.specs.Session.{isFree, hasId, freed, opened, readOk, imsis, lastCreated}
 use Rattle.session.specs.Keep.{openingOk}
 use Rattle.table.specs.declared.Node.{Node}
-use Rattle.table.specs.declared.Table.{Table}
 use Rattle.table.specs.declared.Found.{Found}
 use Rattle.table.specs.declared.Found.the-variants as F
 use Rattle.table.specs.Rules.{keepsRules, Rules, rules-of, rules-to, boundsOf, live}
@@ -38,7 +37,7 @@ use Rattle.requests.specs.declared.Decoded.the-variants as D
 use Rattle.requests.specs.declared.Request.the-variants as Q
 use Rattle.requests.specs.Create.{createOf, replyTo, CreateSound, create-sound}
 use Rattle.timing.specs.declared.Answer.{Answer}
-use Rattle.timing.specs.Timing.{Outcome, outcome, held, refused}
+use Rattle.timing.specs.Outcome.{Outcome, outcome, noReply}
 use Rattle.control.specs.Amends.{causeTaken}
 use Rattle.control.specs.Echoes.{heardBy, heard-keeps}
 use Rattle.table.specs.Own.{hearing}
@@ -78,64 +77,64 @@ found-none-count p l e =
     (λ t. first-none p l (ltb-false (firstOf p l) (length l) t))
 
 -- ---- the sharing rule and the place, on any table that keeps its rules and has nobody with the IMSI and EBI
-module _ (c : C.Create) (seq : ℕ) (small : seq ≤ lastCreated) (node₀ : Node) (t₀ : Table) (e₀ : keepsRules node₀ (t₀ .recs) ≡ true) (reply : List ℕ) where
-  shared-keeps : (node : Node) (t : Table) → keepsRules node (t .recs) ≡ true → CreateSound (parties (node .plan)) c → countOf (hasId (c .imsi) (c .ebi)) (t .recs) ≡ 0
-      → keepsRules (shared c seq node t node₀ t₀ reply .answer .node) (shared c seq node t node₀ t₀ reply .answer .table .recs) ≡ true
-  unfolding shared openedAt acceptedTaken causeTaken refused held openingOf
+module _ (c : C.Create) (seq : ℕ) (small : seq ≤ lastCreated) (node₀ : Node) (t₀ : List Session) (e₀ : keepsRules node₀ t₀ ≡ true) (reply : List ℕ) where
+  shared-keeps : (node : Node) (t : List Session) → keepsRules node t ≡ true → CreateSound (parties (node .plan)) c → countOf (hasId (c .imsi) (c .ebi)) t ≡ 0
+      → keepsRules (shared c seq node t node₀ t₀ reply .answer .node) (shared c seq node t node₀ t₀ reply .table) ≡ true
+  unfolding shared openedAt acceptedTaken causeTaken noReply openingOf
   shared-keeps node t e s none =
-      split (admits (node .plan) (live (t .recs)) (c .point)) (λ q. rw q (place (foundIn isFree (t .recs)) refl q)) (λ q. rw q e)
+      split (admits (node .plan) (live t) (c .point)) (λ q. rw q (place (foundIn isFree t) refl q)) (λ q. rw q e)
     where
-      r : Rules (node .plan) (node .echo) (node .next) (t .recs)
-      r = rules-of node (t .recs) e
+      r : Rules (node .plan) (node .echo) (node .next) t
+      r = rules-of node t e
 
-      opens : (i : ℕ) → foundIn isFree (t .recs) ≡ F.At i → admits (node .plan) (live (t .recs)) (c .point) ≡ true
-          → keepsRules node (changedAt (opened (openingOf c seq)) i (t .recs)) ≡ true
+      opens : (i : ℕ) → foundIn isFree t ≡ F.At i → admits (node .plan) (live t) (c .point) ≡ true
+          → keepsRules node (changedAt (opened (openingOf c seq)) i t) ≡ true
       opens i f q =
-          let g = found-is isFree (t .recs) i f in
-          let w : admits (node .plan) (live (t .recs)) (openingOf c seq .point) ≡ true = rw (opening-point (node .plan) c seq (r .planned) s) q in
-          rules-to node (changedAt (opened (openingOf c seq)) i (t .recs))
-          (rules-opened (node .plan) (node .echo) (node .next) (t .recs) r (openingOf c seq) i (g .0) (g .1 .1) (opening-ok (node .plan) c seq (r .planned) s small) none w)
+          let g = found-is isFree t i f in
+          let w : admits (node .plan) (live t) (openingOf c seq .point) ≡ true = rw (opening-point (node .plan) c seq (r .planned) s) q in
+          rules-to node (changedAt (opened (openingOf c seq)) i t)
+          (rules-opened (node .plan) (node .echo) (node .next) t r (openingOf c seq) i (g .0) (g .1 .1) (opening-ok (node .plan) c seq (r .planned) s small) none w)
 
-      place : (f : Found) → foundIn isFree (t .recs) ≡ f → admits (node .plan) (live (t .recs)) (c .point) ≡ true
-          → keepsRules (openedAt f c seq node t node₀ t₀ reply .answer .node) (openedAt f c seq node t node₀ t₀ reply .answer .table .recs) ≡ true
+      place : (f : Found) → foundIn isFree t ≡ f → admits (node .plan) (live t) (c .point) ≡ true
+          → keepsRules (openedAt f c seq node t node₀ t₀ reply .answer .node) (openedAt f c seq node t node₀ t₀ reply .table) ≡ true
       place F.Nothing f q = e₀
       place (F.At i) f q = opens i f q
 
-  settled-keeps : (node : Node) (t : Table) → keepsRules node (t .recs) ≡ true → CreateSound (parties (node .plan)) c → (f : Found) → foundIn (hasId (c .imsi) (c .ebi)) (t .recs) ≡ f
-      → keepsRules (settledAt f c seq node t node₀ t₀ reply .answer .node) (settledAt f c seq node t node₀ t₀ reply .answer .table .recs) ≡ true
-  unfolding settledAt acceptedTaken held replaced
-  settled-keeps node t e s F.Nothing q = shared-keeps node t e s (found-none-count (hasId (c .imsi) (c .ebi)) (t .recs) q)
+  settled-keeps : (node : Node) (t : List Session) → keepsRules node t ≡ true → CreateSound (parties (node .plan)) c → (f : Found) → foundIn (hasId (c .imsi) (c .ebi)) t ≡ f
+      → keepsRules (settledAt f c seq node t node₀ t₀ reply .answer .node) (settledAt f c seq node t node₀ t₀ reply .table) ≡ true
+  unfolding settledAt acceptedTaken replaced
+  settled-keeps node t e s F.Nothing q = shared-keeps node t e s (found-none-count (hasId (c .imsi) (c .ebi)) t q)
   settled-keeps node t e s (F.At i) q =
-      split (isRepeat c seq (getD (t .recs) i nobody)) (λ x. rw x e) (λ x. rw x (shared-keeps node (held (changedAt freed i (t .recs))) kept s gone))
+      split (isRepeat c seq (getD t i nobody)) (λ x. rw x e) (λ x. rw x (shared-keeps node (changedAt freed i t) kept s gone))
     where
-      r : Rules (node .plan) (node .echo) (node .next) (t .recs)
-      r = rules-of node (t .recs) e
+      r : Rules (node .plan) (node .echo) (node .next) t
+      r = rules-of node t e
 
-      kept : keepsRules node (changedAt freed i (t .recs)) ≡ true
-      kept = rules-to node (changedAt freed i (t .recs)) (rules-freed (node .plan) (node .echo) (node .next) (t .recs) r i)
+      kept : keepsRules node (changedAt freed i t) ≡ true
+      kept = rules-to node (changedAt freed i t) (rules-freed (node .plan) (node .echo) (node .next) t r i)
 
-      gone : countOf (hasId (c .imsi) (c .ebi)) (changedAt freed i (t .recs)) ≡ 0
+      gone : countOf (hasId (c .imsi) (c .ebi)) (changedAt freed i t) ≡ 0
       gone =
-          let k = found-is (hasId (c .imsi) (c .ebi)) (t .recs) i q .1 .0 in
-          rw k (replaced-none (node .plan) (node .echo) (node .next) (t .recs) r (c .imsi) (c .ebi))
+          let k = found-is (hasId (c .imsi) (c .ebi)) t i q .1 .0 in
+          rw k (replaced-none (node .plan) (node .echo) (node .next) t r (c .imsi) (c .ebi))
 
 -- the plan stays what it was when a Recovery value is heard
-pub heard-plan : (r : Recovery) (node : Node) (t : Table) → heardBy r node t .node .plan ≡ node .plan
-unfolding heardBy refused hearing
+pub heard-plan : (r : Recovery) (node : Node) (t : List Session) → heardBy r node t .node .plan ≡ node .plan
+unfolding heardBy noReply hearing
 heard-plan R.None node t = refl
 heard-plan (R.Value value) node t = refl
 
-pub create-keeps : (node : Node) (t : Table) (seq : ℕ) (rest reply : List ℕ) → keepsRules node (t .recs) ≡ true → seq ≤ lastCreated
-    → keepsRules (createTaken node t seq rest reply .answer .node) (createTaken node t seq rest reply .answer .table .recs) ≡ true
+pub create-keeps : (node : Node) (t : List Session) (seq : ℕ) (rest reply : List ℕ) → keepsRules node t ≡ true → seq ≤ lastCreated
+    → keepsRules (createTaken node t seq rest reply .answer .node) (createTaken node t seq rest reply .table) ≡ true
 unfolding createTaken createBy heardCreate causeTaken
 create-keeps node t seq rest reply e small = by (createOf (node .plan) rest) refl
   where
     by : (d : Decoded) → createOf (node .plan) rest ≡ d
-        → keepsRules (createBy d seq (replyTo rest) node t reply .answer .node) (createBy d seq (replyTo rest) node t reply .answer .table .recs) ≡ true
+        → keepsRules (createBy d seq (replyTo rest) node t reply .answer .node) (createBy d seq (replyTo rest) node t reply .table) ≡ true
     by (D.Refused w) q = e
     by (D.Sound (Q.Create c)) q =
         settled-keeps c seq small node t e reply (heardBy (c .recovery) node t .node) (heardBy (c .recovery) node t .table) (heard-keeps node t e (c .recovery))
         (rw (heard-plan (c .recovery) node t) (create-sound (node .plan) rest c q))
-        (foundIn (hasId (c .imsi) (c .ebi)) (heardBy (c .recovery) node t .table .recs)) refl
+        (foundIn (hasId (c .imsi) (c .ebi)) (heardBy (c .recovery) node t .table)) refl
     by (D.Sound (Q.Modify m)) q = e
     by (D.Sound (Q.Delete d)) q = e

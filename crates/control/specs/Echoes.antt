@@ -5,11 +5,11 @@ use Prim.Native.Nat.{ℕ}
 use mathlib.Core.Bool.{Bool, true, false}
 use mathlib.Core.List.{List, map}
 use mathlib.Core.Path.{_≡_, refl}
+use Rattle.session.specs.declared.Session.{Session}
 use Rattle.octets.specs.Choice.{pick, split, impossible}
 use Rattle.session.specs.Request.{awaits}
 use Rattle.session.specs.Session.{freed}
 use Rattle.table.specs.declared.Node.{Node}
-use Rattle.table.specs.declared.Table.{Table}
 use Rattle.table.specs.Rules.{keepsRules, Rules, rules-of, rules-to}
 use Rattle.table.specs.Own.{rested, restarted, hearing, keptAfter, rules-heard, rules-rested}
 use Rattle.messages.specs.Messages.{echoOf}
@@ -17,8 +17,8 @@ use Rattle.readers.specs.declared.Recovery.{Recovery}
 use Rattle.readers.specs.declared.Recovery.the-variants as R
 use Rattle.carried.specs.declared.EchoReply.{EchoReply}
 use Rattle.carried.specs.declared.EchoReply.the-variants as E
-use Rattle.timing.specs.declared.Answer.{Answer}
-use Rattle.timing.specs.Timing.{Outcome, replied, timed, held, refused}
+use Rattle.timing.specs.Outcome.{State, Outcome, noReply, replied}
+use Rattle.timing.specs.Timing.{timed}
 
 -- whether a Recovery says that the exchange restarted, and the node once it is stored
 unfoldable pub restartsBy : Recovery → Node → Bool
@@ -30,66 +30,65 @@ heardNode R.None node = node
 heardNode (R.Value value) node = hearing value node
 
 -- a Recovery value is stored, and one that is not the stored one frees all; where none came nothing is done
-unfoldable pub heardBy : Recovery → Node → Table → Answer
-heardBy R.None node t = refused 0 node t
-heardBy (R.Value value) node t = record { number = 0; size = 0; node = hearing value node; table = held (keptAfter node value (t .recs)) }
+unfoldable pub heardBy : Recovery → Node → List Session → State
+heardBy R.None node t = record { node = node; table = t }
+heardBy (R.Value value) node t = record { node = hearing value node; table = keptAfter node value t }
 
 -- in the words of the code: all are freed, or the table stays
-pub heard-freed : (r : Recovery) (node : Node) (t : Table) → restartsBy r node ≡ true
-    → heardBy r node t ≡ record { number = 0; size = 0; node = heardNode r node; table = held (map freed (t .recs)) }
+pub heard-freed : (r : Recovery) (node : Node) (t : List Session) → restartsBy r node ≡ true
+    → heardBy r node t ≡ record { node = heardNode r node; table = map freed t }
 unfolding heardBy restartsBy heardNode keptAfter
 heard-freed R.None node t e = impossible e
 heard-freed (R.Value value) node t e = rw e
 
-pub heard-same : (r : Recovery) (node : Node) (t : Table) → restartsBy r node ≡ false
-    → heardBy r node t ≡ record { number = 0; size = 0; node = heardNode r node; table = t }
-unfolding heardBy restartsBy heardNode keptAfter refused held
+pub heard-same : (r : Recovery) (node : Node) (t : List Session) → restartsBy r node ≡ false
+    → heardBy r node t ≡ record { node = heardNode r node; table = t }
+unfolding heardBy restartsBy heardNode keptAfter
 heard-same R.None node t e = refl
 heard-same (R.Value value) node t e = rw e
 
 -- Echo Request (1): Recovery, and the answer
-unfoldable pub echoTaken : Node → Table → ℕ → Recovery → List ℕ → Outcome
+unfoldable pub echoTaken : Node → List Session → ℕ → Recovery → List ℕ → Outcome
 echoTaken node t seq recovery reply =
     replied 0 (heardBy recovery node t .node) (heardBy recovery node t .table) (echoOf 2 seq (node .plan .recovery)) reply
 
 -- the echo's answer (2): awaited and readable, it ends the echo; Recovery is looked at
-unfoldable pub echoEnded : Answer → Answer
-echoEnded a = record {
-  number = 0;
-  size = 0;
-  node = timed (rested (a .node .plan .interval) (a .node .echo)) (a .node .next) (a .node);
-  table = a .table;
+unfoldable pub echoEnded : State → State
+echoEnded s = record {
+  node = timed (rested (s .node .plan .interval) (s .node .echo)) (s .node .next) (s .node);
+  table = s .table;
 }
 
-unfoldable pub echoReplyTaken : Node → Table → ℕ → EchoReply → Answer
-echoReplyTaken node t seq E.Unreadable = refused 9 node t
-echoReplyTaken node t seq (E.Carries recovery) = pick (awaits seq (node .echo)) (echoEnded (heardBy recovery node t)) (refused 9 node t)
+unfoldable pub echoReplyTaken : Node → List Session → ℕ → EchoReply → List ℕ → Outcome
+echoReplyTaken node t seq E.Unreadable reply = noReply 9 node t reply
+echoReplyTaken node t seq (E.Carries recovery) reply =
+    pick (awaits seq (node .echo)) (noReply 0 (echoEnded (heardBy recovery node t) .node) (echoEnded (heardBy recovery node t) .table) reply) (noReply 9 node t reply)
 
 -- ---- each keeps the rules
-module _ (node : Node) (t : Table) (e : keepsRules node (t .recs) ≡ true) where
-  rules : Rules (node .plan) (node .echo) (node .next) (t .recs)
-  rules = rules-of node (t .recs) e
+module _ (node : Node) (t : List Session) (e : keepsRules node t ≡ true) where
+  rules : Rules (node .plan) (node .echo) (node .next) t
+  rules = rules-of node t e
 
-  pub heard-keeps : (r : Recovery) → keepsRules (heardBy r node t .node) (heardBy r node t .table .recs) ≡ true
-  unfolding heardBy refused held hearing
+  pub heard-keeps : (r : Recovery) → keepsRules (heardBy r node t .node) (heardBy r node t .table) ≡ true
+  unfolding heardBy hearing
   heard-keeps R.None = e
-  heard-keeps (R.Value value) = rules-to (hearing value node) (keptAfter node value (t .recs)) (rules-heard node value (t .recs) rules)
+  heard-keeps (R.Value value) = rules-to (hearing value node) (keptAfter node value t) (rules-heard node value t rules)
 
   pub echo-keeps : (seq : ℕ) (r : Recovery) (reply : List ℕ)
-      → keepsRules (echoTaken node t seq r reply .answer .node) (echoTaken node t seq r reply .answer .table .recs) ≡ true
+      → keepsRules (echoTaken node t seq r reply .answer .node) (echoTaken node t seq r reply .table) ≡ true
   unfolding echoTaken
   echo-keeps seq r reply = heard-keeps r
 
 -- an echo that ends leaves a table that keeps its rules
-pub ended-keeps : (a : Answer) → keepsRules (a .node) (a .table .recs) ≡ true → keepsRules (echoEnded a .node) (echoEnded a .table .recs) ≡ true
+pub ended-keeps : (a : State) → keepsRules (a .node) (a .table) ≡ true → keepsRules (echoEnded a .node) (echoEnded a .table) ≡ true
 unfolding echoEnded timed
 ended-keeps a e =
-    rules-to (timed (rested (a .node .plan .interval) (a .node .echo)) (a .node .next) (a .node)) (a .table .recs)
-    (rules-rested (a .node .plan) (a .node .echo) (a .node .next) (a .table .recs) (rules-of (a .node) (a .table .recs) e))
+    rules-to (timed (rested (a .node .plan .interval) (a .node .echo)) (a .node .next) (a .node)) (a .table)
+    (rules-rested (a .node .plan) (a .node .echo) (a .node .next) (a .table) (rules-of (a .node) (a .table) e))
 
-pub echo-reply-keeps : (node : Node) (t : Table) (seq : ℕ) (r : EchoReply) → keepsRules node (t .recs) ≡ true
-    → keepsRules (echoReplyTaken node t seq r .node) (echoReplyTaken node t seq r .table .recs) ≡ true
-unfolding echoReplyTaken refused
-echo-reply-keeps node t seq E.Unreadable e = e
-echo-reply-keeps node t seq (E.Carries recovery) e =
+pub echo-reply-keeps : (node : Node) (t : List Session) (seq : ℕ) (r : EchoReply) (reply : List ℕ) → keepsRules node t ≡ true
+    → keepsRules (echoReplyTaken node t seq r reply .answer .node) (echoReplyTaken node t seq r reply .table) ≡ true
+unfolding echoReplyTaken noReply
+echo-reply-keeps node t seq E.Unreadable reply e = e
+echo-reply-keeps node t seq (E.Carries recovery) reply e =
     split (awaits seq (node .echo)) (λ q. rw q (ended-keeps (heardBy recovery node t) (heard-keeps node t e recovery))) (λ q. rw q e)

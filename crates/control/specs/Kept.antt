@@ -8,20 +8,20 @@ use native.Mathlib.Omega.{arith}
 use lib.ListN.{length, drop, getD}
 use lib.Dec.{eqb, ltb}
 use borrow.Author.Tests.{ltb-true}
+use Rattle.session.specs.declared.Session.{Session}
 use Rattle.octets.specs.Choice.{pick, split}
 use Rattle.octets.specs.Every.{every, every-at}
 use Rattle.octets.specs.BigEndian.{isOctet, numberOf, numberFrom}
 use Rattle.tunnel.specs.Numbering.{controlOffset}
 use Rattle.session.specs.Session.{lastCreated}
 use Rattle.table.specs.declared.Node.{Node}
-use Rattle.table.specs.declared.Table.{Table}
 use Rattle.table.specs.Rules.{boundsOf, keepsRules}
 use Rattle.table.specs.Find.{placeFound, ownerOf}
 use Rattle.header.specs.declared.HeaderCursor.{HeaderCursor}
 use Rattle.header.specs.Header.{headerOf, sequenceOf, sequenceBehind, sequenceBare, withTeid}
 use Rattle.header.specs.Gate.{gateOf}
 use Rattle.carried.specs.Carried as carried
-use Rattle.timing.specs.Timing.{Outcome, outcome, onOwner, leastReply, refused}
+use Rattle.timing.specs.Outcome.{Outcome, outcome, onOwner, leastReply, noReply}
 use Rattle.timing.specs.OnSession.{on-keeps}
 use Rattle.control.specs.Kind.{Kind, kindBy}
 use Rattle.control.specs.Kind as K
@@ -47,21 +47,21 @@ sequence-small d o =
     (λ t. rw t (three (getD d 8 0) (getD d 9 0) (getD d 10 0) (every-at isOctet d 8 0 o refl) (every-at isOctet d 9 0 o refl) (every-at isOctet d 10 0 o refl)))
     (λ t. rw t (three (getD d 4 0) (getD d 5 0) (getD d 6 0) (every-at isOctet d 4 0 o refl) (every-at isOctet d 5 0 o refl) (every-at isOctet d 6 0 o refl)))
 
-module _ (node : Node) (t : Table) (e : keepsRules node (t .recs) ≡ true) (reply : List ℕ) where
+module _ (node : Node) (t : List Session) (e : keepsRules node t ≡ true) (reply : List ℕ) where
   kind-keeps : (k : Kind) (h : HeaderCursor) (rest : List ℕ) → h .sequence ≤ lastCreated
-      → keepsRules (kindTaken k h rest node t reply .answer .node) (kindTaken k h rest node t reply .answer .table .recs) ≡ true
-  unfolding kindTaken onOwner refused
+      → keepsRules (kindTaken k h rest node t reply .answer .node) (kindTaken k h rest node t reply .table) ≡ true
+  unfolding kindTaken onOwner noReply
   kind-keeps K.Echo h rest s = echo-keeps node t e (h .sequence) (carried.echoOf rest) reply
-  kind-keeps K.EchoReply h rest s = echo-reply-keeps node t (h .sequence) (carried.echoReplyOf rest) e
+  kind-keeps K.EchoReply h rest s = echo-reply-keeps node t (h .sequence) (carried.echoReplyOf rest) reply e
   kind-keeps K.Create h rest s = create-keeps node t (h .sequence) rest reply e s
   kind-keeps K.Named h rest s =
-      on-keeps node (t .recs) (placeFound (ownerOf controlOffset (h .teid) (t .recs)) (t .recs)) (sessionOf h rest) reply e
+      on-keeps node t (placeFound (ownerOf controlOffset (h .teid) t) t) (sessionOf h rest) reply e
       (λ x ok. session-fits (boundsOf (node .plan)) x ok h rest)
   kind-keeps K.Other h rest s = e
 
   pub control-keeps : (d : List ℕ) → every isOctet d ≡ true
-      → keepsRules (controlTaken node t d reply .answer .node) (controlTaken node t d reply .answer .table .recs) ≡ true
-  unfolding controlTaken gateTaken refused
+      → keepsRules (controlTaken node t d reply .answer .node) (controlTaken node t d reply .table) ≡ true
+  unfolding controlTaken gateTaken noReply
   control-keeps d o =
       split (ltb (length reply) leastReply) (λ a. rw a e)
       (λ a. split (eqb (gateOf d) 0) (λ b. rw (a, e, b) (kind-keeps (kindBy (headerOf d .kind)) (headerOf d) (drop (headerOf d .fields) d) (sequence-small d o)))
@@ -69,8 +69,8 @@ module _ (node : Node) (t : Table) (e : keepsRules node (t .recs) ≡ true) (rep
 
 -- the same, said of all
 unfoldable pub ControlKeeps : Type 0
-ControlKeeps = (node : Node) (t : Table) → keepsRules node (t .recs) ≡ true → (reply d : List ℕ) → every isOctet d ≡ true
-    → keepsRules (controlTaken node t d reply .answer .node) (controlTaken node t d reply .answer .table .recs) ≡ true
+ControlKeeps = (node : Node) (t : List Session) → keepsRules node t ≡ true → (reply d : List ℕ) → every isOctet d ≡ true
+    → keepsRules (controlTaken node t d reply .answer .node) (controlTaken node t d reply .table) ≡ true
 
 pub control-holds : ControlKeeps
 unfolding ControlKeeps

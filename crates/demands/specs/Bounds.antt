@@ -24,25 +24,26 @@ use Rattle.table.specs.Change.{nobody, record-ok}
 use Rattle.table.specs.Find.{found-only}
 use Rattle.gateway.specs.Numbers.{among-other, tickNumbers, closeNumbers, sendNumbers, controlNumbers, lineNumbers, TickNumbers, CloseNumbers, SendNumbers, ControlNumbers, LineNumbers, tick-numbers, close-numbers, send-numbers, control-numbers, line-numbers}
 use Rattle.gateway.specs.UserNumbers.{userNumbers, UserNumbers, user-numbers}
-use Rattle.demands.specs.Run.{State, Event, control, user, tick, send, close, line, answered, reached, Run, Kept, reached-keeps}
+use Rattle.timing.specs.Outcome.{State}
+use Rattle.demands.specs.Run.{Event, control, user, tick, send, close, line, answered, reached, Run, Kept, reached-keeps}
 use Rattle.demands.specs.Stays.{reached-plan}
 
 -- the record of a place
 abbrev pub at : State → ℕ → Session
-at s i = getD (s .table .recs) i nobody
+at s i = getD (s .table) i nobody
 
 -- u of an access point, counted from the records
 abbrev pub u : State → ℕ → ℕ
-u s a = liveOn a (s .table .recs)
+u s a = liveOn a (s .table)
 
 -- ---- the rules by name, under the plan the run was started with
 under-plan : (q p : Plan) (echo : Request) (next : ℕ) (l : List Session) → q ≡ p → Rules q echo next l → Rules p echo next l
 under-plan q p echo next l e r = rw (← e) r
 
-pub reached-rules : (p : Plan) (es : List Event) → Run p es → Rules p (reached p es .node .echo) (reached p es .node .next) (reached p es .table .recs)
+pub reached-rules : (p : Plan) (es : List Event) → Run p es → Rules p (reached p es .node .echo) (reached p es .node .next) (reached p es .table)
 reached-rules p es r =
-    under-plan (reached p es .node .plan) p (reached p es .node .echo) (reached p es .node .next) (reached p es .table .recs) (reached-plan p es (r .plan))
-    (rules-of (reached p es .node) (reached p es .table .recs) (reached-keeps p es r))
+    under-plan (reached p es .node .plan) p (reached p es .node .echo) (reached p es .node .next) (reached p es .table) (reached-plan p es (r .plan))
+    (rules-of (reached p es .node) (reached p es .table) (reached-keeps p es r))
 
 -- ---- 2 and 11
 unfoldable pub RulesHold : Type 0
@@ -124,7 +125,7 @@ none-shared p es r i h = (
     controls = λ e. n (number-same controlOffset (at s i .usage) i (at s j .usage) j control-fits h k e .1);
     users = λ e. n (number-same userOffset (at s i .usage) i (at s j .usage) j user-fits h k e .1);
     addresses = addresses-apart (p .pool) i j h k n;
-    ids = λ e b. n (found-only (hasId (at s j .imsi) (at s j .ebi)) (s .table .recs) i j (q .once (at s j .imsi) (at s j .ebi)) (let z = q .size in omega arith) (let z = q .size in omega arith)
+    ids = λ e b. n (found-only (hasId (at s j .imsi) (at s j .ebi)) (s .table) i j (q .once (at s j .imsi) (at s j .ebi)) (let z = q .size in omega arith) (let z = q .size in omega arith)
         (rw (← e, ← b) (has-id (at s i) f)) (has-id (at s j) g));
   },
 )
@@ -132,11 +133,11 @@ none-shared p es r i h = (
     s : State
     s = reached p es
 
-    q : Rules p (reached p es .node .echo) (reached p es .node .next) (reached p es .table .recs)
+    q : Rules p (reached p es .node .echo) (reached p es .node .next) (reached p es .table)
     q = reached-rules p es r
 
     usage : at (reached p es) i .usage ≤ lastUse
-    usage = ok-usage (boundsOf p) (at (reached p es) i) (record-ok p (reached p es .node .echo) (reached p es .node .next) (reached p es .table .recs) q i)
+    usage = ok-usage (boundsOf p) (at (reached p es) i) (record-ok p (reached p es .node .echo) (reached p es .node .next) (reached p es .table) q i)
 
     own : Own i (at (reached p es) i)
     own = record {

@@ -20,7 +20,6 @@ use Rattle.session.specs.declared.Session.{Session}
 use Rattle.session.specs.Session.{isFree, hasId, freed, opened}
 use Rattle.session.specs.Keep.{lighter-freed}
 use Rattle.table.specs.declared.Node.{Node}
-use Rattle.table.specs.declared.Table.{Table}
 use Rattle.table.specs.declared.Found.{Found}
 use Rattle.table.specs.declared.Found.the-variants as F
 use Rattle.table.specs.Rules.{liveOn, live, Rules, rules-of}
@@ -37,20 +36,19 @@ use Rattle.requests.specs.declared.Create as C
 use Rattle.requests.specs.declared.Decoded.the-variants as D
 use Rattle.requests.specs.declared.Request.the-variants as Q
 use Rattle.requests.specs.Create.{createOf, create-sound}
-use Rattle.timing.specs.declared.Answer.{Answer}
-use Rattle.timing.specs.Timing.{Outcome, leastReply, held, refused}
+use Rattle.timing.specs.Outcome.{State, Outcome, leastReply, noReply}
 use Rattle.control.specs.Kind.{kindBy}
 use Rattle.control.specs.Echoes.{heardBy, heard-keeps}
 use Rattle.control.specs.Amends.{causeTaken}
 use Rattle.control.specs.Creates.{openingOf, acceptedTaken, noRoom, openedAt, shared, isRepeat, settledAt, heardCreate, createBy, createTaken}
 use Rattle.control.specs.Control.{kindTaken, gateTaken, controlTaken}
-use Rattle.demands.specs.Run.{State, control, Kept}
+use Rattle.demands.specs.Run.{control, Kept}
 use Rattle.control.specs.CreatesKept.{heard-plan}
 use Rattle.demands.specs.Bounds.{u}
 
 -- ---- what is asked
 -- Recovery is read first: the records and what goes with them after it
-abbrev pub heard : C.Create → State → Answer
+abbrev pub heard : C.Create → State → State
 heard c s = heardBy (c .recovery) (s .node) (s .table)
 
 -- the session that a Create repeats: live, with this IMSI, EBI, access point and creating sequence number
@@ -66,11 +64,11 @@ pub record SoundCreate (p : Plan) (d : List ℕ) (c : C.Create) : Type 0 where
 -- and it is new: no session, as they are after Recovery, is the one that it repeats
 pub record NewCreate (p : Plan) (s : State) (d : List ℕ) (c : C.Create) : Type 0 where
   pub sound : SoundCreate p d c
-  pub new : every (λ x. not (repeats c (headerOf d .sequence) x)) (heard c s .table .recs) ≡ true
+  pub new : every (λ x. not (repeats c (headerOf d .sequence) x)) (heard c s .table) ≡ true
 
 -- the records of which the sharing rule is asked: after Recovery, and without the session that has this IMSI and EBI
 unfoldable pub asked : C.Create → State → List Session
-asked c s = replaced (c .imsi) (c .ebi) (heard c s .table .recs)
+asked c s = replaced (c .imsi) (c .ebi) (heard c s .table)
 
 -- u of these records
 abbrev pub askedU : C.Create → State → ℕ → ℕ
@@ -80,11 +78,11 @@ askedU c s a = liveOn a (asked c s)
 unfoldable pub acceptedOf : ℕ → C.Create → State → List ℕ → Outcome
 acceptedOf seq c s reply =
     acceptedTaken seq (freePlace (asked c s)) (opened (openingOf c seq) (getD (asked c s) (freePlace (asked c s)) nobody)) (heard c s .node)
-    (held (changedAt (opened (openingOf c seq)) (freePlace (asked c s)) (asked c s))) reply
+    (changedAt (opened (openingOf c seq)) (freePlace (asked c s)) (asked c s)) reply
 
 -- and where it does not: cause 73, to the TEID of the sender
 unfoldable pub refusedOf : ℕ → C.Create → State → List ℕ → Outcome
-refusedOf seq c s reply = causeTaken 33 (c .control) seq noRoom (heard c s .node) (held (asked c s)) reply
+refusedOf seq c s reply = causeTaken 33 (c .control) seq noRoom (heard c s .node) (asked c s) reply
 
 -- ---- a Create comes to the sharing rule
 none-found : (p : Session → Bool) (l : List Session) → foundIn p l ≡ F.Nothing → length l ≤ firstOf p l
@@ -98,16 +96,16 @@ not-repeat : (c : C.Create) (seq : ℕ) (s : Session) → not (repeats c seq s) 
 unfolding repeats
 not-repeat c seq s n h = split (isRepeat c seq s) (λ q. impossible (rw (h, q) at n)) (λ q. q)
 
-settled-shared : (c : C.Create) (seq : ℕ) (node : Node) (t : Table) (node₀ : Node) (t₀ : Table) (reply : List ℕ) (f : Found)
-    → foundIn (hasId (c .imsi) (c .ebi)) (t .recs) ≡ f → every (λ x. not (repeats c seq x)) (t .recs) ≡ true
-    → settledAt f c seq node t node₀ t₀ reply ≡ shared c seq node (held (replaced (c .imsi) (c .ebi) (t .recs))) node₀ t₀ reply
-unfolding settledAt replaced held
+settled-shared : (c : C.Create) (seq : ℕ) (node : Node) (t : List Session) (node₀ : Node) (t₀ : List Session) (reply : List ℕ) (f : Found)
+    → foundIn (hasId (c .imsi) (c .ebi)) t ≡ f → every (λ x. not (repeats c seq x)) t ≡ true
+    → settledAt f c seq node t node₀ t₀ reply ≡ shared c seq node (replaced (c .imsi) (c .ebi) t) node₀ t₀ reply
+unfolding settledAt replaced
 settled-shared c seq node t node₀ t₀ reply F.Nothing e n =
-    rw (changed-out freed (firstOf (hasId (c .imsi) (c .ebi)) (t .recs)) (t .recs) (none-found (hasId (c .imsi) (c .ebi)) (t .recs) e))
+    rw (changed-out freed (firstOf (hasId (c .imsi) (c .ebi)) t) t (none-found (hasId (c .imsi) (c .ebi)) t e))
 settled-shared c seq node t node₀ t₀ reply (F.At i) e n =
-    let g = found-is (hasId (c .imsi) (c .ebi)) (t .recs) i e in
-    let q = every-in (λ x. not (repeats c seq x)) (t .recs) i nobody n (g .0) in
-    rw (not-repeat c seq (getD (t .recs) i nobody) q (g .1 .1), ← g .1 .0)
+    let g = found-is (hasId (c .imsi) (c .ebi)) t i e in
+    let q = every-in (λ x. not (repeats c seq x)) t i nobody n (g .0) in
+    rw (not-repeat c seq (getD t i nobody) q (g .1 .1), ← g .1 .0)
 
 module _ (p : Plan) (s : State) (kept : Kept s) (plan : s .node .plan ≡ p) (d : List ℕ) (c : C.Create) (n : NewCreate p s d c) (reply : List ℕ) (room : 128 ≤ length reply) where
   abbrev seq : ℕ
@@ -116,11 +114,11 @@ module _ (p : Plan) (s : State) (kept : Kept s) (plan : s .node .plan ≡ p) (d 
   decoded : createOf (s .node .plan) (drop (headerOf d .fields) d) ≡ D.Sound (Q.Create c)
   decoded = rw plan (n .sound .fields)
 
-  comes-to : controlTaken (s .node) (s .table) d reply ≡ shared c seq (heard c s .node) (held (asked c s)) (s .node) (s .table) reply
+  comes-to : controlTaken (s .node) (s .table) d reply ≡ shared c seq (heard c s .node) (asked c s) (s .node) (s .table) reply
   unfolding controlTaken gateTaken kindTaken kindBy createTaken createBy heardCreate leastReply asked
   comes-to =
       rw (le-ltb (length reply) 128 room, kept, n .sound .header, n .sound .kind, decoded)
-      (settled-shared c seq (heard c s .node) (heard c s .table) (s .node) (s .table) reply (foundIn (hasId (c .imsi) (c .ebi)) (heard c s .table .recs)) refl (n .new))
+      (settled-shared c seq (heard c s .node) (heard c s .table) (s .node) (s .table) reply (foundIn (hasId (c .imsi) (c .ebi)) (heard c s .table)) refl (n .new))
 
   asked-plan : heard c s .node .plan ≡ p
   asked-plan = heard-plan (c .recovery) (s .node) (s .table) ∙ plan
@@ -128,8 +126,8 @@ module _ (p : Plan) (s : State) (kept : Kept s) (plan : s .node .plan ≡ p) (d 
   asked-rules : Rules (heard c s .node .plan) (heard c s .node .echo) (heard c s .node .next) (asked c s)
   unfolding asked replaced
   asked-rules =
-      rules-freed (heard c s .node .plan) (heard c s .node .echo) (heard c s .node .next) (heard c s .table .recs)
-      (rules-of (heard c s .node) (heard c s .table .recs) (heard-keeps (s .node) (s .table) kept (c .recovery))) (firstOf (hasId (c .imsi) (c .ebi)) (heard c s .table .recs))
+      rules-freed (heard c s .node .plan) (heard c s .node .echo) (heard c s .node .next) (heard c s .table)
+      (rules-of (heard c s .node) (heard c s .table) (heard-keeps (s .node) (s .table) kept (c .recovery))) (firstOf (hasId (c .imsi) (c .ebi)) (heard c s .table))
 
   place-there : admits (heard c s .node .plan) (live (asked c s)) (c .point) ≡ true → foundIn isFree (asked c s) ≡ F.At (freePlace (asked c s))
   unfolding foundIn freePlace
@@ -143,13 +141,13 @@ module _ (p : Plan) (s : State) (kept : Kept s) (plan : s .node .plan ≡ p) (d 
       place-free (heard c s .node .plan) (heard c s .node .echo) (heard c s .node .next) (asked c s) asked-rules (c .point) f
 
   pub create-accepted : admits p (askedU c s) (c .point) ≡ true → controlTaken (s .node) (s .table) d reply ≡ acceptedOf seq c s reply
-  unfolding shared openedAt acceptedOf held
+  unfolding shared openedAt acceptedOf
   create-accepted e =
       let f : admits (heard c s .node .plan) (live (asked c s)) (c .point) ≡ true = rw asked-plan e in
       comes-to ∙ rw (f, place-there f)
 
   pub create-refused : admits p (askedU c s) (c .point) ≡ false → controlTaken (s .node) (s .table) d reply ≡ refusedOf seq c s reply
-  unfolding shared refusedOf held
+  unfolding shared refusedOf
   create-refused e =
       let f : admits (heard c s .node .plan) (live (asked c s)) (c .point) ≡ false = rw asked-plan e in
       comes-to ∙ rw f
@@ -159,16 +157,16 @@ module _ (p : Plan) (s : State) (kept : Kept s) (plan : s .node .plan ≡ p) (d 
   create-point = create-sound p (drop (headerOf d .fields) d) c (n .sound .fields) .point
 
 -- ---- Recovery and the replaced session only take away
-heard-less : (r : Recovery) (node : Node) (t : Table) (a : ℕ) → liveOn a (heardBy r node t .table .recs) ≤ liveOn a (t .recs)
-unfolding heardBy refused held keptAfter
+heard-less : (r : Recovery) (node : Node) (t : List Session) (a : ℕ) → liveOn a (heardBy r node t .table) ≤ liveOn a t
+unfolding heardBy noReply keptAfter
 heard-less R.None node t a = omega arith
 heard-less (R.Value value) node t a =
-    split (restarted node value) (λ q. rw q (less-map freed (t .recs) lighter-freed .ons a)) (λ q. rw q (omega arith))
+    split (restarted node value) (λ q. rw q (less-map freed t lighter-freed .ons a)) (λ q. rw q (omega arith))
 
 pub asked-less : (c : C.Create) (s : State) (a : ℕ) → askedU c s a ≤ u s a
 unfolding asked replaced changedAt
 asked-less c s a =
-    let l = heard c s .table .recs in
+    let l = heard c s .table in
     let i = firstOf (hasId (c .imsi) (c .ebi)) l in
     let x = less-set l i (freed (getD l i nobody)) nobody (lighter-freed (getD l i nobody)) .ons a in
     let y = heard-less (c .recovery) (s .node) (s .table) a in

@@ -32,12 +32,13 @@ use Rattle.header.specs.Types.{bareTypes, tunnelTypes, notTaken, flagOf}
 use Rattle.header.specs.Header.{versionOf, flagP, flagT, kindOf, lengthOf, withTeid, teidOf, sequenceOf, sequenceBare, headerSize, headerOf}
 use Rattle.header.specs.Gate.{gateOf, controlVersion, createType}
 use Rattle.messages.specs.Messages as messages
-use Rattle.timing.specs.Timing.{Outcome, leastReply, held, refused, freshOf}
+use Rattle.timing.specs.Outcome.{State, Outcome, leastReply, noReply}
+use Rattle.timing.specs.Timing.{freshState}
 use Rattle.control.specs.Kind.{kindBy}
 use Rattle.control.specs.Echoes.{heardBy, echoTaken}
 use Rattle.control.specs.Creates.{openingOf, acceptedTaken}
 use Rattle.control.specs.Control.{kindTaken, gateTaken, controlTaken}
-use Rattle.demands.specs.Run.{State, left, Event, control, tick, step, answered, run, start, reached, ofOctets, Run, Kept, start-keeps, step-keeps, reached-keeps}
+use Rattle.demands.specs.Run.{left, Event, control, tick, step, answered, run, start, reached, ofOctets, Run, Kept, start-keeps, step-keeps, reached-keeps}
 use Rattle.demands.specs.Stays.{start-plan, step-plan}
 use Rattle.demands.specs.Bounds.{at}
 use Rattle.demands.specs.Creates.{NewCreate, repeats, asked, askedU, acceptedOf, create-accepted}
@@ -55,7 +56,7 @@ pub record NotAllRefused : Type 0 where
 pub record CountedFromRecords : Type 0 where
   pub same : (r : List ℕ) → 128 ≤ length r → step (control first r) (start oneParty) .node ≡ start oneParty .node
   pub admitted : (reply : List ℕ) → 128 ≤ length reply → answered (control second reply) (start oneParty) ≡ 0
-  pub refused : (r reply : List ℕ) → 128 ≤ length r → 128 ≤ length reply → answered (control second reply) (step (control first r) (start oneParty)) ≡ 73
+  pub noReply : (r reply : List ℕ) → 128 ≤ length r → 128 ≤ length reply → answered (control second reply) (step (control first r) (start oneParty)) ≡ 73
 
 -- the records of a fresh unit, and those with the first session
 abbrev freshRecs : List Session
@@ -64,9 +65,9 @@ freshRecs = replicate 64 nobody
 abbrev oneRecs : List Session
 oneRecs = changedAt (opened (openingOf (holding firstImsi) 3)) (freePlace (replaced firstImsi 5 freshRecs)) (replaced firstImsi 5 freshRecs)
 
-start-recs : start oneParty .table .recs ≡ freshRecs
-unfolding start left freshOf held
-start-recs = rw one-party-accepted
+start-recs : start oneParty .table ≡ freshRecs
+unfolding start freshState places
+start-recs = refl
 
 start-kept : Kept (start oneParty)
 start-kept = start-keeps oneParty one-party-accepted
@@ -74,20 +75,20 @@ start-kept = start-keeps oneParty one-party-accepted
 planned : start oneParty .node .plan ≡ oneParty
 planned = start-plan oneParty one-party-accepted
 
-new-first : (s : State) → s .table .recs ≡ freshRecs → NewCreate oneParty s first (holding firstImsi)
-unfolding holding heardBy refused repeats hasId isFree blankAt every
+new-first : (s : State) → s .table ≡ freshRecs → NewCreate oneParty s first (holding firstImsi)
+unfolding holding heardBy noReply repeats hasId isFree blankAt every
 new-first s e = record { sound = first-sound; new = rw e refl }
 
-new-second : (s : State) → s .table .recs ≡ freshRecs → NewCreate oneParty s second (holding secondImsi)
-unfolding holding heardBy refused repeats hasId isFree blankAt every
+new-second : (s : State) → s .table ≡ freshRecs → NewCreate oneParty s second (holding secondImsi)
+unfolding holding heardBy noReply repeats hasId isFree blankAt every
 new-second s e = record { sound = second-sound; new = rw e refl }
 
-first-admitted : (s : State) → s .table .recs ≡ freshRecs → admits oneParty (askedU (holding firstImsi) s) (holding firstImsi .point) ≡ true
-unfolding holding heardBy refused asked replaced changedAt hasId isFree isOn blankAt firstOf liveOn sumOf admitted sharable share guaranteeAt ceilingAt used oneParty sumTo places
+first-admitted : (s : State) → s .table ≡ freshRecs → admits oneParty (askedU (holding firstImsi) s) (holding firstImsi .point) ≡ true
+unfolding holding heardBy noReply asked replaced changedAt hasId isFree isOn blankAt firstOf liveOn sumOf admitted sharable share guaranteeAt ceilingAt used oneParty sumTo places
 first-admitted s e = rw e refl
 
-second-admitted : (s : State) → s .table .recs ≡ freshRecs → admits oneParty (askedU (holding secondImsi) s) (holding secondImsi .point) ≡ true
-unfolding holding heardBy refused asked replaced changedAt hasId isFree isOn blankAt firstOf liveOn sumOf admitted sharable share guaranteeAt ceilingAt used oneParty sumTo places
+second-admitted : (s : State) → s .table ≡ freshRecs → admits oneParty (askedU (holding secondImsi) s) (holding secondImsi .point) ≡ true
+unfolding holding heardBy noReply asked replaced changedAt hasId isFree isOn blankAt firstOf liveOn sumOf admitted sharable share guaranteeAt ceilingAt used oneParty sumTo places
 second-admitted s e = rw e refl
 
 pub not-all-refused : NotAllRefused
@@ -108,16 +109,16 @@ module _ (r : List ℕ) (room : 128 ≤ length r) where
       at (create-accepted oneParty (start oneParty) start-kept planned first (holding firstImsi) (new-first (start oneParty) start-recs) r room (first-admitted (start oneParty) start-recs))
 
   one-node : one .node ≡ start oneParty .node
-  unfolding step left acceptedOf acceptedTaken holding heardBy refused
+  unfolding step left acceptedOf acceptedTaken holding heardBy noReply
   one-node = ap (λ (o : Outcome). o .answer .node) first-taken
 
-  accepted-recs : acceptedOf 3 (holding firstImsi) (start oneParty) r .answer .table .recs ≡ oneRecs
-  unfolding acceptedOf acceptedTaken held asked holding heardBy refused
+  accepted-recs : acceptedOf 3 (holding firstImsi) (start oneParty) r .table ≡ oneRecs
+  unfolding acceptedOf acceptedTaken asked holding heardBy noReply
   accepted-recs = rw start-recs refl
 
-  one-recs : one .table .recs ≡ oneRecs
+  one-recs : one .table ≡ oneRecs
   unfolding step left
-  one-recs = ap (λ (o : Outcome). o .answer .table .recs) first-taken ∙ accepted-recs
+  one-recs = ap (λ (o : Outcome). o .table) first-taken ∙ accepted-recs
 
   one-kept : Kept one
   unfolding ofOctets
@@ -127,19 +128,19 @@ module _ (r : List ℕ) (room : 128 ≤ length r) where
   one-planned = step-plan (control first r) (start oneParty) ∙ planned
 
 -- the second has another IMSI, and finds the access point at its ceiling
-new-after : (s : State) → s .table .recs ≡ oneRecs → NewCreate oneParty s second (holding secondImsi)
-unfolding holding openingOf opened heardBy refused repeats hasId isFree blankAt freed changedAt replaced firstOf freePlace every
+new-after : (s : State) → s .table ≡ oneRecs → NewCreate oneParty s second (holding secondImsi)
+unfolding holding openingOf opened heardBy noReply repeats hasId isFree blankAt freed changedAt replaced firstOf freePlace every
 new-after s e = record { sound = second-sound; new = rw e refl }
 
-second-refused : (s : State) → s .table .recs ≡ oneRecs → admits oneParty (askedU (holding secondImsi) s) (holding secondImsi .point) ≡ false
-unfolding holding openingOf opened heardBy refused asked replaced changedAt freed freePlace hasId isFree isOn blankAt firstOf liveOn sumOf admitted sharable share guaranteeAt ceilingAt used oneParty sumTo places
+second-refused : (s : State) → s .table ≡ oneRecs → admits oneParty (askedU (holding secondImsi) s) (holding secondImsi .point) ≡ false
+unfolding holding openingOf opened heardBy noReply asked replaced changedAt freed freePlace hasId isFree isOn blankAt firstOf liveOn sumOf admitted sharable share guaranteeAt ceilingAt used oneParty sumTo places
 second-refused s e = rw e refl
 
 pub counted-from-records : CountedFromRecords
 counted-from-records = record {
   same = one-node;
   admitted = λ reply room. number-yes oneParty (start oneParty) start-kept planned second (holding secondImsi) (new-second (start oneParty) start-recs) reply room (second-admitted (start oneParty) start-recs);
-  refused = λ r reply h room.
+  noReply = λ r reply h room.
       number-no oneParty (one r h) (one-kept r h) (one-planned r h) second (holding secondImsi) (new-after (one r h) (one-recs r h)) reply room (second-refused (one r h) (one-recs r h));
 }
 

@@ -24,14 +24,14 @@ use Rattle.session.specs.Request.{requestOk, spent, sentOnce, countedDown, InRa
 use Rattle.session.specs.Session.{isFree, isClosing, isDue, closed, sent, ticked, turned, phaseOk, freed}
 use Rattle.session.specs.Keep.{own-ok, live-of}
 use Rattle.table.specs.declared.Node.{Node}
-use Rattle.table.specs.declared.Table.{Table}
 use Rattle.table.specs.Rules.{keepsRules, boundsOf, Rules, rules-of}
 use Rattle.table.specs.Change.{at-changed, nobody, record-ok, changed-here}
 use Rattle.table.specs.Number.{takenNumber}
 use Rattle.table.specs.Own.{duePlace, due-in}
 use Rattle.timing.specs.OnSession.{on-at}
-use Rattle.timing.specs.Timing.{quiet, onSession, leastReply, held, refused, closeOn, closeOf, echoSent, placeSent, dueSent, sendOf}
-use Rattle.demands.specs.Run.{State, left, Event, control, user, tick, send, close, line, step, line-step, answered, reached, ofOctets, Run, Kept, step-keeps, reached-keeps}
+use Rattle.timing.specs.Outcome.{State, quiet, onSession, leastReply, noReply}
+use Rattle.timing.specs.Timing.{closeOn, closeOf, echoSent, placeSent, dueSent, sendOf}
+use Rattle.demands.specs.Run.{left, Event, control, user, tick, send, close, line, step, line-step, answered, reached, ofOctets, Run, Kept, step-keeps, reached-keeps}
 use Rattle.demands.specs.Stays.{step-plan, reached-plan}
 use Rattle.demands.specs.Bounds.{at}
 use Rattle.demands.specs.Ticks.{place-ticked, all-freed}
@@ -110,10 +110,10 @@ module _ (p : Plan) (i : ℕ) (h : i < 64) where
   good-step : (e : Event) (s : State) → ofOctets e ≡ true → Good s → Good (step e s)
   good-step e s o g = record { kept = step-keeps e s o (g .kept); plan = step-plan e s ∙ g .plan }
 
-  rules : (s : State) → Good s → Rules (s .node .plan) (s .node .echo) (s .node .next) (s .table .recs)
-  rules s g = rules-of (s .node) (s .table .recs) (g .kept)
+  rules : (s : State) → Good s → Rules (s .node .plan) (s .node .echo) (s .node .next) (s .table)
+  rules s g = rules-of (s .node) (s .table) (g .kept)
 
-  there : (s : State) → Good s → i < length (s .table .recs)
+  there : (s : State) → Good s → i < length (s .table)
   unfolding places
   there s g = let z = rules s g .size in omega arith
 
@@ -123,7 +123,7 @@ module _ (p : Plan) (i : ℕ) (h : i < 64) where
   in-range s g j f =
       rw (← g .plan)
       (range-of 0 (s .node .plan .resend) (s .node .plan .sends) (at s j .own)
-      (own-ok (boundsOf (s .node .plan)) (at s j) (record-ok (s .node .plan) (s .node .echo) (s .node .next) (s .table .recs) (rules s g) j) f))
+      (own-ok (boundsOf (s .node .plan)) (at s j) (record-ok (s .node .plan) (s .node .echo) (s .node .next) (s .table) (rules s g) j) f))
 
   closing-taken : (x : Session) → x .state ≡ 2 → isFree x ≡ false
   unfolding isFree
@@ -145,27 +145,27 @@ module _ (p : Plan) (i : ℕ) (h : i < 64) where
   same-here s c = record { closing = c; spends = omega arith }
 
   send-here : (s : State) → Good s → accepted p ≡ true → (reply : List ℕ) → at s i .state ≡ 2 → Spends (s .node .plan .resend) 0 (at s i) (at (step (send reply) s) i)
-  unfolding step left sendOf dueSent echoSent placeSent refused held duePlace
+  unfolding step left sendOf dueSent echoSent placeSent noReply duePlace
   send-here s g a reply c =
       split (ltb (length reply) leastReply) (λ x. rw x same)
       (λ x. split (eqb (s .node .echo .timer) 0) (λ z. rw (x, g .kept, z) same)
-      (λ z. split (ltb (firstOf isDue (s .table .recs)) (length (s .table .recs)))
+      (λ z. split (ltb (firstOf isDue (s .table)) (length (s .table)))
       (λ d. rw (x, g .kept, z, d)
-      (at-changed (Spends (s .node .plan .resend) 0 (at s i)) (sent (s .node .plan .resend) (takenNumber (s .node .next) (s .node .echo) (s .table .recs))) (s .table .recs) i (firstOf isDue (s .table .recs)) (there s g) same
-      (λ e. sent-spends (s .node .plan .resend) (takenNumber (s .node .next) (s .node .echo) (s .table .recs)) (at s i) c (due e d) (few s g a c))))
+      (at-changed (Spends (s .node .plan .resend) 0 (at s i)) (sent (s .node .plan .resend) (takenNumber (s .node .next) (s .node .echo) (s .table))) (s .table) i (firstOf isDue (s .table)) (there s g) same
+      (λ e. sent-spends (s .node .plan .resend) (takenNumber (s .node .next) (s .node .echo) (s .table)) (at s i) c (due e d) (few s g a c))))
       (λ d. rw (x, g .kept, z, d) same)))
     where
       same : Spends (s .node .plan .resend) 0 (at s i) (at s i)
       same = record { closing = c; spends = omega arith }
 
-      due : i ≡ firstOf isDue (s .table .recs) → ltb (firstOf isDue (s .table .recs)) (length (s .table .recs)) ≡ true → at s i .own .timer ≡ 0
-      due e d = due-timer (at s i) (rw e (first-passes isDue (s .table .recs) nobody (ltb-true (firstOf isDue (s .table .recs)) (length (s .table .recs)) d)))
+      due : i ≡ firstOf isDue (s .table) → ltb (firstOf isDue (s .table)) (length (s .table)) ≡ true → at s i .own .timer ≡ 0
+      due e d = due-timer (at s i) (rw e (first-passes isDue (s .table) nobody (ltb-true (firstOf isDue (s .table)) (length (s .table)) d)))
 
   close-here : (s : State) → Good s → (j : ℕ) → at s i .state ≡ 2 → Spends (p .resend) 0 (at s i) (at (step (close j) s) i)
   unfolding step left closeOf closeOn quiet
   close-here s g j c =
       rw (g .kept)
-      (on-at (s .node) (s .table .recs) j closeOn [] (Spends (p .resend) 0 (at s i)) i (there s g) (same-here s c)
+      (on-at (s .node) (s .table) j closeOn [] (Spends (p .resend) 0 (at s i)) i (there s g) (same-here s c)
       (λ e. rw (closing-taken (at s i) c) (closed-spends (p .resend) (at s i) c)))
 
   tick-here : (s : State) → Good s → at s i .state ≡ 2 → isDue (at s i) ≡ false → gone (at s i .usage) (at (step tick s) i) ≡ false
@@ -239,15 +239,15 @@ module _ (p : Plan) (i : ℕ) (h : i < 64) where
 
   -- the close: a live place is closing then, and nothing has been sent
   close-is : (s : State) → Good s → at s i .state ≡ 1 → at (step (close i) s) i ≡ closed (at s i)
-  unfolding step left closeOf onSession held closeOn quiet isFree
+  unfolding step left closeOf onSession closeOn quiet isFree
   close-is s g c =
-      rw (g .kept, changed-here (λ x. closeOn x .session) i (s .table .recs) nobody (there s g), ne-eqb (at s i .state) 0 (λ z. omega arith))
+      rw (g .kept, changed-here (λ x. closeOn x .session) i (s .table) nobody (there s g), ne-eqb (at s i .state) 0 (λ z. omega arith))
 
   live-idle : (s : State) → Good s → at s i .state ≡ 1 → (at s i .own .sends ≡ 0) × (at s i .own .timer ≡ 0)
   unfolding phaseOk isClosing isFree boundsOf
   live-idle s g c =
       let f : isFree (at s i) ≡ false = ne-eqb (at s i .state) 0 (λ z. omega arith) in
-      let v = live-of (boundsOf (s .node .plan)) (at s i) (record-ok (s .node .plan) (s .node .echo) (s .node .next) (s .table .recs) (rules s g) i) f .phase in
+      let v = live-of (boundsOf (s .node .plan)) (at s i) (record-ok (s .node .plan) (s .node .echo) (s .node .next) (s .table) (rules s g) i) f .phase in
       let n : eqb (at s i .state) 2 ≡ false = ne-eqb (at s i .state) 2 (λ z. omega arith) in
       let w : (requestOk 0 (s .node .plan .resend) (s .node .plan .sends) (at s i .own) && (eqb (at s i .state) 1 && eqb (at s i .own .sends) 0)) ≡ true = rw n at v in
       let z : eqb (at s i .own .sends) 0 ≡ true = search (and-left, and-right) in
@@ -280,13 +280,13 @@ freed-in-time p es r i h c later o f m =
     q : (at (reached p es) i .own .sends ≡ 0) × (at (reached p es) i .own .timer ≡ 0)
     q = live-idle p i h (reached p es) good c
 
-none-due : (node : Node) (t : Table) → keepsRules node (t .recs) ≡ true → (reply : List ℕ) → sendOf node t reply .answer .number ≡ 17 → length (t .recs) ≤ firstOf isDue (t .recs)
-unfolding sendOf dueSent echoSent placeSent refused duePlace
+none-due : (node : Node) (t : List Session) → keepsRules node t ≡ true → (reply : List ℕ) → sendOf node t reply .answer .number ≡ 17 → length t ≤ firstOf isDue t
+unfolding sendOf dueSent echoSent placeSent noReply duePlace
 none-due node t k reply e =
     split (ltb (length reply) leastReply) (λ a. let z : _≡_ {A = ℕ} 1 17 = rw a at e in absurd (omega arith))
     (λ a. split (eqb (node .echo .timer) 0) (λ b. let z : _≡_ {A = ℕ} 0 17 = rw (a, k, b) at e in absurd (omega arith))
-    (λ b. split (ltb (firstOf isDue (t .recs)) (length (t .recs))) (λ c. let z : _≡_ {A = ℕ} 0 17 = rw (a, k, b, c) at e in absurd (omega arith))
-    (λ c. ltb-false (firstOf isDue (t .recs)) (length (t .recs)) c)))
+    (λ b. split (ltb (firstOf isDue t) (length t)) (λ c. let z : _≡_ {A = ℕ} 0 17 = rw (a, k, b, c) at e in absurd (omega arith))
+    (λ c. ltb-false (firstOf isDue t) (length t) c)))
 
 pub nothing-due : NothingDue
 unfolding NothingDue answered
@@ -294,8 +294,8 @@ nothing-due p es r reply e i =
     let k = reached-keeps p es r in
     let n = none-due (reached p es .node) (reached p es .table) k reply e in
     split (isDue (at (reached p es) i))
-    (λ d. let q = rules-of (reached p es .node) (reached p es .table .recs) k in
-    let h = due-in (reached p es .node .plan) (reached p es .node .echo) (reached p es .node .next) (reached p es .table .recs) q i d in
-    let m = first-before isDue (reached p es .table .recs) i nobody h d in
+    (λ d. let q = rules-of (reached p es .node) (reached p es .table) k in
+    let h = due-in (reached p es .node .plan) (reached p es .node .echo) (reached p es .node .next) (reached p es .table) q i d in
+    let m = first-before isDue (reached p es .table) i nobody h d in
     absurd (omega arith))
     (λ d. d)

@@ -29,12 +29,13 @@ use Rattle.gpdu.specs.declared.Header.the-variants as H
 use Rattle.gpdu.specs.Header.{echoType, packetType, ours, optional, sizeOf, typeTaken, octet, lengthOf, teidOf, refusalOf, headerOf, header-packet, header-echo, header-passed}
 use Rattle.gpdu.specs.User.{userOf, user-passed, user-plain}
 use Rattle.userside.specs.UserSide.{Took, took, headerTaken, packetTaken, userTaken, user-short, user-unread, user-read}
-use Rattle.demands.specs.Run.{State, Event, reached, Run, Kept, reached-keeps}
+use Rattle.timing.specs.Outcome.{State}
+use Rattle.demands.specs.Run.{Event, reached, Run, Kept, reached-keeps}
 use Rattle.demands.specs.Bounds.{at, reached-rules}
 
 -- what comes back for a user datagram
 abbrev pub took-of : State → List ℕ → List ℕ → Took
-took-of s d reply = userTaken (s .node) (s .table .recs) d reply
+took-of s d reply = userTaken (s .node) (s .table) d reply
 
 -- handed up: it is a G-PDU, its number is the user number of the place in its present use, and what lies past the header with its extension
 -- headers is what is handed up
@@ -48,7 +49,7 @@ pub record HandedUp (s : State) (d : List ℕ) (w : Took) : Type 0 where
 -- and else nothing is: what would be handed up begins where the datagram ends
 pub record Fairly (s : State) (d : List ℕ) (w : Took) : Type 0 where
   pub handed : w .number ≡ 0 → w .size ≡ 0 → HandedUp s d w
-  pub refused : w .number ≢ 0 → w .start ≡ length d
+  pub noReply : w .number ≢ 0 → w .start ≡ length d
   pub replied : w .size ≢ 0 → w .start ≡ length d
 
 unfoldable pub LiveOnly : Type 0
@@ -118,40 +119,40 @@ packet-type d e n =
     or-split (eqb (octet d 1) echoType) (eqb (octet d 1) packetType) (header-passed d e .is-taken)
     (λ q. absurd (n (eqb-true (octet d 1) echoType q))) (λ q. eqb-true (octet d 1) packetType q)
 
-module _ (s : State) (k : Kept s) (size : length (s .table .recs) ≡ 64) (d reply : List ℕ) where
+module _ (s : State) (k : Kept s) (size : length (s .table) ≡ 64) (d reply : List ℕ) where
   silent-fair : (n : ℕ) → n ≢ 0 → Fairly s d (took n 0 0 reply (length d))
-  silent-fair n h = record { handed = λ e f. absurd (h e); refused = λ e. refl; replied = λ e. refl }
+  silent-fair n h = record { handed = λ e f. absurd (h e); noReply = λ e. refl; replied = λ e. refl }
 
-  packet-fair : octet d 1 ≡ 255 → (f : Found) → ownerOf userOffset (teidOf d) (s .table .recs) ≡ f
+  packet-fair : octet d 1 ≡ 255 → (f : Found) → ownerOf userOffset (teidOf d) (s .table) ≡ f
       → Fairly s d (packetTaken f (teidOf d) (s .node .plan .user) (userOf d .size) (length d) reply)
   unfolding packetTaken places
   packet-fair g (F.At place) e =
-      let o = owns (teidOf d) place (s .table .recs) (omega arith) e in
+      let o = owns (teidOf d) place (s .table) (omega arith) e in
       let t = o .there in
       record {
         handed = λ a b. record { place = omega arith; live = o .live; packet = g; number = o .number; start = refl };
-        refused = λ a. absurd (a refl);
+        noReply = λ a. absurd (a refl);
         replied = λ a. absurd (a refl);
       }
-  packet-fair g F.Nothing e = record { handed = λ a b. absurd (omega arith); refused = λ a. refl; replied = λ a. refl }
+  packet-fair g F.Nothing e = record { handed = λ a b. absurd (omega arith); noReply = λ a. refl; replied = λ a. refl }
 
-  header-fair : refusalOf d ≡ 0 → Fairly s d (headerTaken (s .node) (s .table .recs) (headerOf d) (userOf d .size) (length d) reply)
+  header-fair : refusalOf d ≡ 0 → Fairly s d (headerTaken (s .node) (s .table) (headerOf d) (userOf d .size) (length d) reply)
   unfolding headerTaken
   header-fair e =
       split (eqb (octet d 1) echoType)
-      (λ q. rw (header-echo d e (eqb-true (octet d 1) echoType q)) (record { handed = λ a b. absurd (omega arith); refused = λ a. refl; replied = λ a. refl }))
-      (λ q. rw (header-packet d e (eqb-false (octet d 1) echoType q)) (packet-fair (packet-type d e (eqb-false (octet d 1) echoType q)) (ownerOf userOffset (teidOf d) (s .table .recs)) refl))
+      (λ q. rw (header-echo d e (eqb-true (octet d 1) echoType q)) (record { handed = λ a b. absurd (omega arith); noReply = λ a. refl; replied = λ a. refl }))
+      (λ q. rw (header-packet d e (eqb-false (octet d 1) echoType q)) (packet-fair (packet-type d e (eqb-false (octet d 1) echoType q)) (ownerOf userOffset (teidOf d) (s .table)) refl))
 
   pub user-fair : Fairly s d (took-of s d reply)
   user-fair =
       split (ltb (length reply) 128)
-      (λ a. rw (user-short (s .node) (s .table .recs) d reply (ltb-true (length reply) 128 a)) (silent-fair 1 (λ e. omega arith)))
+      (λ a. rw (user-short (s .node) (s .table) d reply (ltb-true (length reply) 128 a)) (silent-fair 1 (λ e. omega arith)))
       (λ a. let room = ltb-false (length reply) 128 a in
       split (eqb (userOf d .number) 0)
       (λ b. let e = eqb-true (userOf d .number) 0 b in
-      rw (user-read (s .node) (s .table .recs) d reply room k e) (header-fair (user-passed d e)))
+      rw (user-read (s .node) (s .table) d reply room k e) (header-fair (user-passed d e)))
       (λ b. let e = eqb-false (userOf d .number) 0 b in
-      rw (user-unread (s .node) (s .table .recs) d reply room k e) (silent-fair (userOf d .number) e)))
+      rw (user-unread (s .node) (s .table) d reply room k e) (silent-fair (userOf d .number) e)))
 
 pub live-only : LiveOnly
 unfolding LiveOnly places
@@ -184,11 +185,11 @@ module _ (n : ℕ) (x : List ℕ) (small : length x < 65536) where
 
 -- whoever is live in a table that keeps its rules has a use, and is found by its number
 module _ (s : State) (k : Kept s) (i : ℕ) (h : i < 64) (live : isFree (at s i) ≡ false) where
-  rules : Rules (s .node .plan) (s .node .echo) (s .node .next) (s .table .recs)
-  rules = rules-of (s .node) (s .table .recs) k
+  rules : Rules (s .node .plan) (s .node .echo) (s .node .next) (s .table)
+  rules = rules-of (s .node) (s .table) k
 
   ok : recordOk (boundsOf (s .node .plan)) (at s i) ≡ true
-  ok = record-ok (s .node .plan) (s .node .echo) (s .node .next) (s .table .recs) rules i
+  ok = record-ok (s .node .plan) (s .node .echo) (s .node .next) (s .table) rules i
 
   used : 1 ≤ at s i .usage
   unfolding heldOk
@@ -201,18 +202,18 @@ module _ (s : State) (k : Kept s) (i : ℕ) (h : i < 64) (live : isFree (at s i)
   unfolding places teids
   small-number = number-fits userOffset (at s i .usage) i user-fits h (ok-usage (boundsOf (s .node .plan)) (at s i) ok)
 
-  owner : ownerOf userOffset (userNumber (at s i .usage) i) (s .table .recs) ≡ F.At i
+  owner : ownerOf userOffset (userNumber (at s i .usage) i) (s .table) ≡ F.At i
   unfolding places
   owner =
       let z = rules .size in
-      owner-is userOffset (userNumber (at s i .usage) i) (s .table .recs) user-fits (omega arith)
+      owner-is userOffset (userNumber (at s i .usage) i) (s .table) user-fits (omega arith)
       ∙ rw (number-holder userOffset (at s i .usage) i user-fits h used)
-      (held-yes i (at s i .usage) (s .table .recs) nobody (omega arith) (rw (live, eq-eqb (at s i .usage) (at s i .usage) refl)))
+      (held-yes i (at s i .usage) (s .table) nobody (omega arith) (rw (live, eq-eqb (at s i .usage) (at s i .usage) refl)))
 
   hand : (d reply : List ℕ) → 128 ≤ length reply → userOf d .number ≡ 0 → userOf d .size ≡ 8 → headerOf d ≡ H.Packet (record { 0 = userNumber (at s i .usage) i })
       → took-of s d reply ≡ took 0 i 0 reply 8
   unfolding headerTaken packetTaken
-  hand d reply room n z q = user-read (s .node) (s .table .recs) d reply room k n ∙ rw (q, owner, z)
+  hand d reply room n z q = user-read (s .node) (s .table) d reply room k n ∙ rw (q, owner, z)
 
   carried-here : (x reply : List ℕ) → length x < 65536 → 128 ≤ length reply
       → Carried i reply x (packet (userNumber (at s i .usage) i) x) (took-of s (packet (userNumber (at s i .usage) i) x) reply)

@@ -21,7 +21,6 @@ use Rattle.session.specs.declared.Peers.{Peers}
 use Rattle.session.specs.Request.{awaits}
 use Rattle.session.specs.Session.{isFree, hasId, waitsFor, blankAt, freed, opened, moved}
 use Rattle.table.specs.declared.Node.{Node}
-use Rattle.table.specs.declared.Table.{Table}
 use Rattle.table.specs.declared.Found.{Found}
 use Rattle.table.specs.declared.Found.the-variants as F
 use Rattle.table.specs.Rules.{keepsRules, live}
@@ -44,7 +43,7 @@ use Rattle.requests.specs.declared.Decoded.the-variants as D
 use Rattle.requests.specs.declared.Request.the-variants as Q
 use Rattle.requests.specs.Create.{createOf, replyTo}
 use Rattle.changes.specs.Change.{modifyOf, deleteOf}
-use Rattle.timing.specs.Timing.{quiet, onOwner, leastReply, held, refused}
+use Rattle.timing.specs.Outcome.{quiet, onOwner, leastReply, noReply}
 use Rattle.timing.specs.OnSession.{on-at}
 use Rattle.control.specs.Kind.{Kind, kindBy}
 use Rattle.control.specs.Kind as K
@@ -139,75 +138,75 @@ module _ (i : ℕ) (l₀ : List Session) where
   freed-at l j h q = at-changed (Left s₀) freed l i j h q (λ e. left-freed s₀ (getD l i nobody) (q .usage))
 
   -- Recovery
-  heard-at : (r : Recovery) (node : Node) (t : Table) → t .recs ≡ l₀ → i < length l₀ → Left s₀ (getD (heardBy r node t .table .recs) i nobody)
-  unfolding heardBy refused held keptAfter
+  heard-at : (r : Recovery) (node : Node) (t : List Session) → t ≡ l₀ → i < length l₀ → Left s₀ (getD (heardBy r node t .table) i nobody)
+  unfolding heardBy noReply keptAfter
   heard-at R.None node t e h = rw e (left-same s₀)
   heard-at (R.Value value) node t e h =
       split (restarted node value)
       (λ q. rw (q, e, map-at freed l₀ i nobody nobody h) (left-freed s₀ s₀ refl))
       (λ q. rw (q, e) (left-same s₀))
 
-heard-length : (r : Recovery) (node : Node) (t : Table) → length (heardBy r node t .table .recs) ≡ length (t .recs)
-unfolding heardBy refused held keptAfter
+heard-length : (r : Recovery) (node : Node) (t : List Session) → length (heardBy r node t .table) ≡ length t
+unfolding heardBy noReply keptAfter
 heard-length R.None node t = refl
-heard-length (R.Value value) node t = split (restarted node value) (λ q. rw (q, length-map (t .recs) freed)) (λ q. rw q)
+heard-length (R.Value value) node t = split (restarted node value) (λ q. rw (q, length-map t freed)) (λ q. rw q)
 
 -- ---- each type of control datagram
-module _ (i : ℕ) (node : Node) (t : Table) (h : i < length (t .recs)) where
+module _ (i : ℕ) (node : Node) (t : List Session) (h : i < length t) where
   abbrev here : Session
-  here = getD (t .recs) i nobody
+  here = getD t i nobody
 
-  echo-reply-at : (seq : ℕ) (r : EchoReply) → After here (getD (echoReplyTaken node t seq r .table .recs) i nobody)
-  unfolding echoReplyTaken echoEnded refused
-  echo-reply-at seq E.Unreadable = left-same here .after
-  echo-reply-at seq (E.Carries r) = split (awaits seq (node .echo)) (λ a. rw a (heard-at i (t .recs) r node t refl h .after)) (λ a. rw a (left-same here .after))
+  echo-reply-at : (seq : ℕ) (r : EchoReply) (reply : List ℕ) → After here (getD (echoReplyTaken node t seq r reply .table) i nobody)
+  unfolding echoReplyTaken echoEnded noReply
+  echo-reply-at seq E.Unreadable reply = left-same here .after
+  echo-reply-at seq (E.Carries r) reply = split (awaits seq (node .echo)) (λ a. rw a (heard-at i t r node t refl h .after)) (λ a. rw a (left-same here .after))
 
   -- Create: what Recovery and the replaced session left, and the place that is taken
   module _ (c : C.Create) (seq : ℕ) (reply : List ℕ) where
     shared-at : (n : Node) (m : List Session) → i < length m → Left here (getD m i nobody)
-        → After here (getD (shared c seq n (held m) node t reply .answer .table .recs) i nobody)
-    unfolding shared openedAt acceptedTaken causeTaken refused held
+        → After here (getD (shared c seq n m node t reply .table) i nobody)
+    unfolding shared openedAt acceptedTaken causeTaken noReply
     shared-at n m k q = split (admits (n .plan) (live m) (c .point)) (λ a. rw a (place (foundIn isFree m))) (λ a. rw a (q .after))
       where
-        place : (f : Found) → After here (getD (openedAt f c seq n (held m) node t reply .answer .table .recs) i nobody)
+        place : (f : Found) → After here (getD (openedAt f c seq n m node t reply .table) i nobody)
         place F.Nothing = left-same here .after
         place (F.At j) = at-changed (After here) (opened (openingOf c seq)) m i j k (q .after) (λ e. opened-after here (getD m i nobody) (openingOf c seq) (q .usage))
 
-    settled-at : (n : Node) (b : Table) → i < length (b .recs) → Left here (getD (b .recs) i nobody) → (f : Found)
-        → After here (getD (settledAt f c seq n b node t reply .answer .table .recs) i nobody)
-    unfolding settledAt acceptedTaken held
-    settled-at n b k q F.Nothing = shared-at n (b .recs) k q
+    settled-at : (n : Node) (b : List Session) → i < length b → Left here (getD b i nobody) → (f : Found)
+        → After here (getD (settledAt f c seq n b node t reply .table) i nobody)
+    unfolding settledAt acceptedTaken
+    settled-at n b k q F.Nothing = shared-at n b k q
     settled-at n b k q (F.At j) =
-        split (isRepeat c seq (getD (b .recs) j nobody)) (λ x. rw x (q .after))
-        (λ x. rw x (shared-at n (changedAt freed j (b .recs)) (let z = length-changed freed j (b .recs) in omega arith) (freed-at i (t .recs) (b .recs) j k q)))
+        split (isRepeat c seq (getD b j nobody)) (λ x. rw x (q .after))
+        (λ x. rw x (shared-at n (changedAt freed j b) (let z = length-changed freed j b in omega arith) (freed-at i t b j k q)))
 
-  create-at : (seq : ℕ) (rest reply : List ℕ) → After here (getD (createTaken node t seq rest reply .answer .table .recs) i nobody)
+  create-at : (seq : ℕ) (rest reply : List ℕ) → After here (getD (createTaken node t seq rest reply .table) i nobody)
   unfolding createTaken createBy heardCreate causeTaken
   create-at seq rest reply = by (createOf (node .plan) rest)
     where
-      by : (d : Decoded) → After here (getD (createBy d seq (replyTo rest) node t reply .answer .table .recs) i nobody)
+      by : (d : Decoded) → After here (getD (createBy d seq (replyTo rest) node t reply .table) i nobody)
       by (D.Refused w) = left-same here .after
       by (D.Sound (Q.Create c)) =
           settled-at c seq reply (heardBy (c .recovery) node t .node) (heardBy (c .recovery) node t .table) (let z = heard-length (c .recovery) node t in omega arith)
-          (heard-at i (t .recs) (c .recovery) node t refl h) (foundIn (hasId (c .imsi) (c .ebi)) (heardBy (c .recovery) node t .table .recs))
+          (heard-at i t (c .recovery) node t refl h) (foundIn (hasId (c .imsi) (c .ebi)) (heardBy (c .recovery) node t .table))
       by (D.Sound (Q.Modify m)) = left-same here .after
       by (D.Sound (Q.Delete d)) = left-same here .after
 
-  kind-at : (k : Kind) (x : HeaderCursor) (rest reply : List ℕ) → After here (getD (kindTaken k x rest node t reply .answer .table .recs) i nobody)
-  unfolding kindTaken echoTaken onOwner refused
-  kind-at K.Echo x rest reply = heard-at i (t .recs) (carried.echoOf rest) node t refl h .after
-  kind-at K.EchoReply x rest reply = echo-reply-at (x .sequence) (carried.echoReplyOf rest)
+  kind-at : (k : Kind) (x : HeaderCursor) (rest reply : List ℕ) → After here (getD (kindTaken k x rest node t reply .table) i nobody)
+  unfolding kindTaken echoTaken onOwner noReply
+  kind-at K.Echo x rest reply = heard-at i t (carried.echoOf rest) node t refl h .after
+  kind-at K.EchoReply x rest reply = echo-reply-at (x .sequence) (carried.echoReplyOf rest) reply
   kind-at K.Create x rest reply = create-at (x .sequence) rest reply
   kind-at K.Named x rest reply =
-      on-at node (t .recs) (placeFound (ownerOf controlOffset (x .teid) (t .recs)) (t .recs)) (sessionOf x rest) reply (After here) i h
+      on-at node t (placeFound (ownerOf controlOffset (x .teid) t) t) (sessionOf x rest) reply (After here) i h
       (left-same here .after) (λ e. session-after here x rest)
   kind-at K.Other x rest reply = left-same here .after
 
-  pub control-at : (d reply : List ℕ) → After here (getD (controlTaken node t d reply .answer .table .recs) i nobody)
-  unfolding controlTaken gateTaken refused
+  pub control-at : (d reply : List ℕ) → After here (getD (controlTaken node t d reply .table) i nobody)
+  unfolding controlTaken gateTaken noReply
   control-at d reply =
       split (ltb (length reply) leastReply) (λ a. rw a (left-same here .after))
-      (λ a. split (keepsRules node (t .recs))
+      (λ a. split (keepsRules node t)
       (λ e. split (eqb (gateOf d) 0) (λ b. rw (a, e, b) (kind-at (kindBy (headerOf d .kind)) (headerOf d) (drop (headerOf d .fields) d) reply))
       (λ b. split (eqb (gateOf d) 5) (λ c. rw (a, e, b, c) (left-same here .after)) (λ c. rw (a, e, b, c) (left-same here .after))))
       (λ e. rw (a, e) (left-same here .after)))

@@ -25,10 +25,9 @@ use Rattle.table.specs.Own.{hearing, keptAfter, restarted}
 use Rattle.table.specs.Room.{freePlace}
 use Rattle.control.specs.Kind.{kindBy}
 use Rattle.control.specs.Creates.{openingOf, acceptedTaken, isRepeat, settledAt, heardCreate, createBy, createTaken}
-use Rattle.timing.specs.Timing.{Outcome, leastReply, held, refused}
+use Rattle.timing.specs.Outcome.{State, Outcome, leastReply, noReply}
 use Rattle.session.specs.declared.Session.{Session}
 use Rattle.table.specs.declared.Node.{Node}
-use Rattle.table.specs.declared.Table.{Table}
 use Rattle.table.specs.declared.Found.the-variants as F
 use Rattle.table.specs.Rules.{Rules, rules-of}
 use Rattle.table.specs.Find.{foundIn, found-only}
@@ -39,7 +38,7 @@ use Rattle.requests.specs.declared.Request.the-variants as Q
 use Rattle.requests.specs.Create.{createOf}
 use Rattle.control.specs.Echoes.{heardBy, heard-keeps}
 use Rattle.control.specs.Control.{kindTaken, gateTaken, controlTaken}
-use Rattle.demands.specs.Run.{State, left, Event, control, step, reached, ofOctets, Run, Kept, step-keeps, reached-keeps}
+use Rattle.demands.specs.Run.{left, Event, control, step, reached, ofOctets, Run, Kept, step-keeps, reached-keeps}
 use Rattle.control.specs.CreatesKept.{heard-plan}
 use Rattle.demands.specs.Stays.{reached-plan}
 use Rattle.demands.specs.Creates.{SoundCreate, NewCreate, heard, repeats, asked, askedU, acceptedOf, create-accepted, create-point, place-in}
@@ -47,10 +46,10 @@ use Rattle.demands.specs.Creates.{SoundCreate, NewCreate, heard, repeats
 -- place i, as it is after Recovery, has the session that the Create repeats
 unfoldable pub RepeatsAnswered : Type 0
 RepeatsAnswered = (p : Plan) (es : List Event) → Run p es → (d : List ℕ) (c : C.Create) → SoundCreate p d c
-    → (i : ℕ) → i < 64 → repeats c (headerOf d .sequence) (getD (heard c (reached p es) .table .recs) i nobody) ≡ true
+    → (i : ℕ) → i < 64 → repeats c (headerOf d .sequence) (getD (heard c (reached p es) .table) i nobody) ≡ true
     → (reply : List ℕ) → 128 ≤ length reply
     → controlTaken (reached p es .node) (reached p es .table) d reply
-    ≡ acceptedTaken (headerOf d .sequence) i (getD (heard c (reached p es) .table .recs) i nobody) (heard c (reached p es) .node) (heard c (reached p es) .table) reply
+    ≡ acceptedTaken (headerOf d .sequence) i (getD (heard c (reached p es) .table) i nobody) (heard c (reached p es) .node) (heard c (reached p es) .table) reply
 
 -- so a Create that was accepted, sent again with the same buffer lent, has the very same outcome: number, reply, and table
 unfoldable pub AgainTheSame : Type 0
@@ -72,17 +71,17 @@ module _ (p : Plan) (s : State) (kept : Kept s) (plan : s .node .plan ≡ p) (d 
   decoded : createOf (s .node .plan) (drop (headerOf d .fields) d) ≡ D.Sound (Q.Create c)
   decoded = rw plan (n .fields)
 
-  rules : Rules (heard c s .node .plan) (heard c s .node .echo) (heard c s .node .next) (heard c s .table .recs)
-  rules = rules-of (heard c s .node) (heard c s .table .recs) (heard-keeps (s .node) (s .table) kept (c .recovery))
+  rules : Rules (heard c s .node .plan) (heard c s .node .echo) (heard c s .node .next) (heard c s .table)
+  rules = rules-of (heard c s .node) (heard c s .table) (heard-keeps (s .node) (s .table) kept (c .recovery))
 
-  repeated : (i : ℕ) → i < 64 → repeats c (headerOf d .sequence) (getD (heard c s .table .recs) i nobody) ≡ true
-      → controlTaken (s .node) (s .table) d reply ≡ acceptedTaken (headerOf d .sequence) i (getD (heard c s .table .recs) i nobody) (heard c s .node) (heard c s .table) reply
+  repeated : (i : ℕ) → i < 64 → repeats c (headerOf d .sequence) (getD (heard c s .table) i nobody) ≡ true
+      → controlTaken (s .node) (s .table) d reply ≡ acceptedTaken (headerOf d .sequence) i (getD (heard c s .table) i nobody) (heard c s .node) (heard c s .table) reply
   unfolding controlTaken gateTaken kindTaken kindBy createTaken createBy heardCreate settledAt leastReply repeats places
   repeated i h e =
-      let a = and-left (hasId (c .imsi) (c .ebi) (getD (heard c s .table .recs) i nobody)) (isRepeat c (headerOf d .sequence) (getD (heard c s .table .recs) i nobody)) e in
-      let b = and-right (hasId (c .imsi) (c .ebi) (getD (heard c s .table .recs) i nobody)) (isRepeat c (headerOf d .sequence) (getD (heard c s .table .recs) i nobody)) e in
+      let a = and-left (hasId (c .imsi) (c .ebi) (getD (heard c s .table) i nobody)) (isRepeat c (headerOf d .sequence) (getD (heard c s .table) i nobody)) e in
+      let b = and-right (hasId (c .imsi) (c .ebi) (getD (heard c s .table) i nobody)) (isRepeat c (headerOf d .sequence) (getD (heard c s .table) i nobody)) e in
       let z = rules .size in
-      let f = found-it (hasId (c .imsi) (c .ebi)) (heard c s .table .recs) i (rules .once (c .imsi) (c .ebi)) (omega arith) a in
+      let f = found-it (hasId (c .imsi) (c .ebi)) (heard c s .table) i (rules .once (c .imsi) (c .ebi)) (omega arith) a in
       rw (le-ltb (length reply) 128 room, kept, n .header, n .kind, decoded, f, b)
 
 pub repeats-answered : RepeatsAnswered
@@ -93,9 +92,9 @@ kept-same : (a b : State) → a ≡ b → Kept a → Kept b
 kept-same a b e k = rw (← e) k
 
 -- ---- a Recovery value that is stored already does nothing
-heard-again : (r : Recovery) (node : Node) (t t₁ : Table)
+heard-again : (r : Recovery) (node : Node) (t t₁ : List Session)
     → (heardBy r (heardBy r node t .node) t₁ .node ≡ heardBy r node t .node) × (heardBy r (heardBy r node t .node) t₁ .table ≡ t₁)
-unfolding heardBy refused hearing keptAfter restarted held
+unfolding heardBy noReply hearing keptAfter restarted
 heard-again R.None node t t₁ = (refl, refl)
 heard-again (R.Value v) node t t₁ = rw (eq-eqb v v refl) (refl, refl)
 
@@ -111,14 +110,14 @@ module _ (p : Plan) (s : State) (kept : Kept s) (plan : s .node .plan ≡ p) (go
   recs = changedAt (opened (openingOf c number)) place (asked c s)
 
   abbrev then : State
-  then = record { node = heard c s .node; table = held recs }
+  then = record { node = heard c s .node; table = recs }
 
   taken : controlTaken (s .node) (s .table) d reply ≡ acceptedOf number c s reply
   taken = create-accepted p s kept plan d c n reply room e
 
   after : step (control d reply) s ≡ then
   unfolding step left acceptedOf acceptedTaken
-  after = ap (λ (o : Outcome). left (o .answer)) taken
+  after = ap left taken
 
   then-kept : Kept then
   unfolding ofOctets
@@ -142,22 +141,21 @@ module _ (p : Plan) (s : State) (kept : Kept s) (plan : s .node .plan ≡ p) (go
   then-plan = heard-plan (c .recovery) (s .node) (s .table) ∙ plan
 
   few : place < 64
-  unfolding held places
+  unfolding places
   few =
-      let z = rules-of (then .node) (then .table .recs) then-kept .size in
+      let z = rules-of (then .node) (then .table) then-kept .size in
       let l = length-changed (opened (openingOf c number)) place (asked c s) in
       let h = in-there in
       omega arith
 
-  again-table : heard c then .table ≡ held recs
-  again-table = heard-again (c .recovery) (s .node) (s .table) (held recs) .1
+  again-table : heard c then .table ≡ recs
+  again-table = heard-again (c .recovery) (s .node) (s .table) recs .1
 
   again-node : heard c then .node ≡ heard c s .node
-  again-node = heard-again (c .recovery) (s .node) (s .table) (held recs) .0
+  again-node = heard-again (c .recovery) (s .node) (s .table) recs .0
 
-  again-there : getD (heard c then .table .recs) place nobody ≡ opened (openingOf c number) (getD (asked c s) place nobody)
-  unfolding held
-  again-there = ap (λ (t : Table). getD (t .recs) place nobody) again-table ∙ opened-there
+  again-there : getD (heard c then .table) place nobody ≡ opened (openingOf c number) (getD (asked c s) place nobody)
+  again-there = ap (λ (t : List Session). getD t place nobody) again-table ∙ opened-there
 
   again : controlTaken (then .node) (then .table) d reply ≡ acceptedOf number c s reply
   unfolding acceptedOf

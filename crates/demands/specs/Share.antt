@@ -23,18 +23,18 @@ use Rattle.table.specs.Rules.{liveOn}
 use Rattle.table.specs.Change.{nobody, changedAt}
 use Rattle.requests.specs.declared.Create as C
 use Rattle.header.specs.Header.{headerOf}
-use Rattle.timing.specs.Timing.{Outcome}
+use Rattle.timing.specs.Outcome.{State, Outcome}
 use Rattle.control.specs.Amends.{causeTaken}
 use Rattle.control.specs.Creates.{acceptedTaken, noRoom}
 use Rattle.control.specs.Control.{controlTaken}
-use Rattle.demands.specs.Run.{State, Event, control, step, answered, reached, ofOctets, Run, Kept, reached-keeps, step-keeps}
+use Rattle.demands.specs.Run.{Event, control, step, answered, reached, ofOctets, Run, Kept, reached-keeps, step-keeps}
 use Rattle.demands.specs.Stays.{reached-plan, step-plan}
 use Rattle.demands.specs.Bounds.{at, u, reached-rules}
 use Rattle.demands.specs.Creates.{NewCreate, askedU, acceptedOf, refusedOf, create-accepted, create-refused, create-point, asked-less}
 
 -- ---- 73 exactly when the sharing rule says so, accepted otherwise; and what each leaves
 pub record Judged (p : Plan) (s : State) (d : List ℕ) (c : C.Create) (reply : List ℕ) : Type 0 where
-  pub refused : (answered (control d reply) s ≡ 73) ↔ (admits p (askedU c s) (c .point) ≡ false)
+  pub noReply : (answered (control d reply) s ≡ 73) ↔ (admits p (askedU c s) (c .point) ≡ false)
   pub accepted : (answered (control d reply) s ≡ 0) ↔ (admits p (askedU c s) (c .point) ≡ true)
   pub leaves : admits p (askedU c s) (c .point) ≡ true → controlTaken (s .node) (s .table) d reply ≡ acceptedOf (headerOf d .sequence) c s reply
   pub tells : admits p (askedU c s) (c .point) ≡ false → controlTaken (s .node) (s .table) d reply ≡ refusedOf (headerOf d .sequence) c s reply
@@ -54,7 +54,7 @@ module _ (p : Plan) (s : State) (kept : Kept s) (plan : s .node .plan ≡ p) (d 
 
   judged : Judged p s d c reply
   judged = record {
-    refused = ((λ f. split (admits p (askedU c s) (c .point)) (λ e. let z : _≡_ {A = ℕ} 0 73 = sym (number-yes e) ∙ f in absurd (omega arith)) (λ e. e)), number-no);
+    noReply = ((λ f. split (admits p (askedU c s) (c .point)) (λ e. let z : _≡_ {A = ℕ} 0 73 = sym (number-yes e) ∙ f in absurd (omega arith)) (λ e. e)), number-no);
     accepted = ((λ f. split (admits p (askedU c s) (c .point)) (λ e. e) (λ e. let z : _≡_ {A = ℕ} 73 0 = sym (number-no e) ∙ f in absurd (omega arith))), number-yes);
     leaves = create-accepted p s kept plan d c n reply room;
     tells = create-refused p s kept plan d c n reply room;
@@ -106,7 +106,7 @@ pub record FreedIsRoom : Type 0 where
   -- so it is where the call freed a place of the access point and left every other record as it was
   pub place : (p : Plan) (es : List Event) → Run p es → (e : Event) → ofOctets e ≡ true
       → (d : List ℕ) (c : C.Create) (i : ℕ) → isOn (c .point) (at (reached p es) i) ≡ true
-      → step e (reached p es) .table .recs ≡ changedAt freed i (reached p es .table .recs) → NewCreate p (step e (reached p es)) d c
+      → step e (reached p es) .table ≡ changedAt freed i (reached p es .table) → NewCreate p (step e (reached p es)) d c
       → (reply : List ℕ) → 128 ≤ length reply → answered (control d reply) (step e (reached p es)) ≡ 0
 
 -- the counts: u < g, or S has become less
@@ -173,9 +173,9 @@ freed-room p es r e o d c f n reply room =
     h : c .point < parties p
     h = create-point p (step e (reached p es)) k q d c n reply room
 
-one-fewer : (a i : ℕ) (before after : State) → isOn a (at before i) ≡ true → after .table .recs ≡ changedAt freed i (before .table .recs) → Fewer a before after
+one-fewer : (a i : ℕ) (before after : State) → isOn a (at before i) ≡ true → after .table ≡ changedAt freed i (before .table) → Fewer a before after
 one-fewer a i before after h e =
-    let o = one-less a i (before .table .recs) h in
+    let o = one-less a i (before .table) h in
     record {
       less = let l = o .less in rw e (omega arith);
       others = λ b. split (eqb a b)

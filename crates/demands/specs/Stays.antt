@@ -6,6 +6,7 @@ use mathlib.Core.List.{List, [], _∷_}
 use mathlib.Core.Path.{_≡_, refl, _∙_}
 use lib.ListN.{length, drop, getD}
 use lib.Dec.{eqb, ltb}
+use Rattle.session.specs.declared.Session.{Session}
 use Rattle.octets.specs.Choice.{split}
 use Rattle.plan.specs.declared.Plan.{Plan}
 use Rattle.plan.specs.Plan.{accepted}
@@ -13,7 +14,6 @@ use Rattle.sharing.specs.Sharing.{admits}
 use Rattle.session.specs.Request.{awaits}
 use Rattle.session.specs.Session.{isFree, hasId, freed}
 use Rattle.table.specs.declared.Node.{Node}
-use Rattle.table.specs.declared.Table.{Table}
 use Rattle.table.specs.declared.Found.{Found}
 use Rattle.table.specs.declared.Found.the-variants as F
 use Rattle.table.specs.Rules.{keepsRules, live}
@@ -31,7 +31,8 @@ use Rattle.requests.specs.declared.Decoded.{Decoded}
 use Rattle.requests.specs.declared.Decoded.the-variants as D
 use Rattle.requests.specs.declared.Request.the-variants as Q
 use Rattle.requests.specs.Create.{createOf, replyTo}
-use Rattle.timing.specs.Timing.{onSession, onOwner, leastReply, timed, held, refused, freshOf, tickOf, closeOf, echoSent, placeSent, dueSent, sendOf}
+use Rattle.timing.specs.Outcome.{State, onSession, onOwner, leastReply, noReply}
+use Rattle.timing.specs.Timing.{freshAnswer, timed, freshState, tickOf, closeOf, echoSent, placeSent, dueSent, sendOf}
 use Rattle.control.specs.Kind.{Kind, kindBy}
 use Rattle.control.specs.Kind as K
 use Rattle.control.specs.Echoes.{heardBy, echoTaken, echoEnded, echoReplyTaken}
@@ -39,29 +40,29 @@ use Rattle.control.specs.Amends.{causeTaken}
 use Rattle.control.specs.Creates.{acceptedTaken, openedAt, shared, isRepeat, settledAt, heardCreate, createBy, createTaken}
 use Rattle.control.specs.CreatesKept.{heard-plan}
 use Rattle.control.specs.Control.{kindTaken, gateTaken, controlTaken}
-use Rattle.demands.specs.Run.{State, left, Event, control, user, tick, send, close, line, step, run, line-step, start, reached}
+use Rattle.demands.specs.Run.{left, Event, control, user, tick, send, close, line, step, run, line-step, start, reached}
 
-echo-reply-plan : (node : Node) (t : Table) (seq : ℕ) (r : EchoReply) → echoReplyTaken node t seq r .node .plan ≡ node .plan
-unfolding echoReplyTaken echoEnded timed refused
-echo-reply-plan node t seq E.Unreadable = refl
-echo-reply-plan node t seq (E.Carries r) = split (awaits seq (node .echo)) (λ a. rw a (heard-plan r node t)) (λ a. rw a)
+echo-reply-plan : (node : Node) (t : List Session) (seq : ℕ) (r : EchoReply) (reply : List ℕ) → echoReplyTaken node t seq r reply .answer .node .plan ≡ node .plan
+unfolding echoReplyTaken echoEnded timed noReply
+echo-reply-plan node t seq E.Unreadable reply = refl
+echo-reply-plan node t seq (E.Carries r) reply = split (awaits seq (node .echo)) (λ a. rw a (heard-plan r node t)) (λ a. rw a)
 
-module _ (c : C.Create) (seq : ℕ) (node₀ : Node) (t₀ : Table) (reply : List ℕ) where
-  shared-plan : (node : Node) (t : Table) → node .plan ≡ node₀ .plan → shared c seq node t node₀ t₀ reply .answer .node .plan ≡ node₀ .plan
-  unfolding shared openedAt acceptedTaken causeTaken refused
-  shared-plan node t e = split (admits (node .plan) (live (t .recs)) (c .point)) (λ q. rw q (place (foundIn isFree (t .recs)))) (λ q. rw q e)
+module _ (c : C.Create) (seq : ℕ) (node₀ : Node) (t₀ : List Session) (reply : List ℕ) where
+  shared-plan : (node : Node) (t : List Session) → node .plan ≡ node₀ .plan → shared c seq node t node₀ t₀ reply .answer .node .plan ≡ node₀ .plan
+  unfolding shared openedAt acceptedTaken causeTaken noReply
+  shared-plan node t e = split (admits (node .plan) (live t) (c .point)) (λ q. rw q (place (foundIn isFree t))) (λ q. rw q e)
     where
       place : (f : Found) → openedAt f c seq node t node₀ t₀ reply .answer .node .plan ≡ node₀ .plan
       place F.Nothing = refl
       place (F.At i) = e
 
-  settled-plan : (node : Node) (t : Table) → node .plan ≡ node₀ .plan → (f : Found) → settledAt f c seq node t node₀ t₀ reply .answer .node .plan ≡ node₀ .plan
+  settled-plan : (node : Node) (t : List Session) → node .plan ≡ node₀ .plan → (f : Found) → settledAt f c seq node t node₀ t₀ reply .answer .node .plan ≡ node₀ .plan
   unfolding settledAt acceptedTaken
   settled-plan node t e F.Nothing = shared-plan node t e
   settled-plan node t e (F.At i) =
-      split (isRepeat c seq (getD (t .recs) i nobody)) (λ x. rw x e) (λ x. rw x (shared-plan node (held (changedAt freed i (t .recs))) e))
+      split (isRepeat c seq (getD t i nobody)) (λ x. rw x e) (λ x. rw x (shared-plan node (changedAt freed i t) e))
 
-create-plan : (node : Node) (t : Table) (seq : ℕ) (rest reply : List ℕ) → createTaken node t seq rest reply .answer .node .plan ≡ node .plan
+create-plan : (node : Node) (t : List Session) (seq : ℕ) (rest reply : List ℕ) → createTaken node t seq rest reply .answer .node .plan ≡ node .plan
 unfolding createTaken createBy heardCreate causeTaken
 create-plan node t seq rest reply = by (createOf (node .plan) rest)
   where
@@ -69,43 +70,43 @@ create-plan node t seq rest reply = by (createOf (node .plan) rest)
     by (D.Refused w) = refl
     by (D.Sound (Q.Create c)) =
         settled-plan c seq node t reply (heardBy (c .recovery) node t .node) (heardBy (c .recovery) node t .table) (heard-plan (c .recovery) node t)
-        (foundIn (hasId (c .imsi) (c .ebi)) (heardBy (c .recovery) node t .table .recs))
+        (foundIn (hasId (c .imsi) (c .ebi)) (heardBy (c .recovery) node t .table))
     by (D.Sound (Q.Modify m)) = refl
     by (D.Sound (Q.Delete d)) = refl
 
-module _ (node : Node) (t : Table) where
+module _ (node : Node) (t : List Session) where
   kind-plan : (k : Kind) (h : HeaderCursor) (rest reply : List ℕ) → kindTaken k h rest node t reply .answer .node .plan ≡ node .plan
-  unfolding kindTaken echoTaken onOwner onSession refused
+  unfolding kindTaken echoTaken onOwner onSession noReply
   kind-plan K.Echo h rest reply = heard-plan (carried.echoOf rest) node t
-  kind-plan K.EchoReply h rest reply = echo-reply-plan node t (h .sequence) (carried.echoReplyOf rest)
+  kind-plan K.EchoReply h rest reply = echo-reply-plan node t (h .sequence) (carried.echoReplyOf rest) reply
   kind-plan K.Create h rest reply = create-plan node t (h .sequence) rest reply
   kind-plan K.Named h rest reply = refl
   kind-plan K.Other h rest reply = refl
 
   control-plan : (d reply : List ℕ) → controlTaken node t d reply .answer .node .plan ≡ node .plan
-  unfolding controlTaken gateTaken refused
+  unfolding controlTaken gateTaken noReply
   control-plan d reply =
       split (ltb (length reply) leastReply) (λ a. rw a)
-      (λ a. split (keepsRules node (t .recs))
+      (λ a. split (keepsRules node t)
       (λ e. split (eqb (gateOf d) 0) (λ b. rw (a, e, b) (kind-plan (kindBy (headerOf d .kind)) (headerOf d) (drop (headerOf d .fields) d) reply))
       (λ b. split (eqb (gateOf d) 5) (λ c. rw (a, e, b, c)) (λ c. rw (a, e, b, c))))
       (λ e. rw (a, e)))
 
-  tick-plan : tickOf node t .node .plan ≡ node .plan
-  unfolding tickOf timed refused
-  tick-plan = split (keepsRules node (t .recs)) (λ e. rw e) (λ e. rw e)
+  tick-plan : tickOf node t .answer .node .plan ≡ node .plan
+  unfolding tickOf timed noReply
+  tick-plan = split (keepsRules node t) (λ e. rw e) (λ e. rw e)
 
-  close-plan : (i : ℕ) → closeOf node t i .node .plan ≡ node .plan
-  unfolding closeOf onSession refused
-  close-plan i = split (keepsRules node (t .recs)) (λ e. rw e) (λ e. rw e)
+  close-plan : (i : ℕ) → closeOf node t i .answer .node .plan ≡ node .plan
+  unfolding closeOf onSession noReply
+  close-plan i = split (keepsRules node t) (λ e. rw e) (λ e. rw e)
 
   send-plan : (reply : List ℕ) → sendOf node t reply .answer .node .plan ≡ node .plan
-  unfolding sendOf dueSent echoSent placeSent timed refused
+  unfolding sendOf dueSent echoSent placeSent timed noReply
   send-plan reply =
       split (ltb (length reply) leastReply) (λ a. rw a)
-      (λ a. split (keepsRules node (t .recs))
+      (λ a. split (keepsRules node t)
       (λ e. split (eqb (node .echo .timer) 0) (λ z. rw (a, e, z))
-      (λ z. split (ltb (duePlace (t .recs)) (length (t .recs))) (λ d. rw (a, e, z, d)) (λ d. rw (a, e, z, d))))
+      (λ z. split (ltb (duePlace t) (length t)) (λ d. rw (a, e, z, d)) (λ d. rw (a, e, z, d))))
       (λ e. rw (a, e)))
 
 pub step-plan : (e : Event) (s : State) → step e s .node .plan ≡ s .node .plan
@@ -123,7 +124,7 @@ run-plan [] s = refl
 run-plan (e ∷ es) s = run-plan es (step e s) ∙ step-plan e s
 
 pub start-plan : (p : Plan) → accepted p ≡ true → start p .node .plan ≡ p
-unfolding start left freshOf freshNode
+unfolding start freshState freshAnswer freshNode
 start-plan p a = rw a
 
 pub reached-plan : (p : Plan) (es : List Event) → accepted p ≡ true → reached p es .node .plan ≡ p

@@ -21,8 +21,9 @@ use Rattle.session.specs.Session.{isFree, freed, blankAt, turned, ticked}
 use Rattle.table.specs.Rules.{rules-of}
 use Rattle.table.specs.Change.{nobody}
 use Rattle.table.specs.Own.{rested, echoTicked, allTicked, freshNode}
-use Rattle.timing.specs.Timing.{timed, held, freshOf, tickOf}
-use Rattle.demands.specs.Run.{State, left, Event, tick, step, run, start, reached, ofOctets, Run, Kept, start-keeps, step-keeps, reached-keeps}
+use Rattle.timing.specs.Timing.{freshAnswer, timed, freshState, tickOf}
+use Rattle.timing.specs.Outcome.{State, noReply}
+use Rattle.demands.specs.Run.{left, Event, tick, step, run, start, reached, ofOctets, Run, Kept, start-keeps, step-keeps, reached-keeps}
 use Rattle.demands.specs.Stays.{start-plan, step-plan, reached-plan}
 use Rattle.demands.specs.Bounds.{at, reached-rules}
 use Rattle.demands.specs.Examples.{first, echo}
@@ -41,19 +42,18 @@ pub record EveryTickCounts : Type 0 where
 
 tick-is : (s : State) → Kept s → step tick s ≡ record {
   node = timed (echoTicked (s .node .plan) (s .node .echo)) (s .node .next) (s .node);
-  table = held (allTicked (s .node .plan) (s .node .echo) (s .table .recs));
+  table = (allTicked (s .node .plan) (s .node .echo) (s .table));
 }
-unfolding step left tickOf
+unfolding step left tickOf noReply
 tick-is s k = rw k
 
-module _ (p : Plan) (s : State) (k : Kept s) (plan : s .node .plan ≡ p) (size : length (s .table .recs) ≡ 64) where
+module _ (p : Plan) (s : State) (k : Kept s) (plan : s .node .plan ≡ p) (size : length (s .table) ≡ 64) where
   tick-echo : step tick s .node .echo ≡ echoTicked p (s .node .echo)
   unfolding timed
   tick-echo = ap (λ (x : State). x .node .echo) (tick-is s k) ∙ ap (λ (x : Plan). echoTicked x (s .node .echo)) plan
 
-  tick-recs : step tick s .table .recs ≡ allTicked p (s .node .echo) (s .table .recs)
-  unfolding held
-  tick-recs = ap (λ (x : State). x .table .recs) (tick-is s k) ∙ ap (λ (x : Plan). allTicked x (s .node .echo) (s .table .recs)) plan
+  tick-recs : step tick s .table ≡ allTicked p (s .node .echo) (s .table)
+  tick-recs = ap (λ (x : State). x .table) (tick-is s k) ∙ ap (λ (x : Plan). allTicked x (s .node .echo) (s .table)) plan
 
   echo-down : 0 < s .node .echo .timer → spent (p .sends) (s .node .echo) ≡ false → step tick s .node .echo .timer + 1 ≡ s .node .echo .timer
   unfolding echoTicked countedDown
@@ -61,11 +61,11 @@ module _ (p : Plan) (s : State) (k : Kept s) (plan : s .node .plan ≡ p) (size 
 
   pub place-ticked : (i : ℕ) → i < 64 → spent (p .sends) (s .node .echo) ≡ false → at (step tick s) i ≡ ticked (p .sends) (at s i)
   unfolding allTicked
-  place-ticked i h n = rw (tick-recs, n) (map-at (ticked (p .sends)) (s .table .recs) i nobody nobody (omega arith))
+  place-ticked i h n = rw (tick-recs, n) (map-at (ticked (p .sends)) (s .table) i nobody nobody (omega arith))
 
   pub all-freed : (i : ℕ) → i < 64 → spent (p .sends) (s .node .echo) ≡ true → at (step tick s) i ≡ freed (at s i)
   unfolding allTicked
-  all-freed i h n = rw (tick-recs, n) (map-at freed (s .table .recs) i nobody nobody (omega arith))
+  all-freed i h n = rw (tick-recs, n) (map-at freed (s .table) i nobody nobody (omega arith))
 
   place-down : (i : ℕ) → i < 64 → 0 < at s i .own .timer → spent (p .sends) (s .node .echo) ≡ false → spent (p .sends) (at s i .own) ≡ false
       → at (step tick s) i .own .timer + 1 ≡ at s i .own .timer
@@ -87,10 +87,10 @@ unsent n r z h = rw (z, lt-leb n 0 h) (and-no (eqb (r .timer) 1))
 
 falls-sends : (p : Plan) (s : State) → Kept s → s .node .plan ≡ p → spent (p .sends) (s .node .echo) ≡ false → s .node .echo .sends ≡ 0 → step tick s .node .echo .sends ≡ 0
 unfolding echoTicked countedDown places
-falls-sends p s k q u z = rw (tick-echo p s k q (rules-of (s .node) (s .table .recs) k .size), u) z
+falls-sends p s k q u z = rw (tick-echo p s k q (rules-of (s .node) (s .table) k .size), u) z
 
 start-echo : (p : Plan) → accepted p ≡ true → start p .node .echo ≡ rested (p .interval) idle
-unfolding start left freshOf freshNode
+unfolding start freshState freshAnswer freshNode
 start-echo p a = rw a
 
 echo-falls : (p : Plan) → 1 ≤ p .sends → (k : ℕ) (s : State) → Kept s → s .node .plan ≡ p → s .node .echo .sends ≡ 0 → k ≤ s .node .echo .timer
@@ -99,7 +99,7 @@ unfolding run places ofOctets
 echo-falls p some zero s k q z h = omega arith
 echo-falls p some (suc n) s k q z h =
     let u = unsent (p .sends) (s .node .echo) z some in
-    let d = echo-down p s k q (rules-of (s .node) (s .table .recs) k .size) (omega arith) u in
+    let d = echo-down p s k q (rules-of (s .node) (s .table) k .size) (omega arith) u in
     let y = falls-sends p s k q u z in
     let r = echo-falls p some n (step tick s) (step-keeps tick s refl k) (step-plan tick s ∙ q) y (omega arith) in
     omega arith

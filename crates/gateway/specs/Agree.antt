@@ -5,59 +5,62 @@ use Prim.Native.Nat.{ℕ}
 use mathlib.Core.List.{List}
 use mathlib.Core.Path.{_≡_, sym, _∙_, ap}
 use denote.Ref.{RefT}
+use Rattle.session.specs.declared.Session.{Session}
 use Rattle.plan.specs.declared.Plan.{Plan}
 use Rattle.table.specs.declared.Node.{Node}
-use Rattle.table.specs.declared.Table.{Table}
 use Rattle.gpdu.specs.Part.{IsRest}
 use Rattle.timing.specs.declared.Answer.{Answer}
-use Rattle.timing.specs.Timing.{Outcome, outcome, freshOf, tickOf, closeOf, sendOf}
+use Rattle.timing.specs.Outcome.{Outcome, outcome}
+use Rattle.timing.specs.Timing.{freshOf, tickOf, closeOf, sendOf}
 use Rattle.control.specs.Control.{controlTaken}
 use Rattle.placeline.specs.Line.{lineOf}
 use Rattle.userside.specs.UserSide.{Took, took, userTaken}
 
--- ---- the one law: a contract that sets an answer and a buffer equal to one outcome leaves nothing open
-pub outcome-fixes : (w : Outcome) (a b : Answer) (x y : List ℕ) → outcome a x ≡ w → outcome b y ≡ w → (a ≡ b) × (x ≡ y)
-outcome-fixes w a b x y e f =
-    let g : outcome a x ≡ outcome b y = e ∙ sym f in
-    (ap (λ (o : Outcome). o .answer) g, ap (λ (o : Outcome). o .reply) g)
+-- ---- the one law: a contract that sets an answer, the records and a buffer equal to one outcome leaves nothing open
+pub record Same (a b : Answer) (l m : List Session) (x y : List ℕ) : Type 0 where
+  pub answer : a ≡ b
+  pub table : l ≡ m
+  pub reply : x ≡ y
 
--- the same for the calls that write no reply
-pub answer-fixes : (w a b : Answer) → a ≡ w → b ≡ w → a ≡ b
-answer-fixes w a b e f = e ∙ sym f
+pub outcome-fixes : (w : Outcome) (a b : Answer) (l m : List Session) (x y : List ℕ) → outcome a l x ≡ w → outcome b m y ≡ w → Same a b l m x y
+outcome-fixes w a b l m x y e f =
+    let g : outcome a l x ≡ outcome b m y = e ∙ sym f in
+    record { answer = ap (λ (o : Outcome). o .answer) g; table = ap (λ (o : Outcome). o .table) g; reply = ap (λ (o : Outcome). o .reply) g }
+
+-- whatever comes to this outcome, twice
+abbrev pub Agrees : Outcome → Type 0
+Agrees w = (a b : Answer) (l m : List Session) (x y : List ℕ) → outcome a l x ≡ w → outcome b m y ≡ w → Same a b l m x y
 
 -- ---- each call with its contract, twice
 unfoldable pub FreshAgrees : Type 0
-FreshAgrees = (plan : Plan) (a b : Answer) → a ≡ freshOf plan → b ≡ freshOf plan → a ≡ b
+FreshAgrees = (plan : Plan) (t : List Session) → Agrees (freshOf plan t)
 
 unfoldable pub TickAgrees : Type 0
-TickAgrees = (node : Node) (t : Table) (a b : Answer) → a ≡ tickOf node t → b ≡ tickOf node t → a ≡ b
+TickAgrees = (node : Node) (t : List Session) → Agrees (tickOf node t)
 
 unfoldable pub CloseAgrees : Type 0
-CloseAgrees = (node : Node) (t : Table) (place : ℕ) (a b : Answer) → a ≡ closeOf node t place → b ≡ closeOf node t place → a ≡ b
+CloseAgrees = (node : Node) (t : List Session) (place : ℕ) → Agrees (closeOf node t place)
 
 unfoldable pub SendAgrees : Type 0
-SendAgrees = (node : Node) (t : Table) (reply : List ℕ) (a b : Answer) (x y : List ℕ)
-    → outcome a x ≡ sendOf node t reply → outcome b y ≡ sendOf node t reply → (a ≡ b) × (x ≡ y)
+SendAgrees = (node : Node) (t : List Session) (reply : List ℕ) → Agrees (sendOf node t reply)
 
 unfoldable pub ControlAgrees : Type 0
-ControlAgrees = (node : Node) (t : Table) (d reply : List ℕ) (a b : Answer) (x y : List ℕ)
-    → outcome a x ≡ controlTaken node t d reply → outcome b y ≡ controlTaken node t d reply → (a ≡ b) × (x ≡ y)
+ControlAgrees = (node : Node) (t : List Session) (d reply : List ℕ) → Agrees (controlTaken node t d reply)
 
 unfoldable pub LineAgrees : Type 0
-LineAgrees = (node : Node) (t : Table) (place : ℕ) (reply : List ℕ) (a b : Answer) (x y : List ℕ)
-    → outcome a x ≡ lineOf node t place reply → outcome b y ≡ lineOf node t place reply → (a ≡ b) × (x ≡ y)
+LineAgrees = (node : Node) (t : List Session) (place : ℕ) (reply : List ℕ) → Agrees (lineOf node t place reply)
 
 pub fresh-agrees : FreshAgrees
 unfolding FreshAgrees
-fresh-agrees plan = answer-fixes (freshOf plan)
+fresh-agrees plan t = outcome-fixes (freshOf plan t)
 
 pub tick-agrees : TickAgrees
 unfolding TickAgrees
-tick-agrees node t = answer-fixes (tickOf node t)
+tick-agrees node t = outcome-fixes (tickOf node t)
 
 pub close-agrees : CloseAgrees
 unfolding CloseAgrees
-close-agrees node t place = answer-fixes (closeOf node t place)
+close-agrees node t place = outcome-fixes (closeOf node t place)
 
 pub send-agrees : SendAgrees
 unfolding SendAgrees
@@ -81,10 +84,10 @@ pub record Left : Type 0 where
   pub part : RefT (List ℕ)
 
 -- the call's contract on what it leaves, of the datagram d as it is lent
-unfoldable pub UserMeets : Node → Table → RefT (List ℕ) → List ℕ → Left → Type 0
+unfoldable pub UserMeets : Node → List Session → RefT (List ℕ) → List ℕ → Left → Type 0
 UserMeets node t d reply o =
-    (took (o .number) (o .place) (o .size) (o .reply) (userTaken node (t .recs) (d .now) reply .start) ≡ userTaken node (t .recs) (d .now) reply)
-    × IsRest (o .part) d (userTaken node (t .recs) (d .now) reply .start)
+    (took (o .number) (o .place) (o .size) (o .reply) (userTaken node t (d .now) reply .start) ≡ userTaken node t (d .now) reply)
+    × IsRest (o .part) d (userTaken node t (d .now) reply .start)
 
 -- a part is where it lies and what it holds: the block, the place in the block, and the octets. The ghost name of a reference, under which
 -- proofs track its value and which no running program has, is not among them
@@ -101,7 +104,7 @@ pub record UserSame (a b : Left) : Type 0 where
   pub part : SamePart (a .part) (b .part)
 
 unfoldable pub UserAgrees : Type 0
-UserAgrees = (node : Node) (t : Table) (d : RefT (List ℕ)) (reply : List ℕ) (a b : Left)
+UserAgrees = (node : Node) (t : List Session) (d : RefT (List ℕ)) (reply : List ℕ) (a b : Left)
     → UserMeets node t d reply a → UserMeets node t d reply b → UserSame a b
 
 part-fixes : (r s d : RefT (List ℕ)) (n : ℕ) → IsRest r d n → IsRest s d n → SamePart r s
@@ -123,7 +126,7 @@ took-fixes w a b d e r f s =
 
 pub user-agrees : UserAgrees
 unfolding UserAgrees UserMeets
-user-agrees node t d reply a b e f = took-fixes (userTaken node (t .recs) (d .now) reply) a b d (e .0) (e .1) (f .0) (f .1)
+user-agrees node t d reply a b e f = took-fixes (userTaken node t (d .now) reply) a b d (e .0) (e .1) (f .0) (f .1)
 
 -- ---- all of them
 pub record OutcomesAgree : Type 0 where

@@ -8,53 +8,54 @@ use mathlib.Core.List.{List}
 use mathlib.Core.Path.{_≡_, refl}
 use lib.ListN.{length}
 use lib.Dec.{ltb}
+use Rattle.session.specs.declared.Session.{Session}
 use Rattle.octets.specs.Choice.{split}
 use Rattle.octets.specs.Every.{every}
 use Rattle.octets.specs.BigEndian.{isOctet}
+use Rattle.tunnel.specs.Numbering.{places}
 use Rattle.plan.specs.declared.Plan.{Plan}
 use Rattle.plan.specs.Plan.{accepted}
 use Rattle.table.specs.declared.Node.{Node}
-use Rattle.table.specs.declared.Table.{Table}
 use Rattle.table.specs.Rules.{keepsRules}
-use Rattle.timing.specs.declared.Answer.{Answer}
-use Rattle.timing.specs.Timing.{leastReply, refused, freshOf, tickOf, closeOf, sendOf}
-use Rattle.timing.specs.Kept.{fresh-keeps, tick-keeps, close-keeps, send-keeps}
+use Rattle.timing.specs.Outcome.{Outcome, leastReply}
+use Rattle.timing.specs.Timing.{freshState, freshOf, tickOf, closeOf, sendOf}
+use Rattle.timing.specs.Kept.{fresh-leaves, fresh-keeps, tick-keeps, close-keeps, send-keeps}
 use Rattle.control.specs.Control.{controlTaken}
 use Rattle.control.specs.Kept.{control-keeps}
-use Rattle.placeline.specs.Line.{lineOf}
+use Rattle.placeline.specs.Line.{lineBy, lineOf}
 
--- a node with its table keeps the rules; the same of what a call answers
-abbrev pub Keeps : Node → Table → Type 0
-Keeps node t = keepsRules node (t .recs) ≡ true
+-- a node with its table keeps the rules; the same of what a call comes to
+abbrev pub Keeps : Node → List Session → Type 0
+Keeps node t = keepsRules node t ≡ true
 
-abbrev pub LeavesKept : Answer → Type 0
-LeavesKept a = Keeps (a .node) (a .table)
+abbrev pub LeavesKept : Outcome → Type 0
+LeavesKept o = Keeps (o .answer .node) (o .table)
 
 -- under an accepted plan the unit starts with the rules kept
 unfoldable pub FreshKeeps : Type 0
-FreshKeeps = (plan : Plan) → accepted plan ≡ true → LeavesKept (freshOf plan)
+FreshKeeps = (plan : Plan) (t : List Session) → length t ≡ places → accepted plan ≡ true → LeavesKept (freshOf plan t)
 
 unfoldable pub TickKeeps : Type 0
-TickKeeps = (node : Node) (t : Table) → Keeps node t → LeavesKept (tickOf node t)
+TickKeeps = (node : Node) (t : List Session) → Keeps node t → LeavesKept (tickOf node t)
 
 unfoldable pub CloseKeeps : Type 0
-CloseKeeps = (node : Node) (t : Table) (place : ℕ) → Keeps node t → LeavesKept (closeOf node t place)
+CloseKeeps = (node : Node) (t : List Session) (place : ℕ) → Keeps node t → LeavesKept (closeOf node t place)
 
 unfoldable pub SendKeeps : Type 0
-SendKeeps = (node : Node) (t : Table) (reply : List ℕ) → Keeps node t → LeavesKept (sendOf node t reply .answer)
+SendKeeps = (node : Node) (t : List Session) (reply : List ℕ) → Keeps node t → LeavesKept (sendOf node t reply)
 
 unfoldable pub ControlKeeps : Type 0
-ControlKeeps = (node : Node) (t : Table) (d reply : List ℕ) → every isOctet d ≡ true → Keeps node t → LeavesKept (controlTaken node t d reply .answer)
+ControlKeeps = (node : Node) (t : List Session) (d reply : List ℕ) → every isOctet d ≡ true → Keeps node t → LeavesKept (controlTaken node t d reply)
 
 unfoldable pub LineLeaves : Type 0
-LineLeaves = (node : Node) (t : Table) (place : ℕ) (reply : List ℕ) → (lineOf node t place reply .answer .node ≡ node) × (lineOf node t place reply .answer .table ≡ t)
+LineLeaves = (node : Node) (t : List Session) (place : ℕ) (reply : List ℕ) → (lineOf node t place reply .answer .node ≡ node) × (lineOf node t place reply .table ≡ t)
 
 line-leaves : LineLeaves
-unfolding LineLeaves lineOf refused
+unfolding LineLeaves lineOf lineBy
 line-leaves node t place reply =
     split (ltb (length reply) leastReply) (λ a. rw a (refl, refl))
-    (λ a. split (keepsRules node (t .recs))
-    (λ b. split (ltb place (length (t .recs))) (λ c. rw (a, b, c) (refl, refl)) (λ c. rw (a, b, c) (refl, refl)))
+    (λ a. split (keepsRules node t)
+    (λ b. split (ltb place (length t)) (λ c. rw (a, b, c) (refl, refl)) (λ c. rw (a, b, c) (refl, refl)))
     (λ b. rw (a, b) (refl, refl)))
 
 -- all of them
@@ -67,9 +68,9 @@ pub record CallsKeep : Type 0 where
   pub line : LineLeaves
 
 pub calls-keep : CallsKeep
-unfolding FreshKeeps TickKeeps CloseKeeps SendKeeps ControlKeeps
+unfolding freshState FreshKeeps TickKeeps CloseKeeps SendKeeps ControlKeeps
 calls-keep = record {
-  fresh = fresh-keeps;
+  fresh = λ plan t n a. rw (fresh-leaves plan t n) (fresh-keeps plan a);
   tick = tick-keeps;
   close = λ node t place e. close-keeps node t e place;
   send = λ node t reply e. send-keeps node t e reply;

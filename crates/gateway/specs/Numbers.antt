@@ -11,7 +11,7 @@ use borrow.Author.Tests.{eqb-true, lt-ltb}
 use Rattle.octets.specs.Choice.{split, impossible, and-left, and-right, or-split}
 use Rattle.octets.specs.Every.{every}
 use Rattle.octets.specs.Search.{firstOf}
-use Rattle.tunnel.specs.Numbering.{controlOffset}
+use Rattle.tunnel.specs.Numbering.{places, controlOffset}
 use Rattle.plan.specs.declared.Plan.{Plan}
 use Rattle.plan.specs.Plan.{accepted}
 use Rattle.sharing.specs.Sharing.{admits}
@@ -19,7 +19,6 @@ use Rattle.session.specs.declared.Session.{Session}
 use Rattle.session.specs.Request.{awaits}
 use Rattle.session.specs.Session.{isFree, hasId, waitsFor, freed}
 use Rattle.table.specs.declared.Node.{Node}
-use Rattle.table.specs.declared.Table.{Table}
 use Rattle.table.specs.declared.Found.{Found}
 use Rattle.table.specs.declared.Found.the-variants as F
 use Rattle.table.specs.Rules.{keepsRules, rules-of, rules-to, live}
@@ -43,15 +42,16 @@ use Rattle.requests.specs.declared.Request.the-variants as Q
 use Rattle.requests.specs.Create.{createOf, replyTo}
 use Rattle.changes.specs.Change.{modifyOf, deleteOf}
 use Rattle.requestclaims.specs.Answers.{numberFor, CreateAnswers, ModifyAnswers, DeleteAnswers, createNumbers, modifyNumbers, deleteNumbers, create-answers, modify-answers, delete-answers}
-use Rattle.timing.specs.declared.Answer.{Answer}
-use Rattle.timing.specs.Timing.{Outcome, Done, quiet, onSession, onOwner, leastReply, held, refused, freshOf, tickOf, closeOn, closeOf, echoSent, placeSent, dueSent, sendOf}
+use Rattle.timing.specs.Outcome.{Outcome, Done, quiet, onSession, onOwner, leastReply, noReply}
+use Rattle.timing.specs.Kept.{fresh-leaves}
+use Rattle.timing.specs.Timing.{freshAnswer, freshOf, tickOf, closeOn, closeOf, echoSent, placeSent, dueSent, sendOf}
 use Rattle.control.specs.Kind.{Kind, kindBy}
 use Rattle.control.specs.Kind as K
 use Rattle.control.specs.Echoes.{heardBy, echoTaken, echoEnded, echoReplyTaken, heard-keeps}
 use Rattle.control.specs.Amends.{causeTaken, causeOn, notLive, movedOn, modifyRead, modifyOn, freedOn, deleteRead, deleteOn, bearerBy, bearerOn, sessionOf}
 use Rattle.control.specs.Creates.{acceptedTaken, noRoom, openedAt, shared, isRepeat, settledAt, heardCreate, createBy, createTaken}
 use Rattle.control.specs.Control.{kindTaken, gateTaken, controlTaken}
-use Rattle.placeline.specs.Line.{lineOf}
+use Rattle.placeline.specs.Line.{lineBy, lineOf}
 
 -- the numbers that each call may answer, of a table that keeps its rules
 unfoldable pub freshNumbers : List ℕ
@@ -87,43 +87,40 @@ pub among-other : (n m : ℕ) (l : List ℕ) → among n l ≡ true → among m 
 among-other n m l h f e = impossible (sym f ∙ rw (← e) h)
 
 -- ---- fresh, tick, close, send, line
-fresh-number : (p : Plan) → among (freshOf p .number) freshNumbers ≡ true
-unfolding freshOf freshNumbers
-fresh-number p = split (accepted p) (λ q. rw q) (λ q. rw q)
+fresh-number : (p : Plan) (t : List Session) → length t ≡ places → among (freshOf p t .answer .number) freshNumbers ≡ true
+unfolding freshAnswer freshNumbers
+fresh-number p t n = rw (fresh-leaves p t n) (split (accepted p) (λ q. rw q) (λ q. rw q))
 
-module _ (node : Node) (t : Table) (e : keepsRules node (t .recs) ≡ true) where
-  tick-number : among (tickOf node t .number) tickNumbers ≡ true
-  unfolding tickOf tickNumbers
+module _ (node : Node) (t : List Session) (e : keepsRules node t ≡ true) where
+  tick-number : among (tickOf node t .answer .number) tickNumbers ≡ true
+  unfolding tickOf noReply tickNumbers
   tick-number = rw e
 
-  close-number : (i : ℕ) → among (closeOf node t i .number) closeNumbers ≡ true
+  close-number : (i : ℕ) → among (closeOf node t i .answer .number) closeNumbers ≡ true
   unfolding closeOf onSession closeOn quiet closeNumbers
-  close-number i = split (isFree (getD (t .recs) i nobody)) (λ q. rw (e, q)) (λ q. rw (e, q))
+  close-number i = split (isFree (getD t i nobody)) (λ q. rw (e, q)) (λ q. rw (e, q))
 
   send-number : (reply : List ℕ) → among (sendOf node t reply .answer .number) sendNumbers ≡ true
-  unfolding sendOf dueSent echoSent placeSent refused sendNumbers
+  unfolding sendOf dueSent echoSent placeSent noReply sendNumbers
   send-number reply =
       split (ltb (length reply) leastReply) (λ q. rw q)
       (λ q. split (eqb (node .echo .timer) 0) (λ z. rw (q, e, z))
-      (λ z. split (ltb (duePlace (t .recs)) (length (t .recs))) (λ d. rw (q, e, z, d)) (λ d. rw (q, e, z, d))))
+      (λ z. split (ltb (duePlace t) (length t)) (λ d. rw (q, e, z, d)) (λ d. rw (q, e, z, d))))
 
   line-number : (place : ℕ) (reply : List ℕ) → among (lineOf node t place reply .answer .number) lineNumbers ≡ true
-  unfolding lineOf refused lineNumbers
+  unfolding lineOf lineBy lineNumbers
   line-number place reply =
       split (ltb (length reply) leastReply) (λ q. rw q)
-      (λ q. split (ltb place (length (t .recs))) (λ h. rw (q, e, h)) (λ h. rw (q, e, h)))
+      (λ q. split (ltb place (length t)) (λ h. rw (q, e, h)) (λ h. rw (q, e, h)))
 
 -- ---- take control datagram, type by type
 abbrev Answered : Outcome → Type 0
 Answered o = among (o .answer .number) controlNumbers ≡ true
 
-abbrev AnsweredBare : Answer → Type 0
-AnsweredBare a = among (a .number) controlNumbers ≡ true
-
-echo-reply-number : (node : Node) (t : Table) (seq : ℕ) (r : EchoReply) → AnsweredBare (echoReplyTaken node t seq r)
-unfolding echoReplyTaken echoEnded refused controlNumbers
-echo-reply-number node t seq E.Unreadable = refl
-echo-reply-number node t seq (E.Carries recovery) = split (awaits seq (node .echo)) (λ q. rw q) (λ q. rw q)
+echo-reply-number : (node : Node) (t : List Session) (seq : ℕ) (r : EchoReply) (reply : List ℕ) → Answered (echoReplyTaken node t seq r reply)
+unfolding echoReplyTaken noReply controlNumbers
+echo-reply-number node t seq E.Unreadable reply = refl
+echo-reply-number node t seq (E.Carries recovery) reply = split (awaits seq (node .echo)) (λ q. rw q) (λ q. rw q)
 
 -- what concerns one session
 abbrev AnsweredOn : Done → Type 0
@@ -169,21 +166,21 @@ unfolding foundIn freePlace
 free-found node l a e q =
     rw (lt-ltb (firstOf isFree l) (length l) (place-free (node .plan) (node .echo) (node .next) l (rules-of node l e) a q))
 
-module _ (c : C.Create) (seq : ℕ) (node₀ : Node) (t₀ : Table) (reply : List ℕ) where
-  shared-number : (node : Node) (t : Table) → keepsRules node (t .recs) ≡ true → Answered (shared c seq node t node₀ t₀ reply)
+module _ (c : C.Create) (seq : ℕ) (node₀ : Node) (t₀ : List Session) (reply : List ℕ) where
+  shared-number : (node : Node) (t : List Session) → keepsRules node t ≡ true → Answered (shared c seq node t node₀ t₀ reply)
   unfolding shared openedAt acceptedTaken causeTaken noRoom controlNumbers
   shared-number node t e =
-      split (admits (node .plan) (live (t .recs)) (c .point)) (λ q. rw (q, free-found node (t .recs) (c .point) e q)) (λ q. rw q)
+      split (admits (node .plan) (live t) (c .point)) (λ q. rw (q, free-found node t (c .point) e q)) (λ q. rw q)
 
-  settled-number : (node : Node) (t : Table) → keepsRules node (t .recs) ≡ true → (f : Found) → Answered (settledAt f c seq node t node₀ t₀ reply)
-  unfolding settledAt acceptedTaken held controlNumbers
+  settled-number : (node : Node) (t : List Session) → keepsRules node t ≡ true → (f : Found) → Answered (settledAt f c seq node t node₀ t₀ reply)
+  unfolding settledAt acceptedTaken controlNumbers
   settled-number node t e F.Nothing = shared-number node t e
   settled-number node t e (F.At i) =
-      split (isRepeat c seq (getD (t .recs) i nobody)) (λ x. rw x)
-      (λ x. rw x (shared-number node (held (changedAt freed i (t .recs)))
-      (rules-to node (changedAt freed i (t .recs)) (rules-freed (node .plan) (node .echo) (node .next) (t .recs) (rules-of node (t .recs) e) i))))
+      split (isRepeat c seq (getD t i nobody)) (λ x. rw x)
+      (λ x. rw x (shared-number node (changedAt freed i t)
+      (rules-to node (changedAt freed i t) (rules-freed (node .plan) (node .echo) (node .next) t (rules-of node t e) i))))
 
-create-number : (node : Node) (t : Table) (seq : ℕ) (rest reply : List ℕ) → keepsRules node (t .recs) ≡ true → Answered (createTaken node t seq rest reply)
+create-number : (node : Node) (t : List Session) (seq : ℕ) (rest reply : List ℕ) → keepsRules node t ≡ true → Answered (createTaken node t seq rest reply)
 unfolding createTaken createBy heardCreate causeTaken notLive numberFor CreateAnswers createNumbers controlNumbers every
 create-number node t seq rest reply e = by (createOf (node .plan) rest) (create-answers (node .plan) rest .number)
   where
@@ -191,7 +188,7 @@ create-number node t seq rest reply e = by (createOf (node .plan) rest) (create-
     by (D.Refused w) h = among-more (w .cause) createNumbers controlNumbers refl h
     by (D.Sound (Q.Create c)) h =
         settled-number c seq node t reply (heardBy (c .recovery) node t .node) (heardBy (c .recovery) node t .table) (heard-keeps node t e (c .recovery))
-        (foundIn (hasId (c .imsi) (c .ebi)) (heardBy (c .recovery) node t .table .recs))
+        (foundIn (hasId (c .imsi) (c .ebi)) (heardBy (c .recovery) node t .table))
     by (D.Sound (Q.Modify m)) h = refl
     by (D.Sound (Q.Delete d)) h = refl
 
@@ -219,17 +216,17 @@ gate-number d =
     (not (eqb (flagOf (kindOf d)) (flagT d))) (not (eqb (lengthOf d + 4) (length d))) (ltb (length d) (headerSize d))
     (eqb (kindOf d) createType && ltb 0 (teidOf d))
 
-module _ (node : Node) (t : Table) (e : keepsRules node (t .recs) ≡ true) (reply : List ℕ) where
+module _ (node : Node) (t : List Session) (e : keepsRules node t ≡ true) (reply : List ℕ) where
   kind-number : (k : Kind) (h : HeaderCursor) (rest : List ℕ) → Answered (kindTaken k h rest node t reply)
-  unfolding kindTaken echoTaken onOwner onSession refused controlNumbers
+  unfolding kindTaken echoTaken onOwner onSession noReply controlNumbers
   kind-number K.Echo h rest = refl
-  kind-number K.EchoReply h rest = echo-reply-number node t (h .sequence) (carried.echoReplyOf rest)
+  kind-number K.EchoReply h rest = echo-reply-number node t (h .sequence) (carried.echoReplyOf rest) reply
   kind-number K.Create h rest = create-number node t (h .sequence) rest reply e
-  kind-number K.Named h rest = session-number h rest (getD (t .recs) (placeFound (ownerOf controlOffset (h .teid) (t .recs)) (t .recs)) nobody)
+  kind-number K.Named h rest = session-number h rest (getD t (placeFound (ownerOf controlOffset (h .teid) t) t) nobody)
   kind-number K.Other h rest = refl
 
   control-number : (d : List ℕ) → Answered (controlTaken node t d reply)
-  unfolding controlTaken gateTaken refused controlNumbers
+  unfolding controlTaken gateTaken noReply controlNumbers
   control-number d =
       split (ltb (length reply) leastReply) (λ a. rw a)
       (λ a. split (eqb (gateOf d) 0) (λ b. rw (a, e, b) (kind-number (kindBy (headerOf d .kind)) (headerOf d) (drop (headerOf d .fields) d)))
@@ -237,22 +234,22 @@ module _ (node : Node) (t : Table) (e : keepsRules node (t .recs) ≡ true) (rep
 
 -- ---- the claims
 unfoldable pub FreshNumbers : Type 0
-FreshNumbers = (plan : Plan) → among (freshOf plan .number) freshNumbers ≡ true
+FreshNumbers = (plan : Plan) (t : List Session) → length t ≡ places → among (freshOf plan t .answer .number) freshNumbers ≡ true
 
 unfoldable pub TickNumbers : Type 0
-TickNumbers = (node : Node) (t : Table) → keepsRules node (t .recs) ≡ true → among (tickOf node t .number) tickNumbers ≡ true
+TickNumbers = (node : Node) (t : List Session) → keepsRules node t ≡ true → among (tickOf node t .answer .number) tickNumbers ≡ true
 
 unfoldable pub CloseNumbers : Type 0
-CloseNumbers = (node : Node) (t : Table) (place : ℕ) → keepsRules node (t .recs) ≡ true → among (closeOf node t place .number) closeNumbers ≡ true
+CloseNumbers = (node : Node) (t : List Session) (place : ℕ) → keepsRules node t ≡ true → among (closeOf node t place .answer .number) closeNumbers ≡ true
 
 unfoldable pub SendNumbers : Type 0
-SendNumbers = (node : Node) (t : Table) (reply : List ℕ) → keepsRules node (t .recs) ≡ true → among (sendOf node t reply .answer .number) sendNumbers ≡ true
+SendNumbers = (node : Node) (t : List Session) (reply : List ℕ) → keepsRules node t ≡ true → among (sendOf node t reply .answer .number) sendNumbers ≡ true
 
 unfoldable pub LineNumbers : Type 0
-LineNumbers = (node : Node) (t : Table) (place : ℕ) (reply : List ℕ) → keepsRules node (t .recs) ≡ true → among (lineOf node t place reply .answer .number) lineNumbers ≡ true
+LineNumbers = (node : Node) (t : List Session) (place : ℕ) (reply : List ℕ) → keepsRules node t ≡ true → among (lineOf node t place reply .answer .number) lineNumbers ≡ true
 
 unfoldable pub ControlNumbers : Type 0
-ControlNumbers = (node : Node) (t : Table) (d reply : List ℕ) → keepsRules node (t .recs) ≡ true → among (controlTaken node t d reply .answer .number) controlNumbers ≡ true
+ControlNumbers = (node : Node) (t : List Session) (d reply : List ℕ) → keepsRules node t ≡ true → among (controlTaken node t d reply .answer .number) controlNumbers ≡ true
 
 pub fresh-numbers : FreshNumbers
 unfolding FreshNumbers

@@ -10,7 +10,6 @@ use Rattle.octets.specs.Choice.{split}
 use Rattle.tunnel.specs.Numbering.{userOffset}
 use Rattle.session.specs.declared.Session.{Session}
 use Rattle.table.specs.declared.Node.{Node}
-use Rattle.table.specs.declared.Table.{Table}
 use Rattle.table.specs.declared.Found.{Found}
 use Rattle.table.specs.declared.Found.the-variants as F
 use Rattle.table.specs.Rules.{keepsRules}
@@ -70,12 +69,12 @@ header-taken-number node l (H.Packet teid) start end reply h =
 header-taken-number node l (H.Refused number) start end reply h = h
 
 unfoldable pub UserNumbers : Type 0
-UserNumbers = (node : Node) (t : Table) (d reply : List ℕ) → keepsRules node (t .recs) ≡ true → among (userTaken node (t .recs) d reply .number) userNumbers ≡ true
+UserNumbers = (node : Node) (t : List Session) (d reply : List ℕ) → keepsRules node t ≡ true → among (userTaken node t d reply .number) userNumbers ≡ true
 
 pub user-numbers : UserNumbers
 unfolding UserNumbers userTaken userNumbers userOf
 user-numbers node t d reply e =
     split (ltb (length reply) 128) (λ a. rw a)
     (λ a. split (eqb (userOf d .number) 0)
-    (λ b. rw (a, e, b) (header-taken-number node (t .recs) (headerOf d) (userOf d .size) (length d) reply (rw (header-number d) (refusal-number d))))
+    (λ b. rw (a, e, b) (header-taken-number node t (headerOf d) (userOf d .size) (length d) reply (rw (header-number d) (refusal-number d))))
     (λ b. rw (a, e, b) (read-number d)))

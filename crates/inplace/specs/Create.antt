@@ -18,7 +18,6 @@ use Rattle.session.specs.declared.Session.{Session}
 use Rattle.session.specs.declared.Opening.{Opening}
 use Rattle.session.specs.Session.{isFree, hasId, freed, opened, blankAt}
 use Rattle.table.specs.declared.Node.{Node}
-use Rattle.table.specs.declared.Table.{Table}
 use Rattle.table.specs.declared.Found.the-variants as F
 use Rattle.table.specs.Rules.{keepsRules, Rules, rules-of, live}
 use Rattle.table.specs.Change.{nobody, changedAt, rules-freed, changed-out}
@@ -30,7 +29,7 @@ use Rattle.rules.specs.Check.{parties-four}
 use Rattle.readers.specs.declared.Recovery.{Recovery}
 use Rattle.readers.specs.declared.Recovery.the-variants as R
 use Rattle.requests.specs.declared.Create as C
-use Rattle.timing.specs.Timing.{Outcome, outcome, held}
+use Rattle.timing.specs.Outcome.{Outcome, outcome}
 use Rattle.control.specs.Echoes.{heardNode}
 use Rattle.control.specs.Amends.{causeTaken}
 use Rattle.control.specs.Creates.{openingOf, acceptedTaken, noRoom, openedAt, shared, isRepeat, settledAt}
@@ -42,12 +41,8 @@ use Rattle.openings.specs.Places.{free-then, room-then}
 -- the answer with the Recovery stored, and with the two records put back in their places
 unfoldable pub placedTwo : Node → Pair → List Session → Made → Outcome
 placedTwo node p l m = outcome
-    (record {
-      number = m .answer .number;
-      size = m .answer .size;
-      node = heardNode (m .answer .heard) node;
-      table = held (set (set l (p .old) (m .answer .old)) (p .new) (m .answer .new));
-    })
+    (record { number = m .answer .number; size = m .answer .size; node = heardNode (m .answer .heard) node })
+    (set (set l (p .old) (m .answer .old)) (p .new) (m .answer .new))
     (m .reply)
 
 -- a Recovery that is stored leaves the plan
@@ -79,7 +74,7 @@ stays l p q = rw (set-getD l p nobody) (set-getD l q nobody)
 -- ---- a Create, once Recovery is heard, on a table that keeps its rules; whatever was lent
 module _ (node : Node) (l : List Session) (k : keepsRules node l ≡ true) (c : C.Create) (seq : ℕ) (g : Sight)
     (old : g .old ≡ firstOf (hasId (c .imsi) (c .ebi)) l) (free : g .free ≡ firstOf isFree l)
-    (counts : g .counts ≡ sumOf weightOf l) (reply : List ℕ) (node₀ : Node) (t₀ : Table) where
+    (counts : g .counts ≡ sumOf weightOf l) (reply : List ℕ) (node₀ : Node) (t₀ : List Session) where
   abbrev s : Session
   s = getD l (g .old) nobody
 
@@ -121,16 +116,16 @@ module _ (node : Node) (l : List Session) (k : keepsRules node l ≡ true) (c : 
       rw counts (room-then l (g .old) inside (omega arith) (node .plan) (c .point) (parties-four (node .plan) (rules .planned)))
 
   -- ---- the three ways that it can go
-  repeat-same : repeatsAt (g .old) c seq s ≡ true → acceptedTaken seq (g .old) s after (held l) reply ≡ comes places
+  repeat-same : repeatsAt (g .old) c seq s ≡ true → acceptedTaken seq (g .old) s after l reply ≡ comes places
   unfolding acceptedTaken openOn pairBy unmovedOn placedTwo
   repeat-same r = rw (r, stays l (g .old) places, heard-plan (c .recovery) node)
 
   entered-same : (q : ℕ) → repeatsAt (g .old) c seq s ≡ false → q < places
-      → acceptedTaken seq q (opened o (getD then′ q nobody)) after (held (changedAt (opened o) q then′)) reply ≡ comes q
+      → acceptedTaken seq q (opened o (getD then′ q nobody)) after (changedAt (opened o) q then′) reply ≡ comes q
   unfolding acceptedTaken openOn pairBy enteredOn placedTwo changedAt
   entered-same q r h = rw (r, lt-ltb q places h, opened-then o l (g .old) q, heard-plan (c .recovery) node)
 
-  full-same : repeatsAt (g .old) c seq s ≡ false → causeTaken 33 (c .control) seq noRoom after (held then′) reply ≡ comes places
+  full-same : repeatsAt (g .old) c seq s ≡ false → causeTaken 33 (c .control) seq noRoom after then′ reply ≡ comes places
   unfolding causeTaken openOn pairBy fullOn placedTwo changedAt
   full-same r =
       let n = rules .size in
@@ -155,18 +150,18 @@ module _ (node : Node) (l : List Session) (k : keepsRules node l ≡ true) (c : 
   place-in a = place-free (node .plan) (node .echo) (node .next) then′ rules-then (c .point) a
 
   shared-in : admits (node .plan) (live then′) (c .point) ≡ true
-      → shared c seq after (held then′) node₀ t₀ reply
+      → shared c seq after then′ node₀ t₀ reply
       ≡ acceptedTaken seq (firstOf isFree then′) (opened o (getD then′ (firstOf isFree then′) nobody)) after
-      (held (changedAt (opened o) (firstOf isFree then′) then′)) reply
-  unfolding shared openedAt foundIn held
+      (changedAt (opened o) (firstOf isFree then′) then′) reply
+  unfolding shared openedAt foundIn
   shared-in a = rw (heard-plan (c .recovery) node, a, lt-ltb (firstOf isFree then′) (length then′) (place-in a))
 
   shared-out : admits (node .plan) (live then′) (c .point) ≡ false
-      → shared c seq after (held then′) node₀ t₀ reply ≡ causeTaken 33 (c .control) seq noRoom after (held then′) reply
-  unfolding shared held
+      → shared c seq after then′ node₀ t₀ reply ≡ causeTaken 33 (c .control) seq noRoom after then′ reply
+  unfolding shared
   shared-out a = rw (heard-plan (c .recovery) node, a)
 
-  shared-same : repeatsAt (g .old) c seq s ≡ false → shared c seq after (held then′) node₀ t₀ reply ≡ comes new
+  shared-same : repeatsAt (g .old) c seq s ≡ false → shared c seq after then′ node₀ t₀ reply ≡ comes new
   shared-same r = split (admits (node .plan) (live then′) (c .point))
       (λ a. let h = place-in a in
       let n = rules-then .size in
@@ -190,14 +185,14 @@ module _ (node : Node) (l : List Session) (k : keepsRules node l ≡ true) (c : 
   unfolding foundIn
   found-no e = rw (← old, e)
 
-  pub settled-same : settledAt (foundIn (hasId (c .imsi) (c .ebi)) l) c seq after (held l) node₀ t₀ reply ≡ comes new
-  unfolding settledAt held
+  pub settled-same : settledAt (foundIn (hasId (c .imsi) (c .ebi)) l) c seq after l node₀ t₀ reply ≡ comes new
+  unfolding settledAt
   settled-same = split (ltb (g .old) (length l))
       (λ e. rw (found-at e)
       (split (isRepeat c seq s)
       (λ r. let t = met e ∙ r in rw r (repeat-same t ∙ ap (λ (q : ℕ). comes q) (sym (new-repeat t))))
       (λ r. rw r (shared-same (met e ∙ r)))))
       (λ e. rw (found-no e)
-      (ap (λ (x : List Session). shared c seq after (held x) node₀ t₀ reply)
+      (ap (λ (x : List Session). shared c seq after x node₀ t₀ reply)
       (sym (changed-out freed (g .old) l (ltb-false (g .old) (length l) e)))
       ∙ shared-same (unmet e)))

@@ -27,7 +27,6 @@ use Rattle.rules.specs.Survey.{weightOf}
 use Rattle.readers.specs.declared.Recovery.{Recovery}
 use Rattle.readers.specs.declared.Recovery.the-variants as R
 use Rattle.requests.specs.declared.Create as C
-use Rattle.timing.specs.Timing.{held}
 use Rattle.control.specs.Echoes.{restartsBy, heardNode, heardBy, heard-freed, heard-same, heard-keeps}
 use Rattle.control.specs.Creates.{openingOf, settledAt, heardCreate}
 use Rattle.openings.specs.declared.Sight.{Sight}
@@ -60,9 +59,8 @@ freed-sum (x ∷ l) = rw (freed-weight x, freed-sum l)
 -- ---- Recovery
 -- it is stored, and the records are freed or stay
 pub heard-either : (r : Recovery) (node : Node) (l : List Session)
-    → heardBy r node (held l) ≡ record { number = 0; size = 0; node = heardNode r node; table = held (pick (restartsBy r node) (map freed l) l) }
-unfolding held
-heard-either r node l = split (restartsBy r node) (λ e. rw e (heard-freed r node (held l) e)) (λ e. rw e (heard-same r node (held l) e))
+    → heardBy r node l ≡ record { node = heardNode r node; table = pick (restartsBy r node) (map freed l) l }
+heard-either r node l = split (restartsBy r node) (λ e. rw e (heard-freed r node l e)) (λ e. rw e (heard-same r node l e))
 
 -- stored twice it is as stored once
 heard-twice : (r : Recovery) (node : Node) → heardNode r (heardNode r node) ≡ heardNode r node
@@ -82,12 +80,12 @@ module _ (l : List Session) (p : Pair) (o : Opened) where
 
 module _ (node : Node) (l : List Session) (p : Pair) (m : Made) (e : m .answer .ended ≡ false) where
   pub placed-none : p .all ≡ false → placedPair node p l m ≡ placedTwo node p l m
-  unfolding placedPair placedTwo nodeAfter heardNode held pairPut
+  unfolding placedPair placedTwo nodeAfter heardNode pairPut
   placed-none a = rw (e, put-none l p (m .answer) a)
 
   placed-all : p .all ≡ true → length l ≤ places → heardNode (m .answer .heard) (heardNode (m .answer .heard) node) ≡ heardNode (m .answer .heard) node
       → placedPair node p l m ≡ placedTwo (heardNode (m .answer .heard) node) p (map freed l) m
-  unfolding placedPair placedTwo nodeAfter heardNode held pairPut freed
+  unfolding placedPair placedTwo nodeAfter heardNode pairPut freed
   placed-all a n t = rw (e, put-all l p (m .answer) a n, t)
 
 -- ---- a Create says nothing of the unit's own echo, and its Recovery is stored
@@ -116,8 +114,7 @@ module _ (node : Node) (l : List Session) (k : keepsRules node l ≡ true) (c : 
   size-gone = length-map l freed ∙ size
 
   kept-gone : keepsRules after gone ≡ true
-  unfolding held
-  kept-gone = rw (heard-freed (c .recovery) node (held l) again) at (heard-keeps node (held l) k (c .recovery))
+  kept-gone = rw (heard-freed (c .recovery) node l again) at (heard-keeps node l k (c .recovery))
 
   past : (m : List Session) (q : ℕ) → length m ≡ places → places ≤ q → getD m q nobody ≡ nobody
   past m q n h = List·getD-eq-default m nobody (omega arith)
@@ -170,7 +167,7 @@ module _ (node : Node) (l : List Session) (k : keepsRules node l ≡ true) (c : 
       (rw h (heard-twice (c .recovery) node))
       ∙ rw h
 
-  settled-gone : settledAt (foundIn (hasId (c .imsi) (c .ebi)) gone) c seq (heardNode (c .recovery) after) (held gone) node (held l) reply
+  settled-gone : settledAt (foundIn (hasId (c .imsi) (c .ebi)) gone) c seq (heardNode (c .recovery) after) gone node l reply
       ≡ placedTwo after (pairWith g gone (openPlace g after c seq (getD gone (g .old) nobody))) gone
       (openOn c seq after (pairWith g gone (openPlace g after c seq (getD gone (g .old) nobody))) reply)
   settled-gone =
@@ -178,13 +175,13 @@ module _ (node : Node) (l : List Session) (k : keepsRules node l ≡ true) (c : 
       (old ∙ sym size ∙ sym (first-no (hasId (c .imsi) (c .ebi)) (freed-nobody (c .imsi) (c .ebi)) l))
       (free ∙ sym (first-yes isFree freed-free l))
       (counts ∙ sym (freed-sum l))
-      reply node (held l)
+      reply node l
 
-  pub restart-same : heardCreate c seq (heardBy (c .recovery) node (held l)) node (held l) reply ≡ placedPair node (pairWith g l new) l comes
-  unfolding heardCreate held
+  pub restart-same : heardCreate c seq (heardBy (c .recovery) node l) node l reply ≡ placedPair node (pairWith g l new) l comes
+  unfolding heardCreate
   restart-same =
-      rw (heard-freed (c .recovery) node (held l) again)
-      (ap (λ (x : Node). settledAt (foundIn (hasId (c .imsi) (c .ebi)) gone) c seq x (held gone) node (held l) reply) (sym (heard-twice (c .recovery) node))
+      rw (heard-freed (c .recovery) node l again)
+      (ap (λ (x : Node). settledAt (foundIn (hasId (c .imsi) (c .ebi)) gone) c seq x gone node l reply) (sym (heard-twice (c .recovery) node))
       ∙ settled-gone
       ∙ ap (λ (q : ℕ). placedTwo after (pairWith g gone q) gone (openOn c seq after (pairWith g gone q) reply)) new-same
       ∙ ap (λ (m : Made). placedTwo after (pairWith g gone new) gone m) (made-same new)

@@ -30,7 +30,7 @@ use Rattle.requests.specs.declared.Decoded.{Decoded}
 use Rattle.requests.specs.declared.Decoded.the-variants as D
 use Rattle.requests.specs.declared.Request.the-variants as Q
 use Rattle.requests.specs.Create.{createOf, CreateSound, create-sound}
-use Rattle.timing.specs.Timing.{leastReply}
+use Rattle.timing.specs.Outcome.{leastReply}
 use Rattle.control.specs.Kind.{Kind, kindBy}
 use Rattle.control.specs.Kind as K
 use Rattle.glance.specs.Digest.{digestOf}

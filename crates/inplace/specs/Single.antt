@@ -18,16 +18,14 @@ use Rattle.table.specs.declared.Found.the-variants as F
 use Rattle.table.specs.Change.{nobody, changedAt}
 use Rattle.table.specs.Find.{placeFound, ownerOf, heldIn, namedPlace, owner-is}
 use Rattle.header.specs.declared.HeaderCursor.{HeaderCursor}
-use Rattle.timing.specs.Timing.{Outcome, outcome, Done, held, onSession, onOwner}
+use Rattle.timing.specs.Outcome.{Outcome, outcome, Done, onSession, onOwner}
 use Rattle.control.specs.Amends.{sessionOf}
 use Rattle.single.specs.Single.{Singled, single, doneWith, ownedBy, ofNumber, singleOf}
 use Rattle.wishes.specs.Wishes.{namedBy}
 
 -- the answer with the node as it was, and with the record put back in its place
 unfoldable pub placedOne : Node → ℕ → List Session → Singled → Outcome
-placedOne node i l q = outcome
-    (record { number = q .answer .number; size = q .answer .size; node = node; table = held (set l i (q .answer .session)) })
-    (q .reply)
+placedOne node i l q = outcome (record { number = q .answer .number; size = q .answer .size; node = node }) (set l i (q .answer .session)) (q .reply)
 
 -- who owns a number, from the record of its place
 pub owner-one : (teid : ℕ) (l : List Session) → length l ≡ places

@@ -15,7 +15,6 @@ use Rattle.session.specs.declared.Session.{Session}
 use Rattle.session.specs.Request.{awaits}
 use Rattle.session.specs.Session.{freed}
 use Rattle.table.specs.declared.Node.{Node}
-use Rattle.table.specs.declared.Table.{Table}
 use Rattle.table.specs.Rules.{keepsRules, rules-of}
 use Rattle.table.specs.Change.{nobody}
 use Rattle.messages.specs.Messages.{versionNotSupported, echoOf}
@@ -32,7 +31,7 @@ use Rattle.requests.specs.declared.Decoded.{Decoded}
 use Rattle.requests.specs.declared.Decoded.the-variants as D
 use Rattle.requests.specs.declared.Request.the-variants as Q
 use Rattle.requests.specs.Create.{createOf, replyTo}
-use Rattle.timing.specs.Timing.{Outcome, outcome, replied, onOwner, leastReply, held, refused}
+use Rattle.timing.specs.Outcome.{Outcome, outcome, replied, onOwner, leastReply, noReply}
 use Rattle.control.specs.Echoes.{restartsBy, heardNode, heardBy, heard-same as heard-still, echoTaken, echoEnded, echoReplyTaken}
 use Rattle.control.specs.Kind.{Kind, kindBy}
 use Rattle.control.specs.Kind as K
@@ -52,19 +51,20 @@ use Rattle.inplace.specs.Restart.{heard-either, put-none, put-all, place
 use Rattle.inplace.specs.Seen.{Cleared, Sees}
 
 -- ---- what is asked for, on the whole table
-unfoldable pub askedTaken : Node → Table → Wish → List ℕ → List ℕ → Outcome
-askedTaken node t W.Short d reply = outcome (refused 1 node t) reply
-askedTaken node t (W.Silent number) d reply = outcome (refused number node t) reply
+unfoldable pub askedTaken : Node → List Session → Wish → List ℕ → List ℕ → Outcome
+askedTaken node t W.Short d reply = noReply 1 node t reply
+askedTaken node t (W.Silent number) d reply = noReply number node t reply
 askedTaken node t W.Version d reply = replied 5 node t versionNotSupported reply
 askedTaken node t (W.Echo recovery seq) d reply = echoTaken node t seq recovery reply
-askedTaken node t (W.Ended recovery) d reply = outcome (echoEnded (heardBy recovery node t)) reply
-askedTaken node t (W.Named h) d reply = onOwner node (t .recs) (h .teid) (sessionOf h (drop (h .fields) d)) reply
+askedTaken node t (W.Ended recovery) d reply =
+    noReply 0 (echoEnded (heardBy recovery node t) .node) (echoEnded (heardBy recovery node t) .table) reply
+askedTaken node t (W.Named h) d reply = onOwner node t (h .teid) (sessionOf h (drop (h .fields) d)) reply
 askedTaken node t (W.Refused w to seq) d reply = causeTaken 33 to seq w node t reply
 askedTaken node t (W.Open c seq) d reply = heardCreate c seq (heardBy (c .recovery) node t) node t reply
 
 -- that it is what take control datagram does
-module _ (node : Node) (t : Table) (reply : List ℕ) where
-  end-asked : (d : List ℕ) (seq : ℕ) (a : EchoReply) → outcome (echoReplyTaken node t seq a) reply ≡ askedTaken node t (asksEnd a seq node) d reply
+module _ (node : Node) (t : List Session) (reply : List ℕ) where
+  end-asked : (d : List ℕ) (seq : ℕ) (a : EchoReply) → echoReplyTaken node t seq a reply ≡ askedTaken node t (asksEnd a seq node) d reply
   unfolding echoReplyTaken asksEnd askedTaken
   end-asked d seq E.Unreadable = refl
   end-asked d seq (E.Carries recovery) = split (awaits seq (node .echo)) (λ e. rw e) (λ e. rw e)
@@ -119,15 +119,15 @@ module _ (node : Node) where
 
 -- take control datagram by what is asked for
 control-asked : (node : Node) (l : List Session) (d reply : List ℕ)
-    → controlTaken node (held l) d reply
-    ≡ pick (keepsRules node l) (askedTaken node (held l) (asksFor node d (length reply)) d reply)
-    (outcome (refused (brokenBy (asksFor node d (length reply))) node (held l)) reply)
-unfolding controlTaken asksFor held askedTaken brokenBy
+    → controlTaken node l d reply
+    ≡ pick (keepsRules node l) (askedTaken node l (asksFor node d (length reply)) d reply)
+    (noReply (brokenBy (asksFor node d (length reply))) node l reply)
+unfolding controlTaken asksFor askedTaken brokenBy
 control-asked node l d reply =
     split (ltb (length reply) leastReply)
     (λ a. rw a (split (keepsRules node l) (λ k. rw k) (λ k. rw k)))
     (λ a. rw a (split (keepsRules node l)
-    (λ k. rw k (gate-asked node (record { recs = l }) reply d (gateOf d)))
+    (λ k. rw k (gate-asked node l reply d (gateOf d)))
     (λ k. rw (k, past-broken node d (gateOf d)))))
 
 -- ---- on two records
@@ -150,10 +150,10 @@ module _ (l : List Session) (p : Pair) (e-old : p .oldrecord ≡ getD l (p .old)
 -- what is put back, given
 placed-by : (node : Node) (p : Pair) (l : List Session) (m : Made) (x : List Session) → pairPut l p (m .answer) ≡ x
     → placedPair node p l m
-    ≡ outcome (record { number = m .answer .number; size = m .answer .size; node = nodeAfter (m .answer) node; table = held x }) (m .reply)
+    ≡ outcome (record { number = m .answer .number; size = m .answer .size; node = nodeAfter (m .answer) node }) x (m .reply)
 unfolding placedPair
 placed-by node p l m x e =
-    ap (λ (y : List Session). outcome (record { number = m .answer .number; size = m .answer .size; node = nodeAfter (m .answer) node; table = held y }) (m .reply)) e
+    ap (λ (y : List Session). outcome (record { number = m .answer .number; size = m .answer .size; node = nodeAfter (m .answer) node }) y (m .reply)) e
 
 module _ (node : Node) (l : List Session) (d reply : List ℕ) (g : Sight) where
   abbrev pairFor : Wish → Pair
@@ -185,7 +185,7 @@ module _ (node : Node) (l : List Session) (d reply : List ℕ) (g : Sight) where
 
   -- nothing moves
   still-same : (w : Wish) (number size : ℕ) (left : List ℕ) → g .all ≡ false
-      → outcome (record { number = number; size = size; node = node; table = held l }) left
+      → outcome (record { number = number; size = size; node = node }) l left
       ≡ placedPair node (pairFor w) l (made (unmovedOn number size false R.None (pairFor w)) left)
   unfolding unmovedOn nodeAfter heardNode
   still-same w number size left a =
@@ -208,7 +208,7 @@ module _ (node : Node) (l : List Session) (d reply : List ℕ) (g : Sight) where
     all-of : (w : Wish) → Sees node l w g → g .all ≡ restartsIn w node
     all-of w sees = sees .all ∙ rw k
 
-    echo-same : (r : Recovery) (seq : ℕ) → Sees node l (W.Echo r seq) g → echoTaken node (held l) seq r reply ≡ comesTo (W.Echo r seq)
+    echo-same : (r : Recovery) (seq : ℕ) → Sees node l (W.Echo r seq) g → echoTaken node l seq r reply ≡ comesTo (W.Echo r seq)
     unfolding echoTaken wishTaken unmovedOn nodeAfter restartsIn newPlace pairIn pairBy
     echo-same r seq sees =
         let w = W.Echo r seq in
@@ -216,8 +216,9 @@ module _ (node : Node) (l : List Session) (d reply : List ℕ) (g : Sight) where
         (sym (placed-by node (pairFor w) l (wishTaken node w (pairFor w) d reply) (pick (g .all) (map freed l) l)
         (put-heard w (length (echoOf 2 seq (node .plan .recovery))) false r (rules-of node l k .size) refl (sees .cleared))))
 
-    ended-same : (r : Recovery) → Sees node l (W.Ended r) g → outcome (echoEnded (heardBy r node (held l))) reply ≡ comesTo (W.Ended r)
-    unfolding echoEnded wishTaken unmovedOn nodeAfter restedNode restartsIn newPlace pairIn pairBy
+    ended-same : (r : Recovery) → Sees node l (W.Ended r) g 
+        → noReply 0 (echoEnded (heardBy r node l) .node) (echoEnded (heardBy r node l) .table) reply ≡ comesTo (W.Ended r)
+    unfolding noReply echoEnded wishTaken unmovedOn nodeAfter restedNode restartsIn newPlace pairIn pairBy
     ended-same r sees =
         let w = W.Ended r in
         rw (heard-either r node l, ← all-of w sees)
@@ -253,8 +254,8 @@ module _ (node : Node) (l : List Session) (d reply : List ℕ) (g : Sight) where
         at-old h = rw (old-at (W.Named h), place-at (W.Named h))
 
     open-same : (c : C.Create) (seq : ℕ) → Sees node l (W.Open c seq) g
-        → heardCreate c seq (heardBy (c .recovery) node (held l)) node (held l) reply ≡ comesTo (W.Open c seq)
-    unfolding wishTaken newPlace pairIn restartsIn heardCreate held
+        → heardCreate c seq (heardBy (c .recovery) node l) node l reply ≡ comesTo (W.Open c seq)
+    unfolding wishTaken newPlace pairIn restartsIn heardCreate
     open-same c seq sees =
         let w = W.Open c seq in
         let a = all-of w sees in
@@ -262,12 +263,12 @@ module _ (node : Node) (l : List Session) (d reply : List ℕ) (g : Sight) where
         (λ e. let z = sees .cleared (a ∙ e) in restart-same node l k c seq e g (z .old) (z .free) (z .counts) (a ∙ e) reply)
         (λ e. let f = sees .known c seq refl k (a ∙ e) in
         let q = openPlace g node c seq (getD l (g .old) nobody) in
-        rw (heard-still (c .recovery) node (held l) e)
-        (settled-same node l k c seq g (f .old) (f .free) (f .counts) reply node (held l)
+        rw (heard-still (c .recovery) node l e)
+        (settled-same node l k c seq g (f .old) (f .free) (f .counts) reply node l
         ∙ sym (placed-none node l (pairWith g l q) (openOn c seq node (pairWith g l q) reply) (open-ended c seq node (pairWith g l q) reply) (all-at w ∙ a ∙ e))))
 
-    wish-same : (w : Wish) → Sees node l w g → askedTaken node (held l) w d reply ≡ comesTo w
-    unfolding askedTaken wishTaken restartsIn refused causeTaken held
+    wish-same : (w : Wish) → Sees node l w g → askedTaken node l w d reply ≡ comesTo w
+    unfolding askedTaken wishTaken restartsIn noReply causeTaken
     wish-same W.Short sees = still-same W.Short 1 0 reply (none W.Short sees refl)
     wish-same (W.Silent number) sees = still-same (W.Silent number) number 0 reply (none (W.Silent number) sees refl)
     wish-same W.Version sees = still-same W.Version 5 (length versionNotSupported) (overlay versionNotSupported reply) (none W.Version sees refl)
@@ -279,9 +280,9 @@ module _ (node : Node) (l : List Session) (d reply : List ℕ) (g : Sight) where
 
   -- whatever the table
   settled : (w : Wish) → Sees node l w g
-      → pick (keepsRules node l) (askedTaken node (held l) w d reply) (outcome (refused (brokenBy w) node (held l)) reply)
+      → pick (keepsRules node l) (askedTaken node l w d reply) (noReply (brokenBy w) node l reply)
       ≡ placedPair node (pairFor w) l (takenOn node w (pairFor w) d reply)
-  unfolding refused
+  unfolding noReply
   settled w sees = split (keepsRules node l)
       (λ k. rw (k, taken-kept node w (pairFor w) d reply (kept-at w ∙ sees .kept ∙ k)) (wish-same k w sees))
       (λ k. rw (k, taken-broken node w (pairFor w) d reply (kept-at w ∙ sees .kept ∙ k))
@@ -290,7 +291,7 @@ module _ (node : Node) (l : List Session) (d reply : List ℕ) (g : Sight) where
 -- ---- take control datagram
 unfoldable pub InPlace : Type 0
 InPlace = (node : Node) (l : List Session) (d reply : List ℕ) (g : Sight) → Sees node l (asksFor node d (length reply)) g
-    → controlTaken node (held l) d reply
+    → controlTaken node l d reply
     ≡ placedPair node (pairIn g node l (asksFor node d (length reply))) l
     (takenOn node (asksFor node d (length reply)) (pairIn g node l (asksFor node d (length reply))) d reply)
 

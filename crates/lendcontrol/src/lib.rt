@@ -4,7 +4,7 @@ use table::Node;
 use table::Table;
 use timing::Answer;
 ghost use mathlib.Core.Path.{_≡_};
-ghost use Rattle.timing.specs.Timing.{outcome};
+ghost use Rattle.timing.specs.Outcome.{outcome};
 ghost use Rattle.control.specs.Control.{controlTaken};
 
 pub fn take_control(node: Node, table: Table, d: &[u8], reply: &mut [u8]) -> Answer

@@ -3,7 +3,8 @@ use lentcore::Left;
 use session::Session;
 use table::Node;
 ghost use mathlib.Core.Path.{_≡_};
-ghost use Rattle.timing.specs.Timing.{held, outcome, tickOf, closeOf, sendOf};
+ghost use Rattle.timing.specs.Outcome.{outcome};
+ghost use Rattle.timing.specs.Timing.{tickOf, closeOf, sendOf};
 ghost use Rattle.lentcore.specs.Lent.{left};
 
 // Tick.

@@ -12,7 +12,7 @@ use Rattle.table.specs.declared.Change.{Change}
 use Rattle.table.specs.declared.Change.the-variants as Ch
 use Rattle.table.specs.Change.{nobody}
 use Rattle.table.specs.Become.{changedBy}
-use Rattle.timing.specs.Timing.{Outcome, outcome, held}
+use Rattle.timing.specs.Outcome.{Outcome, outcome}
 use Rattle.control.specs.Control.{controlTaken}
 use Rattle.lentcore.specs.declared.Left.{Left}
 use Rattle.lentcore.specs.Lent.{left}
@@ -84,7 +84,7 @@ settled-lent node l zs w d reply after p o r e-p e-o e-zs e-r = rw (e-r, e-zs, �
 
 -- ---- in place as on all
 pub control-lent : (node : Node) (l : List Session) (d reply : List ℕ) (x : Outcome) (w : Wish)
-    → w ≡ asksFor node d (length reply) → x ≡ settledLent node l w d reply → x ≡ controlTaken node (held l) d reply
+    → w ≡ asksFor node d (length reply) → x ≡ settledLent node l w d reply → x ≡ controlTaken node l d reply
 unfolding settledLent pairLent InPlace
 control-lent node l d reply x w e-w e-x =
     let a = asksFor node d (length reply) in

@@ -7,7 +7,7 @@ use session::Session;
 use table::Node;
 use wishes::Wish;
 ghost use mathlib.Core.Path.{_≡_};
-ghost use Rattle.timing.specs.Timing.{held, outcome};
+ghost use Rattle.timing.specs.Outcome.{outcome};
 ghost use Rattle.control.specs.Control.{controlTaken};
 ghost use Rattle.lentcore.specs.Lent.{left};
 ghost use Rattle.openings.specs.Openings.{pairPut};

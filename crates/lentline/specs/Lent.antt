@@ -13,7 +13,7 @@ use Rattle.session.specs.declared.Session.{Session}
 use Rattle.session.specs.Session.{blankAt}
 use Rattle.table.specs.declared.Node.{Node}
 use Rattle.table.specs.Rules.{keepsRules, rules-of}
-use Rattle.timing.specs.Timing.{outcome, leastReply, held, refused}
+use Rattle.timing.specs.Outcome.{outcome, leastReply, noReply}
 use Rattle.numerals.specs.Laid.{laid}
 use Rattle.placeline.specs.Line.{lineText, lineOf}
 use Rattle.lentcore.specs.declared.Left.{Left}
@@ -42,11 +42,11 @@ lineBy kept node place s reply =
 -- the same on the records as lent
 pub line-lent : (node : Node) (l : List Session) (place : ℕ) (reply after : List ℕ) (kept : Bool) (s : Session) (r : Left)
     → kept ≡ keepsRules node l → s ≡ getD l place (blankAt 0) → lined r after ≡ lineBy kept node place s reply
-    → outcome (left r l) after ≡ lineOf node (held l) place reply
-unfolding lineOf held left lineBy bare refused
+    → outcome (left r l) after ≡ lineOf node l place reply
+unfolding lineOf left lineBy bare noReply
 line-lent node l place reply after kept s r k e made = ap (λ (x : Lined). outcome (left (x .back) l) (x .reply)) made ∙ same
   where
-    same : outcome (left (lineBy kept node place s reply .back) l) (lineBy kept node place s reply .reply) ≡ lineOf node (held l) place reply
+    same : outcome (left (lineBy kept node place s reply .back) l) (lineBy kept node place s reply .reply) ≡ lineOf node l place reply
     same = rw (k, e) (split (ltb (length reply) leastReply) (λ f. rw f)
         (λ f. split (keepsRules node l)
         (λ g. let n = rules-of node l g .size in rw (f, g, n) (split (ltb place places) (λ h. rw h) (λ h. rw h)))

@@ -5,7 +5,7 @@ use table::Node;
 use table::Table;
 use timing::Answer;
 ghost use mathlib.Core.Path.{_≡_};
-ghost use Rattle.timing.specs.Timing.{held, outcome};
+ghost use Rattle.timing.specs.Outcome.{outcome};
 ghost use Rattle.placeline.specs.Line.{lineOf};
 ghost use Rattle.lentcore.specs.Lent.{left};
 ghost use Rattle.lentline.specs.Lent.{bare, lined, lineBy};

@@ -25,18 +25,18 @@ use Rattle.table.specs.Own.{duePlace}
 use Rattle.rules.specs.Survey.{waitOf}
 use Rattle.tally.specs.Tally.{freeAmong, free-among}
 use Rattle.messages.specs.Messages.{echoOf, deleteBearer}
-use Rattle.timing.specs.Timing.{outcome, leastReply, timed, held, refused, stepped, echoSent, placeSent, dueSent, sendOf}
+use Rattle.timing.specs.Outcome.{outcome, leastReply, bare, noReply, Back, back}
+use Rattle.timing.specs.Timing.{timed, stepped, echoSent, placeSent, dueSent, sendOf}
 use Rattle.glance.specs.declared.Seen.{Seen}
 use Rattle.glance.specs.Digest.{digestOf, idle-in}
 use Rattle.glance.specs.Look.{dueIn}
 use Rattle.glance.specs.Glance.{standsOf, standsBy, stands-kept}
 use Rattle.lentrules.specs.Read.{readOf}
 use Rattle.lentrules.specs.Kept.{seenOf, seen-idle, seen-due, seen-undue, seen-waits}
-use Rattle.lentcore.specs.declared.Left.{Left}
-use Rattle.lentcore.specs.Lent.{left}
+use Rattle.timing.specs.declared.Answer.{Answer}
 use Rattle.lentstep.specs.declared.Sending.{Sending}
 use Rattle.lentstep.specs.declared.Sending.the-variants.{Nothing, Echo, At}
-use Rattle.lentstep.specs.Step.{refusal, kept-long}
+use Rattle.lentstep.specs.Step.{kept-long}
 
 -- the number that a first send takes
 unfoldable pub takenAmong : Node → List ℕ → ℕ
@@ -65,16 +65,8 @@ sentBy (Nothing number) node s = s
 sentBy (Echo k) node s = s
 sentBy (At i k) node s = sent (node .plan .resend) k s
 
--- what goes back by value, and the reply buffer as it is left
-pub record Posted : Type 0 where
-  pub left : Left
-  pub reply : List ℕ
-
-abbrev pub posted : Left → List ℕ → Posted
-posted r reply = record { left = r; reply = reply }
-
-unfoldable pub echoLeft : Node → ℕ → List ℕ → Posted
-echoLeft node k reply = posted
+unfoldable pub echoLeft : Node → ℕ → List ℕ → Back
+echoLeft node k reply = back
     (record {
       number = 0;
       size = length (echoOf 1 (sentOnce (node .plan .resend) k (node .echo) .number) (node .plan .recovery));
@@ -82,8 +74,8 @@ echoLeft node k reply = posted
     })
     (overlay (echoOf 1 (sentOnce (node .plan .resend) k (node .echo) .number) (node .plan .recovery)) reply)
 
-unfoldable pub placeLeft : Node → ℕ → Session → List ℕ → Posted
-placeLeft node k s reply = posted
+unfoldable pub placeLeft : Node → ℕ → Session → List ℕ → Back
+placeLeft node k s reply = back
     (record {
       number = 0;
       size = length (deleteBearer (s .control) (sentOnce (node .plan .resend) k (s .own) .number) (s .ebi));
@@ -91,8 +83,8 @@ placeLeft node k s reply = posted
     })
     (overlay (deleteBearer (s .control) (sentOnce (node .plan .resend) k (s .own) .number) (s .ebi)) reply)
 
-unfoldable pub sendLeft : Sending → Node → Session → List ℕ → Posted
-sendLeft (Nothing number) node s reply = posted (refusal number node) reply
+unfoldable pub sendLeft : Sending → Node → Session → List ℕ → Back
+sendLeft (Nothing number) node s reply = back (bare number node) reply
 sendLeft (Echo k) node s reply = echoLeft node k reply
 sendLeft (At i k) node s reply = placeLeft node k s reply
 
@@ -135,35 +127,35 @@ unfolding seenOf standsBy
 stands-no node l e = not-false (eqb (standsOf node l) 0) (stands-kept node l ∙ e)
 
 -- ---- the steps of a send are a send on the lent list
-module _ (node : Node) (l zs : List Session) (reply after : List ℕ) (p : Sending) (i : ℕ) (s t : Session) (r : Left)
-    (e-i : i ≡ placeOf p) (e-s : s ≡ getD l i (blankAt 0)) (e-t : t ≡ sentBy p node s) (e-z : zs ≡ set l i t) (e-r : posted r after ≡ sendLeft p node s reply) where
-  sends-nothing : (number : ℕ) → p ≡ Nothing number → outcome (left r zs) after ≡ outcome (refused number node (held l)) reply
-  unfolding sentBy sendLeft refusal left refused
+module _ (node : Node) (l zs : List Session) (reply after : List ℕ) (p : Sending) (i : ℕ) (s t : Session) (r : Answer)
+    (e-i : i ≡ placeOf p) (e-s : s ≡ getD l i (blankAt 0)) (e-t : t ≡ sentBy p node s) (e-z : zs ≡ set l i t) (e-r : back r after ≡ sendLeft p node s reply) where
+  sends-nothing : (number : ℕ) → p ≡ Nothing number → outcome r zs after ≡ noReply number node l reply
+  unfolding sentBy sendLeft noReply
   sends-nothing number e =
-      let q : posted r after ≡ posted (refusal number node) reply = rw e at e-r in
-      let f : r ≡ refusal number node = ap (λ (x : Posted). x .left) q in
-      let g : after ≡ reply = ap (λ (x : Posted). x .reply) q in
+      let q : back r after ≡ back (bare number node) reply = rw e at e-r in
+      let f : r ≡ bare number node = ap (λ (x : Back). x .answer) q in
+      let g : after ≡ reply = ap (λ (x : Back). x .reply) q in
       rw (f, g, e-z, e-t, e, e-s, set-getD l i (blankAt 0))
 
-  sends-echo : (k : ℕ) → p ≡ Echo k → outcome (left r zs) after ≡ echoSent node (held l) k reply
-  unfolding sentBy sendLeft left echoLeft echoSent
+  sends-echo : (k : ℕ) → p ≡ Echo k → outcome r zs after ≡ echoSent node l k reply
+  unfolding sentBy sendLeft echoLeft echoSent
   sends-echo k e =
-      let q : posted r after ≡ echoLeft node k reply = rw e at e-r in
-      let f : r ≡ echoLeft node k reply .left = ap (λ (x : Posted). x .left) q in
-      let g : after ≡ echoLeft node k reply .reply = ap (λ (x : Posted). x .reply) q in
+      let q : back r after ≡ echoLeft node k reply = rw e at e-r in
+      let f : r ≡ echoLeft node k reply .answer = ap (λ (x : Back). x .answer) q in
+      let g : after ≡ echoLeft node k reply .reply = ap (λ (x : Back). x .reply) q in
       rw (f, g, e-z, e-t, e, e-s, set-getD l i (blankAt 0))
 
-  sends-place : (j k : ℕ) → p ≡ At j k → outcome (left r zs) after ≡ placeSent node (held l) k j (getD l j nobody) reply
-  unfolding placeOf sentBy sendLeft left held placeLeft placeSent changedAt
+  sends-place : (j k : ℕ) → p ≡ At j k → outcome r zs after ≡ placeSent node l k j (getD l j nobody) reply
+  unfolding placeOf sentBy sendLeft placeLeft placeSent changedAt
   sends-place j k e =
-      let q : posted r after ≡ placeLeft node k s reply = rw e at e-r in
-      let f : r ≡ placeLeft node k s reply .left = ap (λ (x : Posted). x .left) q in
-      let g : after ≡ placeLeft node k s reply .reply = ap (λ (x : Posted). x .reply) q in
+      let q : back r after ≡ placeLeft node k s reply = rw e at e-r in
+      let f : r ≡ placeLeft node k s reply .answer = ap (λ (x : Back). x .answer) q in
+      let g : after ≡ placeLeft node k s reply .reply = ap (λ (x : Back). x .reply) q in
       rw (f, g, e-z, e-t, e-s, e-i, e)
 
   pub lent-send : (v : Seen) (loud : Bool) (waits : List ℕ) → v ≡ seenOf node 0 l → loud ≡ loudIn v → waits ≡ readOf (λ z. waitOf (z .own)) loud l
-      → p ≡ nextDue (length reply) node v waits → outcome (left r zs) after ≡ sendOf node (held l) reply
-  unfolding nextDue sendOf dueSent duePlace held
+      → p ≡ nextDue (length reply) node v waits → outcome r zs after ≡ sendOf node l reply
+  unfolding nextDue sendOf dueSent duePlace
   lent-send v loud waits e-v e-l e-w e-p =
       let w : waits ≡ readOf (λ z. waitOf (z .own)) (loudIn (seenOf node 0 l)) l = e-w ∙ rw (e-l, e-v) in
       let q = rw e-v at e-p in

@@ -9,6 +9,7 @@ use lib.ListN.{length, getD, set}
 use lib.Seq.{set-getD}
 use lib.Dec.{eqb, leb}
 use borrow.Author.Tests.{eqb-true}
+use Rattle.octets.specs.Overlay.{overlay}
 use Rattle.octets.specs.Choice.{pick, split, impossible, and-left, and-right, tests}
 use Rattle.octets.specs.Every.{every}
 use Rattle.octets.specs.Places.{mapFirst, map-none, map-all}
@@ -27,13 +28,10 @@ use Rattle.table.specs.Change.{nobody, changedAt}
 use Rattle.table.specs.Own.{echoTicked, allTicked}
 use Rattle.rules.specs.Survey.{silent}
 use Rattle.glance.specs.Glance.{standsOf}
-use Rattle.timing.specs.Timing.{quiet, timed, held, onSession, refused, tickOf, closeOn, closeOf}
-use Rattle.lentcore.specs.declared.Left.{Left}
-use Rattle.lentcore.specs.Lent.{left, rules-other}
-
--- a number alone, with the node as it is
-unfoldable pub refusal : ℕ → Node → Left
-refusal number node = record { number = number; size = 0; node = node }
+use Rattle.timing.specs.Outcome.{outcome, bare, quiet, onSession, noReply}
+use Rattle.timing.specs.Timing.{timed, tickOf, closeOn, closeOf}
+use Rattle.timing.specs.declared.Answer.{Answer}
+use Rattle.lentcore.specs.Lent.{rules-other}
 
 -- ---- tick
 unfoldable pub tickChange : Node → Change
@@ -42,15 +40,15 @@ tickChange node = pick (spent (node .plan .sends) (node .echo)) C.Free (C.Tick (
 unfoldable pub tickCount : ℕ → Node → ℕ
 tickCount how node = pick {A = ℕ} (eqb how 0 || eqb how 1 && not (spent (node .plan .sends) (node .echo))) 0 64
 
-unfoldable pub tickLeft : ℕ → Node → Left
-tickLeft how node = pick (eqb how 0) (refusal 2 node) (refusal 0 (timed (echoTicked (node .plan) (node .echo)) (node .next) node))
+unfoldable pub tickLeft : ℕ → Node → Answer
+tickLeft how node = pick (eqb how 0) (bare 2 node) (bare 0 (timed (echoTicked (node .plan) (node .echo)) (node .next) node))
 
 -- ---- close: what is said of the record, where the rules are kept
 unfoldable pub closedBy : Bool → Session → Session
 closedBy kept s = pick kept (closeOn s .session) s
 
-unfoldable pub closeLeft : Bool → Node → Session → Left
-closeLeft kept node s = refusal (pick {A = ℕ} kept (closeOn s .number) 2) node
+unfoldable pub closeLeft : Bool → Node → Session → Answer
+closeLeft kept node s = bare (pick {A = ℕ} kept (closeOn s .number) 2) node
 
 -- ---- laws
 -- the rules count the records
@@ -80,10 +78,10 @@ all-still b n (s ∷ l) ok q =
     )
 
 -- the steps of a tick are a tick of the lent list
-pub lent-tick : (node : Node) (l zs : List Session) (how : ℕ) (c : Change) (n : ℕ) (r : Left)
+pub lent-tick : (node : Node) (l zs : List Session) (how : ℕ) (c : Change) (n : ℕ) (r : Answer)
     → how ≡ standsOf node l → c ≡ tickChange node → n ≡ tickCount how node → zs ≡ mapFirst (changedBy c) n l → r ≡ tickLeft how node
-    → left r zs ≡ tickOf node (held l)
-unfolding tickChange tickCount tickLeft refusal left held refused tickOf allTicked changedBy places standsOf
+    → outcome r zs [] ≡ tickOf node l
+unfolding tickChange tickCount tickLeft noReply tickOf allTicked changedBy places standsOf
 lent-tick node l zs how c n r e-h e-c e-n e-z e-r = split (keepsRules node l)
     (λ t. let m = kept-long node l t in
     split (spent (node .plan .sends) (node .echo))
@@ -96,10 +94,10 @@ lent-tick node l zs how c n r e-h e-c e-n e-z e-r = split (keepsRules node l)
     (λ t. rw (e-r, e-z, e-n, e-h, t, map-none (changedBy c) l))
 
 -- and those of closing a place: what is put back unchanged changes nothing
-pub lent-close : (node : Node) (l zs : List Session) (i : ℕ) (kept : Bool) (s c : Session) (r : Left)
+pub lent-close : (node : Node) (l zs : List Session) (i : ℕ) (kept : Bool) (s c : Session) (r : Answer)
     → kept ≡ keepsRules node l → s ≡ getD l i (blankAt 0) → c ≡ closedBy kept s → zs ≡ set l i c → r ≡ closeLeft kept node s
-    → left r zs ≡ closeOf node (held l) i
-unfolding closedBy closeLeft refusal left held refused closeOf onSession closeOn quiet changedAt
+    → outcome r zs [] ≡ closeOf node l i
+unfolding closedBy closeLeft noReply closeOf onSession closeOn quiet changedAt overlay
 lent-close node l zs i kept s c r e-k e-s e-c e-z e-r = split (keepsRules node l)
     (λ t. split (isFree (getD l i nobody)) (λ f. rw (e-r, e-z, e-c, e-s, e-k, t, f)) (λ f. rw (e-r, e-z, e-c, e-s, e-k, t, f)))
     (λ t. rw (e-r, e-z, e-c, e-s, e-k, t, set-getD l i nobody))

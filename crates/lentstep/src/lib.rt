@@ -1,32 +1,21 @@
 // What tick, close and send do beside reading and changing the lent records where they lie, on values: which change is made of how many
 // records or of which one, what becomes of it, and what goes back by value.
 use glance::Seen;
-use lentcore::Left;
 use session::Session;
 use table::Change;
 use table::Node;
 use table::Table;
 use timing::Answer;
 ghost use mathlib.Core.Path.{_≡_};
-ghost use Rattle.lentstep.specs.Send.{takenAmong, loudIn, nextDue, placeOf, sentBy, posted, echoLeft, placeLeft, sendLeft};
-ghost use Rattle.lentstep.specs.Step.{refusal, tickChange, tickCount, tickLeft, closedBy, closeLeft};
+ghost use Rattle.timing.specs.Outcome.{back};
+ghost use Rattle.lentstep.specs.Send.{takenAmong, loudIn, nextDue, placeOf, sentBy, echoLeft, placeLeft, sendLeft};
+ghost use Rattle.lentstep.specs.Step.{tickChange, tickCount, tickLeft, closedBy, closeLeft};
 
 // What is sent next: nothing, with the number that says why; or the echo; or the request of a place. The number is that of a first send.
 pub enum Sending {
     Nothing(u8),
     Echo(u32),
     At { place: usize, number: u32 },
-}
-
-// A number alone, with the node as it was.
-fn refusal(number: u8, node: Node) -> Left
-    ensures { λ r. ⌜ r ≡ refusal number node ⌝ }
-{
-    Left {
-        number,
-        size: 0,
-        node,
-    }
 }
 
 // What a tick makes of a record: an echo that is given up frees all.
@@ -57,15 +46,15 @@ pub fn tick_count(how: u8, node: Node) -> usize
 }
 
 // What goes back of a tick by value.
-pub fn tick_left(how: u8, mut node: Node) -> Left
+pub fn tick_left(how: u8, mut node: Node) -> Answer
     ensures { λ r. ⌜ r ≡ tickLeft how node ⌝ }
 {
     if how == 0 {
-        return refusal(2, node);
+        return Answer::bare(2, node);
     }
     let next = node.echo_ticked();
     node.echo = next;
-    refusal(0, node)
+    Answer::bare(0, node)
 }
 
 // The record of a place to close: a free one stays as it is, and so does every one where the rules fail.
@@ -79,17 +68,17 @@ pub fn closed_by(kept: bool, s: Session) -> Session
     s
 }
 
-pub fn close_left(kept: bool, node: Node, s: Session) -> Left
+pub fn close_left(kept: bool, node: Node, s: Session) -> Answer
     ensures { λ r. ⌜ r ≡ closeLeft kept node s ⌝ }
 {
     if !kept {
-        return refusal(2, node);
+        return Answer::bare(2, node);
     }
     let free = s.is_free();
     if free {
-        return refusal(10, node);
+        return Answer::bare(10, node);
     }
-    refusal(0, node)
+    Answer::bare(0, node)
 }
 
 // The number that a first send takes, by what is awaited.
@@ -155,8 +144,8 @@ pub fn sent_by(p: Sending, node: Node, s: Session) -> Session
 }
 
 // The echo sent.
-fn echo_left(mut node: Node, k: u32, reply: &mut [u8]) -> Left
-    ensures { λ r. ⌜ posted r (now (reply .exit)) ≡ echoLeft node k (now (reply .entry)) ⌝ }
+fn echo_left(mut node: Node, k: u32, reply: &mut [u8]) -> Answer
+    ensures { λ r. ⌜ back r (now (reply .exit)) ≡ echoLeft node k (now (reply .entry)) ⌝ }
 {
     let plan = node.plan;
     let echo = node.echo;
@@ -165,7 +154,7 @@ fn echo_left(mut node: Node, k: u32, reply: &mut [u8]) -> Left
     node.echo = sent;
     node.next = next;
     messages::echo_of(reply, 1, sent.number, plan.recovery);
-    Left {
+    Answer {
         number: 0,
         size: 13,
         node,
@@ -173,8 +162,8 @@ fn echo_left(mut node: Node, k: u32, reply: &mut [u8]) -> Left
 }
 
 // The Delete Bearer of a place sent.
-fn place_left(mut node: Node, k: u32, s: Session, reply: &mut [u8]) -> Left
-    ensures { λ r. ⌜ posted r (now (reply .exit)) ≡ placeLeft node k s (now (reply .entry)) ⌝ }
+fn place_left(mut node: Node, k: u32, s: Session, reply: &mut [u8]) -> Answer
+    ensures { λ r. ⌜ back r (now (reply .exit)) ≡ placeLeft node k s (now (reply .entry)) ⌝ }
 {
     let plan = node.plan;
     let own = s.own;
@@ -182,18 +171,18 @@ fn place_left(mut node: Node, k: u32, s: Session, reply: &mut [u8]) -> Left
     let next = timing::stepped(own.sends, k, node.next);
     node.next = next;
     messages::delete_bearer(reply, s.control, sent.number, s.ebi);
-    Left {
+    Answer {
         number: 0,
         size: 17,
         node,
     }
 }
 
-pub fn send_left(p: Sending, node: Node, s: Session, reply: &mut [u8]) -> Left
-    ensures { λ r. ⌜ posted r (now (reply .exit)) ≡ sendLeft p node s (now (reply .entry)) ⌝ }
+pub fn send_left(p: Sending, node: Node, s: Session, reply: &mut [u8]) -> Answer
+    ensures { λ r. ⌜ back r (now (reply .exit)) ≡ sendLeft p node s (now (reply .entry)) ⌝ }
 {
     match p {
-        Sending::Nothing(number) => refusal(number, node),
+        Sending::Nothing(number) => Answer::bare(number, node),
         Sending::Echo(k) => echo_left(node, k, reply),
         Sending::At { place: _, number } => place_left(node, number, s, reply),
     }

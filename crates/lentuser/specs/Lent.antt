@@ -15,7 +15,7 @@ use Rattle.session.specs.declared.Session.{Session}
 use Rattle.session.specs.Session.{blankAt}
 use Rattle.table.specs.declared.Node.{Node}
 use Rattle.table.specs.Rules.{keepsRules}
-use Rattle.timing.specs.Timing.{leastReply}
+use Rattle.timing.specs.Outcome.{leastReply}
 use Rattle.gpdu.specs.Part.{IsRest, rest-length}
 use Rattle.userside.specs.UserSide.{Took, took, silent, placeIn, checkedTaken, userTaken, user-checked}
 use Rattle.lentcore.specs.Lent.{uncounted, rules-other}

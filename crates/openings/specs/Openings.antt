@@ -28,7 +28,8 @@ use Rattle.header.specs.declared.HeaderCursor.{HeaderCursor}
 use Rattle.readers.specs.declared.Recovery.{Recovery}
 use Rattle.readers.specs.declared.Recovery.the-variants as R
 use Rattle.requests.specs.declared.Create as C
-use Rattle.timing.specs.Timing.{Outcome, outcome, timed, held}
+use Rattle.timing.specs.Outcome.{Outcome, outcome}
+use Rattle.timing.specs.Timing.{timed}
 use Rattle.control.specs.Echoes.{heardNode}
 use Rattle.control.specs.Amends.{causeOctets}
 use Rattle.control.specs.Creates.{openingOf, acceptedOctets, noRoom, isRepeat}
@@ -195,10 +196,6 @@ pairPut l p o = set (set (mapFirst (changedBy Ch.Free) (freedCount p) l) (p .old
 -- the answer with the node and the records
 unfoldable pub placedPair : Node → Pair → List Session → Made → Outcome
 placedPair node p l m = outcome
-    (record {
-      number = m .answer .number;
-      size = m .answer .size;
-      node = nodeAfter (m .answer) node;
-      table = held (pairPut l p (m .answer));
-    })
+    (record { number = m .answer .number; size = m .answer .size; node = nodeAfter (m .answer) node })
+    (pairPut l p (m .answer))
     (m .reply)

@@ -3,6 +3,7 @@
 -- fourth on.
 -- Assumes nothing.
 use Prim.Native.Nat.{ℕ, suc, _+_, _<_, _≤_, _^_}
+use mathlib.Core.Bool.{Bool}
 use mathlib.Core.List.{List, [], _∷_, _++_}
 use mathlib.Core.Path.{_≡_}
 use native.Mathlib.Omega.{arith}
@@ -17,10 +18,9 @@ use Rattle.numerals.specs.Hex.{hexOf, length-hex}
 use Rattle.session.specs.declared.Session.{Session}
 use Rattle.session.specs.Session.{isFree, isClosing}
 use Rattle.table.specs.declared.Node.{Node}
-use Rattle.table.specs.declared.Table.{Table}
 use Rattle.table.specs.Rules.{keepsRules}
 use Rattle.table.specs.Change.{nobody}
-use Rattle.timing.specs.Timing.{Outcome, outcome, refused, leastReply}
+use Rattle.timing.specs.Outcome.{Outcome, leastReply, bare, Back, back, backWith}
 
 -- a tab, then the field
 unfoldable pub numberText : ℕ → List ℕ
@@ -53,16 +53,19 @@ unfoldable pub lineText : ℕ → Session → List ℕ
 lineText place s = decimal 1 place ++ numberText (s .usage) ++ (9 ∷ []) ++ (stateLetter s ∷ []) ++ restText s
 
 -- ---- the call: 1, 2, 10; a line that is longer than the buffer would be cut, and none is (`line-fits`)
-unfoldable pub lineOf : Node → Table → ℕ → List ℕ → Outcome
-lineOf node t place reply =
-    pick (ltb (length reply) leastReply) (outcome (refused 1 node t) reply)
-    (pick (keepsRules node (t .recs))
-    (pick (ltb place (length (t .recs)))
-    (outcome
-    (record { number = 0; size = laid 0 (lineText place (getD (t .recs) place nobody)) reply .at; node = node; table = t })
-    (laid 0 (lineText place (getD (t .recs) place nobody)) reply .out))
-    (outcome (refused 10 node t) reply))
-    (outcome (refused 2 node t) reply))
+-- of the record of a place, where it is known whether the rules are kept and whether there is such a place
+unfoldable pub lineBy : Bool → Bool → Node → ℕ → Session → List ℕ → Back
+lineBy kept there node place s reply =
+    pick (ltb (length reply) leastReply) (back (bare 1 node) reply)
+    (pick kept
+    (pick there
+    (back (record { number = 0; size = laid 0 (lineText place s) reply .at; node = node }) (laid 0 (lineText place s) reply .out))
+    (back (bare 10 node) reply))
+    (back (bare 2 node) reply))
+
+-- the table stays
+unfoldable pub lineOf : Node → List Session → ℕ → List ℕ → Outcome
+lineOf node t place reply = backWith t (lineBy (keepsRules node t) (ltb place (length t)) node place (getD t place nobody) reply)
 
 -- ---- the line that is written
 -- ---- no line is longer than 83 characters, so that none is cut: numbers of 32 bits, a use and a creating number of 24

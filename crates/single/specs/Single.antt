@@ -23,7 +23,7 @@ use Rattle.carried.specs.Carried as carried
 use Rattle.carried.specs.declared.BearerReply.{BearerReply}
 use Rattle.carried.specs.declared.BearerReply.the-variants as B
 use Rattle.changes.specs.Change.{modifyOf, deleteOf}
-use Rattle.timing.specs.Timing.{Done, quiet}
+use Rattle.timing.specs.Outcome.{Done, quiet}
 use Rattle.control.specs.Amends.{notLive, causeOn, modifyRead, modifyOn, deleteRead, deleteOn, bearerBy, bearerOn, sessionOf}
 use Rattle.single.specs.declared.Single.{Single}
 

@@ -9,7 +9,7 @@ use session::Session;
 use tunnel::ControlTeid;
 use tunnel::Holder;
 ghost use mathlib.Core.Path.{_≡_};
-ghost use Rattle.timing.specs.Timing.{quiet};
+ghost use Rattle.timing.specs.Outcome.{quiet};
 ghost use Rattle.control.specs.Amends.{causeOn, movedOn, modifyRead, modifyOn, freedOn, deleteRead, deleteOn, bearerBy, bearerOn};
 ghost use Rattle.single.specs.Single.{singled, single, doneWith, ownedBy, ofNumber, singleOf};
 

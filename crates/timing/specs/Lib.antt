@@ -1,3 +1,4 @@
+pub mod Outcome
 pub mod Timing
 pub mod OnSession
 pub mod Kept

@@ -14,7 +14,8 @@ use Rattle.session.specs.Keep.{Lighter, ok-freed, ok-closed, lighter-same, ligh
 use Rattle.table.specs.declared.Node.{Node}
 use Rattle.table.specs.Rules.{boundsOf, keepsRules, rules-of, rules-to}
 use Rattle.table.specs.Change.{nobody, changedAt, at-changed, record-ok, rules-set}
-use Rattle.timing.specs.Timing.{Done, quiet, held, onSession, closeOn}
+use Rattle.timing.specs.Outcome.{Done, quiet, onSession}
+use Rattle.timing.specs.Timing.{closeOn}
 
 -- a record that may stand in the place of another: it keeps the rules of a record, is on no other access point, has no other IMSI and EBI,
 -- and awaits no other number
@@ -36,8 +37,8 @@ module _ (b : Bounds) (s : Session) (ok : recordOk b s ≡ true) where
 module _ (node : Node) (l : List Session) (i : ℕ) (f : Session → Done) (reply : List ℕ) where
   -- the table's rules are kept
   pub on-keeps : keepsRules node l ≡ true → ((s : Session) → recordOk (boundsOf (node .plan)) s ≡ true → Fits (boundsOf (node .plan)) s (f s .session))
-      → keepsRules (onSession node l i f reply .answer .node) (onSession node l i f reply .answer .table .recs) ≡ true
-  unfolding onSession held changedAt
+      → keepsRules (onSession node l i f reply .answer .node) (onSession node l i f reply .table) ≡ true
+  unfolding onSession changedAt
   on-keeps k fits =
       let r = rules-of node l k in
       let q = fits (getD l i nobody) (record-ok (node .plan) (node .echo) (node .next) l r i) in
@@ -46,6 +47,6 @@ module _ (node : Node) (l : List Session) (i : ℕ) (f : Session → Done) (repl
 
   -- every place is as it was, or what becomes of it
   pub on-at : (P : Session → Type 0) (j : ℕ) → j < length l → P (getD l j nobody) → (j ≡ i → P (f (getD l j nobody) .session))
-      → P (getD (onSession node l i f reply .answer .table .recs) j nobody)
-  unfolding onSession held
+      → P (getD (onSession node l i f reply .table) j nobody)
+  unfolding onSession
   on-at P j h a b = at-changed P (λ s. f s .session) l j i h a b

@@ -1,59 +1,51 @@
-// What a call answers, fresh state from a plan, and the next number after a send. The definitions of tick, close and send next due are
-// here too; the calls that are them are made on lent records.
+// What a call answers by value, and what of fresh and of a send is worked out on a plan and on numbers alone. The definitions of fresh, tick,
+// close and send next due are here too; the calls that are them are made on lent records.
 use plan::Plan;
 use table::Node;
 use table::Table;
 ghost use mathlib.Core.Path.{_≡_};
-ghost use Rattle.timing.specs.Timing.{refused, freshOf, stepped};
+ghost use Rattle.timing.specs.Outcome.{bare};
+ghost use Rattle.timing.specs.Timing.{freshBy, stepped};
 
-// What a call answers: document 01's number, the reply's length, and the table with what goes with it.
+// What a call answers by value: document 01's number, the reply's length, and what goes with the records. The records are the caller's.
+#[repr(C)]
 pub struct Answer {
     pub number: u8,
     pub size: usize,
     pub node: Node,
-    pub table: Table,
 }
 
 impl Answer {
     // Number 1 is a reply buffer under this.
     pub const LEAST_REPLY: usize = 128;
 
-    // A number alone: no reply, the table as lent.
-    pub fn refused(number: u8, node: Node, table: Table) -> Self
-        ensures { λ r. ⌜ r ≡ refused number node table ⌝ }
+    // A number alone: no reply.
+    pub fn bare(number: u8, node: Node) -> Self
+        ensures { λ r. ⌜ r ≡ bare number node ⌝ }
     {
         Answer {
             number,
             size: 0,
             node,
-            table,
         }
     }
 }
 
-// Fresh state from a plan.
-pub fn fresh(plan: Plan) -> Answer
-    ensures { λ r. ⌜ r ≡ freshOf plan ⌝ }
+// What fresh answers by value, from the count of records that are lent and the plan.
+pub fn fresh(count: usize, plan: Plan) -> Answer
+    ensures { λ r. ⌜ r ≡ freshBy count plan ⌝ }
 {
-    let table = Table::fresh();
+    let none = Plan::none();
+    let empty = Node::fresh(none);
+    if count != Table::PLACES {
+        return Answer::bare(2, empty);
+    }
     let ok = plan.accepted();
     if ok {
         let node = Node::fresh(plan);
-        return Answer {
-            number: 0,
-            size: 0,
-            node,
-            table,
-        };
+        return Answer::bare(0, node);
     }
-    let none = Plan::none();
-    let node = Node::fresh(none);
-    Answer {
-        number: 16,
-        size: 0,
-        node,
-        table,
-    }
+    Answer::bare(16, empty)
 }
 
 // The next number after a send: a first send took k, a resend kept its own.

@@ -1,5 +1,5 @@
 use mathlib.Core.Path.{refl}
-use Rattle.timing.specs.Timing.{quiet}
+use Rattle.timing.specs.Outcome.{quiet}
 use Rattle.single.specs.Single.{single}
 use Rattle.single.proofs.refused.Statement.{statement}
 use Rattle.single.proofs.refused.Tie as tie

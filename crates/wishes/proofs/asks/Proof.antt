@@ -1,6 +1,6 @@
 use borrow.Author.Tests.{le-ltb, lt-ltb}
 use Rattle.wishes.specs.Wishes.{asksFor}
-use Rattle.timing.specs.Timing.{leastReply}
+use Rattle.timing.specs.Outcome.{leastReply}
 use borrow.Author.Needs.{needs}
 use Rattle.wishes.proofs.asks.Statement.{statement}
 use Rattle.wishes.proofs.asks.Tie as tie

@@ -1,4 +1,3 @@
-use Rattle.timing.specs.Timing.{held-is}
 use Rattle.benchplan.specs.State.{emptyRun, first}
 use borrow.Author.Needs.{needs}
 use Rattle.benchplan.proofs.Bench.start.Statement.{statement}
