@@ -28,8 +28,8 @@ lineShown x = take (x .answer .size) (x .reply) ++ (10 ∷ [])
 
 unfoldable pub placePrinted : ℕ → Bench → List ℕ → Ran
 placePrinted place b out =
-    pick (eqb (getD (b .table) place nobody .usage) 0) (ran b out)
-    (printed (lineShown (lineOf (b .node) (b .table) place lentReply)) (λ made. withMade made b) (b .made) out)
+    pick (eqb (getD (b .table .recs) place nobody .usage) 0) (ran b out)
+    (printed (lineShown (lineOf (b .node) (b .table .recs) place lentReply)) (λ made. withMade made b) (b .made) out)
 
 -- so many places from a place on
 unfoldable pub placesFrom : ℕ → ℕ → Ran → Ran
@@ -37,7 +37,7 @@ placesFrom zero place x = x
 placesFrom (suc k) place x = placesFrom k (place + 1) (placePrinted place (x .bench) (x .out))
 
 unfoldable pub placesPrinted : Bench → List ℕ → Ran
-placesPrinted b out = placesFrom 64 0 (printed (liveText (sessions (b .table))) (λ made. withMade made b) (b .made) out)
+placesPrinted b out = placesFrom 64 0 (printed (liveText (sessions (b .table .recs))) (λ made. withMade made b) (b .made) out)
 
 -- ---- the end of the input: without any line it is a bad first line
 unfoldable pub endPlan : Bench → List ℕ → Ran
@@ -54,7 +54,7 @@ ended b out =
 pub place-length : (place : ℕ) (b : Bench) (out : List ℕ) → length (placePrinted place b out .out) ≡ length out
 unfolding placePrinted
 place-length place b out =
-    split (eqb (getD (b .table) place nobody .usage) 0) (λ e. rw e) (λ e. rw e (printed-length _ _ _ _))
+    split (eqb (getD (b .table .recs) place nobody .usage) 0) (λ e. rw e) (λ e. rw e (printed-length _ _ _ _))
 
 pub places-on : (i : ℕ) (b c : Bench) (out o : List ℕ) → i < 64 → ran c o ≡ placePrinted i b out → placesFrom (64 - i) i (ran b out) ≡ placesFrom (64 - (i + 1)) (i + 1) (ran c o)
 unfolding placesFrom
@@ -72,16 +72,16 @@ past-unused (x ∷ l) (suc i) h = past-unused l i (omega arith)
 
 -- ---- a place: past the last, never used, used
 module _ (place : ℕ) (b : Bench) (out : List ℕ) where
-  pub place-out : length (b .table) ≤ place → ran b out ≡ placePrinted place b out
+  pub place-out : length (b .table .recs) ≤ place → ran b out ≡ placePrinted place b out
   unfolding placePrinted
-  place-out h = rw (past-unused (b .table) place h)
+  place-out h = rw (past-unused (b .table .recs) place h)
 
-  pub place-unused : (d : Session) → place < length (b .table) → getD (b .table) place d .usage ≡ 0 → ran b out ≡ placePrinted place b out
+  pub place-unused : (d : Session) → place < length (b .table .recs) → getD (b .table .recs) place d .usage ≡ 0 → ran b out ≡ placePrinted place b out
   unfolding placePrinted
-  place-unused d h e = rw (any-default (b .table) place nobody d h, e)
+  place-unused d h e = rw (any-default (b .table .recs) place nobody d h, e)
 
-  pub place-used : (d : Session) (x : Outcome) (r : ℕ) (o : List ℕ) → place < length (b .table) → (getD (b .table) place d .usage ≡ 0 → ⊥)
-      → x ≡ lineOf (b .node) (b .table) place lentReply → written r o ≡ laid (b .made) (lineShown x) out → ran (withMade r b) o ≡ placePrinted place b out
+  pub place-used : (d : Session) (x : Outcome) (r : ℕ) (o : List ℕ) → place < length (b .table .recs) → (getD (b .table .recs) place d .usage ≡ 0 → ⊥)
+      → x ≡ lineOf (b .node) (b .table .recs) place lentReply → written r o ≡ laid (b .made) (lineShown x) out → ran (withMade r b) o ≡ placePrinted place b out
   unfolding placePrinted
   place-used d x r o h n f e =
-      rw (any-default (b .table) place nobody d h, ne-eqb _ 0 n, ← f) (printed-by (lineShown x) (λ made. withMade made b) (b .made) r out o e)
+      rw (any-default (b .table .recs) place nobody d h, ne-eqb _ 0 n, ← f) (printed-by (lineShown x) (λ made. withMade made b) (b .made) r out o e)

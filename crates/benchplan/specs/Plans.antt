@@ -11,7 +11,6 @@ use Rattle.plan.specs.declared.Plan.{Plan}
 use Rattle.plan.specs.Limits.{noPoint}
 use Rattle.table.specs.declared.Node.{Node}
 use Rattle.table.specs.Own.{freshNode}
-use Rattle.timing.specs.Outcome.{outcome}
 use Rattle.timing.specs.Timing.{freshOf}
 use Rattle.benchtext.specs.declared.Line.{Line}
 use Rattle.benchtext.specs.declared.Line.the-variants as L
@@ -80,9 +79,9 @@ oneMore b guarantee ceiling octets out =
 -- the plan taken; a refused one prints its number and -, and ends
 unfoldable pub planTaken : Bench → List ℕ → Ran
 planTaken b out =
-    pick (eqb (freshOf (b .node .plan) .number) 0)
-    (ran (keptIn (freshOf (b .node .plan)) runs (b .made) b) out)
-    (answered over (outcome (freshOf (b .node .plan)) []) b out)
+    pick (eqb (freshOf (b .node .plan) (b .table .recs) .answer .number) 0)
+    (ran (keptIn (freshOf (b .node .plan) (b .table .recs)) runs (b .made) b) out)
+    (answered over (freshOf (b .node .plan) (b .table .recs)) b out)
 
 -- the first line has to be N
 unfoldable pub startLine : Line → Bench → List ℕ → Ran

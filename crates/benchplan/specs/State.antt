@@ -7,10 +7,10 @@ use lib.ListN.{length, take, replicate}
 use lib.Dec.{ltb}
 use Rattle.octets.specs.Choice.{pick}
 use Rattle.numerals.specs.Laid.{laid, written, Written, laid-length}
+use Rattle.tunnel.specs.Numbering.{places}
 use Rattle.plan.specs.Limits.{noPlan}
 use Rattle.table.specs.Change.{nobody}
 use Rattle.table.specs.Own.{freshNode}
-use Rattle.timing.specs.declared.Answer.{Answer}
 use Rattle.timing.specs.Outcome.{Outcome}
 use Rattle.benchtext.specs.Prints.{answerText, badText}
 use Rattle.benchplan.specs.declared.Bench.{Bench}
@@ -37,7 +37,7 @@ unfoldable pub over : ℕ
 over = 3
 
 unfoldable pub emptyRun : Bench
-emptyRun = record { phase = first; lines = 0; made = 0; node = freshNode noPlan; table = (replicate 64 nobody) }
+emptyRun = record { phase = first; lines = 0; made = 0; node = freshNode noPlan; table = record { recs = replicate places nobody } }
 
 -- what a call gets as its reply buffer
 unfoldable pub lentReply : List ℕ
@@ -53,8 +53,8 @@ withLine b = record { phase = b .phase; lines = counted (b .lines); made = b .ma
 unfoldable pub withMade : ℕ → Bench → Bench
 withMade made b = record { phase = b .phase; lines = b .lines; made = made; node = b .node; table = b .table }
 
-unfoldable pub keptIn : Answer → ℕ → ℕ → Bench → Bench
-keptIn a phase made b = record { phase = phase; lines = b .lines; made = made; node = a .node; table = a .table }
+unfoldable pub keptIn : Outcome → ℕ → ℕ → Bench → Bench
+keptIn x phase made b = record { phase = phase; lines = b .lines; made = made; node = x .answer .node; table = record { recs = x .table } }
 
 -- ---- printing
 -- text behind what was printed before, and the run that is the outcome, by the place behind the text
@@ -71,7 +71,7 @@ endBad b out = printed (badText (b .lines)) (badAt b) (b .made) out
 -- number and reply
 unfoldable pub answered : ℕ → Outcome → Bench → List ℕ → Ran
 answered phase x b out =
-    printed (answerText (x .answer .number) (take (x .answer .size) (x .reply))) (λ made. keptIn (x .answer) phase made b) (b .made) out
+    printed (answerText (x .answer .number) (take (x .answer .size) (x .reply))) (λ made. keptIn x phase made b) (b .made) out
 
 -- ---- laws of the printing
 pub printed-by : (text : List ℕ) (next : ℕ → Bench) (made r : ℕ) (out o : List ℕ) → written r o ≡ laid made text out → ran (next r) o ≡ printed text next made out

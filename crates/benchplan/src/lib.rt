@@ -1,14 +1,15 @@
 // The two ends of the bench's run: where a run stands, what is printed for an answer, the lines of the plan; and at the end of the input the
 // live count and a line for each place that was ever used. Output goes into a lent buffer from a place on; the programs write it out.
 use benchtext::Line;
+use lentcore::Whole;
 use plan::AccessPoint;
 use plan::Plan;
 use table::Node;
 use table::Table;
-use timing::Answer;
+ghost use mathlib.Core.List.{[]};
 ghost use mathlib.Core.Path.{_≡_};
 ghost use lib.ListN.{take};
-ghost use Rattle.timing.specs.Outcome.{outcome};
+ghost use Rattle.lentcore.specs.Lent.{outcomeOf};
 ghost use Rattle.benchplan.specs.State.{ran, emptyRun, counted, withLine, withMade, endBad, keptIn, answered};
 ghost use Rattle.benchplan.specs.Ended.{placePrinted, placesPrinted, endPlan, ended};
 ghost use Rattle.benchplan.specs.Plans.{firstLine, pointFrom, withPoint, oneMore, planTaken, startLine};
@@ -149,8 +150,8 @@ pub fn one_more(mut b: Bench, guarantee: u8, ceiling: u8, octets: &[u8], out: &m
 }
 
 // What a call answered is kept, and so much is printed.
-pub fn kept_in(mut b: Bench, a: Answer, phase: u8, made: usize) -> Bench
-    ensures { λ r. ⌜ r ≡ keptIn a phase made b ⌝ }
+pub fn kept_in(mut b: Bench, a: Whole, phase: u8, made: usize) -> Bench
+    ensures { λ r. ⌜ r ≡ keptIn (outcomeOf a []) phase made b ⌝ }
 {
     let node = a.node;
     let table = a.table;
@@ -162,8 +163,8 @@ pub fn kept_in(mut b: Bench, a: Answer, phase: u8, made: usize) -> Bench
 }
 
 // What a call answered: number and reply printed, the table kept.
-pub fn answered(b: Bench, a: Answer, reply: &[u8], phase: u8, out: &mut [u8]) -> Bench
-    ensures { λ r. ⌜ ran r (now (out .exit)) ≡ answered phase (outcome a (now (reply .entry))) b (now (out .entry)) ⌝ }
+pub fn answered(b: Bench, a: Whole, reply: &[u8], phase: u8, out: &mut [u8]) -> Bench
+    ensures { λ r. ⌜ ran r (now (out .exit)) ≡ answered phase (outcomeOf a (now (reply .entry))) b (now (out .entry)) ⌝ }
 {
     let shown = front(reply, a.size);
     let made = benchtext::put_answer(out, b.made, a.number, shown);
@@ -189,7 +190,7 @@ pub fn take_plan(b: Bench, out: &mut [u8]) -> Bench
     ensures { λ r. ⌜ ran r (now (out .exit)) ≡ planTaken b (now (out .entry)) ⌝ }
 {
     let node = b.node;
-    let a = lend::fresh(node.plan);
+    let a = lend::fresh(node.plan, b.table);
     if a.number == 0 {
         return kept_in(b, a, Bench::RUNS, b.made);
     }

@@ -19,7 +19,7 @@ use Rattle.benchplan.specs.State.{Ran, ran, lentReply, withMade, keptIn, printe
 
 -- ---- all that is due
 unfoldable pub sendTry : Bench → Outcome
-sendTry b = sendOf (b .node) (b .table) lentReply
+sendTry b = sendOf (b .node) (b .table .recs) lentReply
 
 unfoldable pub isDue : Bench → Bool
 isDue b = eqb (sendTry b .answer .number) 0
@@ -27,7 +27,7 @@ isDue b = eqb (sendTry b .answer .number) 0
 unfoldable pub sentOne : Bench → List ℕ → Ran
 sentOne b out =
     pick (isDue b)
-    (printed (dueText (take (sendTry b .answer .size) (sendTry b .reply))) (λ made. keptIn (sendTry b .answer) (b .phase) made b) (b .made) out)
+    (printed (dueText (take (sendTry b .answer .size) (sendTry b .reply))) (λ made. keptIn (sendTry b) (b .phase) made b) (b .made) out)
     (ran b out)
 
 unfoldable pub dueSent : ℕ → Ran → Ran
@@ -50,7 +50,7 @@ userShown x d =
 
 unfoldable pub userRun : List ℕ → Bench → List ℕ → Ran
 userRun d b out =
-    printed (userShown (userTaken (b .node) (b .table) d lentReply) d) (λ made. withMade made b) (b .made) out
+    printed (userShown (userTaken (b .node) (b .table .recs) d lentReply) d) (λ made. withMade made b) (b .made) out
 
 -- ---- laws of the sending loop, with k tries left
 pub sent-length : (b : Bench) (out : List ℕ) → length (sentOne b out .out) ≡ length out
@@ -73,7 +73,7 @@ sent-end x = refl
 
 -- ---- a user datagram, by what came back of it
 module _ (d : List ℕ) (b : Bench) (out : List ℕ) (n p s start : ℕ) (rep payload : List ℕ) (r : ℕ) (o : List ℕ)
-    (e : took n p s rep start ≡ userTaken (b .node) (b .table) d lentReply) (q : payload ≡ drop start d) where
+    (e : took n p s rep start ≡ userTaken (b .node) (b .table .recs) d lentReply) (q : payload ≡ drop start d) where
   pub user-packet : (eqb n 0 && eqb s 0) ≡ true → written r o ≡ laid (b .made) (packetText n (take s rep) payload) out → ran (withMade r b) o ≡ userRun d b out
   unfolding userRun userShown
   user-packet t w = rw (← e, t, ← q) (printed-by (packetText n (take s rep) payload) (λ made. withMade made b) (b .made) r out o w)

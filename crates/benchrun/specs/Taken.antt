@@ -6,7 +6,6 @@ use mathlib.Core.List.{List, []}
 use lib.ListN.{take, replicate}
 use lib.Dec.{eqb}
 use Rattle.octets.specs.Choice.{pick}
-use Rattle.timing.specs.Outcome.{outcome}
 use Rattle.timing.specs.Timing.{tickOf, closeOf}
 use Rattle.control.specs.Control.{controlTaken}
 use Rattle.benchtext.specs.declared.Line.{Line}
@@ -19,10 +18,10 @@ use Rattle.benchrun.specs.Run.{thenSent, userRun}
 
 -- ---- once the plan is taken
 unfoldable pub runLine : Line → List ℕ → Bench → List ℕ → Ran
-runLine (Control size) octets b out = answered (b .phase) (controlTaken (b .node) (b .table) (take size octets) lentReply) b out
+runLine (Control size) octets b out = answered (b .phase) (controlTaken (b .node) (b .table .recs) (take size octets) lentReply) b out
 runLine (User size) octets b out = userRun (take size octets) b out
-runLine Tick octets b out = thenSent (answered (b .phase) (outcome (tickOf (b .node) (b .table)) []) b out)
-runLine (Close place) octets b out = thenSent (answered (b .phase) (outcome (closeOf (b .node) (b .table) place) []) b out)
+runLine Tick octets b out = thenSent (answered (b .phase) (tickOf (b .node) (b .table .recs)) b out)
+runLine (Close place) octets b out = thenSent (answered (b .phase) (closeOf (b .node) (b .table .recs) place) b out)
 runLine (Node control user pool recovery resend sends interval) octets b out = endBad b out
 runLine (Point guarantee ceiling size) octets b out = endBad b out
 runLine BadPoint octets b out = endBad b out

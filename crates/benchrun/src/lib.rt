@@ -1,10 +1,8 @@
 // The bench's run: what one line of input does to the unit and what is printed for it.
 use benchplan::Bench;
 use benchtext::Line;
-ghost use mathlib.Core.List.{[]};
 ghost use mathlib.Core.Path.{_≡_};
 ghost use lib.ListN.{replicate};
-ghost use Rattle.timing.specs.Outcome.{outcome};
 ghost use Rattle.timing.specs.Timing.{tickOf, closeOf};
 ghost use Rattle.control.specs.Control.{controlTaken};
 ghost use Rattle.benchplan.specs.State.{ran, answered};
@@ -54,7 +52,7 @@ fn send_due(mut b: Bench, out: &mut [u8]) -> Bench
 }
 
 fn run_control(b: Bench, d: &[u8], out: &mut [u8]) -> Bench
-    ensures { λ r. ⌜ ran r (now (out .exit)) ≡ answered (b .phase) (controlTaken (b .node) (b .table) (now (d .entry)) (replicate 128 0)) b (now (out .entry)) ⌝ }
+    ensures { λ r. ⌜ ran r (now (out .exit)) ≡ answered (b .phase) (controlTaken (b .node) (b .table .recs) (now (d .entry)) (replicate 128 0)) b (now (out .entry)) ⌝ }
 {
     let mut reply = [0; 128];
     let a = lendcontrol::take_control(b.node, b.table, d, &mut reply);
@@ -88,7 +86,7 @@ fn run_user(b: Bench, d: &[u8], out: &mut [u8]) -> Bench
 }
 
 fn run_tick(b: Bench, out: &mut [u8]) -> Bench
-    ensures { λ r. ⌜ ran r (now (out .exit)) ≡ thenSent (answered (b .phase) (outcome (tickOf (b .node) (b .table)) []) b (now (out .entry))) ⌝ }
+    ensures { λ r. ⌜ ran r (now (out .exit)) ≡ thenSent (answered (b .phase) (tickOf (b .node) (b .table .recs)) b (now (out .entry))) ⌝ }
 {
     let a = lend::tick(b.node, b.table);
     let none = [0; 0];
@@ -97,7 +95,7 @@ fn run_tick(b: Bench, out: &mut [u8]) -> Bench
 }
 
 fn run_close(b: Bench, place: u8, out: &mut [u8]) -> Bench
-    ensures { λ r. ⌜ ran r (now (out .exit)) ≡ thenSent (answered (b .phase) (outcome (closeOf (b .node) (b .table) place) []) b (now (out .entry))) ⌝ }
+    ensures { λ r. ⌜ ran r (now (out .exit)) ≡ thenSent (answered (b .phase) (closeOf (b .node) (b .table .recs) place) b (now (out .entry))) ⌝ }
 {
     let a = lend::close(b.node, b.table, place as usize);
     let none = [0; 0];

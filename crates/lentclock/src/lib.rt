@@ -1,16 +1,16 @@
 // Tick, close and send next due, as firmware calls them: the caller lends its records, the node goes in and comes back by value.
-use lentcore::Left;
 use session::Session;
 use table::Node;
+use timing::Answer;
+ghost use mathlib.Core.List.{[]};
 ghost use mathlib.Core.Path.{_≡_};
 ghost use Rattle.timing.specs.Outcome.{outcome};
 ghost use Rattle.timing.specs.Timing.{tickOf, closeOf, sendOf};
-ghost use Rattle.lentcore.specs.Lent.{left};
 
 // Tick.
 #[no_mangle]
-pub extern "C" fn grugavorn_tick(node: Node, recs: &mut [Session]) -> Left
-    ensures { λ r. ⌜ left r (now (recs .exit)) ≡ tickOf node (held (now (recs .entry))) ⌝ }
+pub extern "C" fn grugavorn_tick(node: Node, recs: &mut [Session]) -> Answer
+    ensures { λ r. ⌜ outcome r (now (recs .exit)) [] ≡ tickOf node (now (recs .entry)) ⌝ }
 {
     let how = lentrules::standing(node, recs);
     let c = lentstep::tick_change(node);
@@ -21,8 +21,8 @@ pub extern "C" fn grugavorn_tick(node: Node, recs: &mut [Session]) -> Left
 
 // Close a place.
 #[no_mangle]
-pub extern "C" fn grugavorn_close(node: Node, recs: &mut [Session], place: usize) -> Left
-    ensures { λ r. ⌜ left r (now (recs .exit)) ≡ closeOf node (held (now (recs .entry))) place ⌝ }
+pub extern "C" fn grugavorn_close(node: Node, recs: &mut [Session], place: usize) -> Answer
+    ensures { λ r. ⌜ outcome r (now (recs .exit)) [] ≡ closeOf node (now (recs .entry)) place ⌝ }
 {
     let kept = lentrules::kept(node, recs);
     let s = lentedit::read(recs, place);
@@ -33,8 +33,8 @@ pub extern "C" fn grugavorn_close(node: Node, recs: &mut [Session], place: usize
 
 // Send next due.
 #[no_mangle]
-pub extern "C" fn grugavorn_send(node: Node, recs: &mut [Session], reply: &mut [u8]) -> Left
-    ensures { λ r. ⌜ outcome (left r (now (recs .exit))) (now (reply .exit)) ≡ sendOf node (held (now (recs .entry))) (now (reply .entry)) ⌝ }
+pub extern "C" fn grugavorn_send(node: Node, recs: &mut [Session], reply: &mut [u8]) -> Answer
+    ensures { λ r. ⌜ outcome r (now (recs .exit)) (now (reply .exit)) ≡ sendOf node (now (recs .entry)) (now (reply .entry)) ⌝ }
 {
     let seen = lentrules::seen(node, recs, 0);
     let loud = lentstep::loud(seen);

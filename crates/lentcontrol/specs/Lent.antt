@@ -14,8 +14,7 @@ use Rattle.table.specs.Change.{nobody}
 use Rattle.table.specs.Become.{changedBy}
 use Rattle.timing.specs.Outcome.{Outcome, outcome}
 use Rattle.control.specs.Control.{controlTaken}
-use Rattle.lentcore.specs.declared.Left.{Left}
-use Rattle.lentcore.specs.Lent.{left}
+use Rattle.timing.specs.declared.Answer.{Answer}
 use Rattle.glance.specs.declared.Seen.{Seen}
 use Rattle.glance.specs.Glance.{standsBy, stands-kept}
 use Rattle.lentrules.specs.Kept.{seenOf, seen-how, seen-packed, seen-old, seen-free}
@@ -38,7 +37,7 @@ seen-told node key l = record {
 }
 
 -- what of an answer goes back by value
-unfoldable pub leftOpened : Node → Opened → Left
+unfoldable pub leftOpened : Node → Opened → Answer
 leftOpened node o = record { number = o .number; size = o .size; node = nodeAfter o node }
 
 -- the two records that are concerned
@@ -76,10 +75,10 @@ pub pair-put : (l xs zs : List Session) (p : Pair) (o : Opened) → xs ≡ freed
 unfolding freedLent twoPut pairPut
 pair-put l xs zs p o e-xs e-zs = rw (e-zs, e-xs)
 
-pub settled-lent : (node : Node) (l zs : List Session) (w : Wish) (d reply after : List ℕ) (p : Pair) (o : Opened) (r : Left)
+pub settled-lent : (node : Node) (l zs : List Session) (w : Wish) (d reply after : List ℕ) (p : Pair) (o : Opened) (r : Answer)
     → p ≡ pairLent node l w → made o after ≡ takenOn node w p d reply → zs ≡ pairPut l p o → r ≡ leftOpened node o
-    → outcome (left r zs) after ≡ settledLent node l w d reply
-unfolding settledLent placedPair left leftOpened
+    → outcome r zs after ≡ settledLent node l w d reply
+unfolding settledLent placedPair leftOpened
 settled-lent node l zs w d reply after p o r e-p e-o e-zs e-r = rw (e-r, e-zs, ← e-p, ← e-o)
 
 -- ---- in place as on all

@@ -1,23 +1,22 @@
 // Take control datagram, as firmware calls it: the caller lends its records, the node goes in and comes back by value. The datagram is read
 // once, and what it asks for is done where the two records lie that it can concern.
-use lentcore::Left;
 use openings::Opened;
 use openings::Pair;
 use session::Session;
 use table::Node;
+use timing::Answer;
 use wishes::Wish;
 ghost use mathlib.Core.Path.{_≡_};
 ghost use Rattle.timing.specs.Outcome.{outcome};
 ghost use Rattle.control.specs.Control.{controlTaken};
-ghost use Rattle.lentcore.specs.Lent.{left};
 ghost use Rattle.openings.specs.Openings.{pairPut};
 ghost use Rattle.lentcontrol.specs.Lent.{leftOpened, pairLent, freedLent, twoPut, settledLent};
 
-fn left_opened(node: Node, o: Opened) -> Left
+fn left_opened(node: Node, o: Opened) -> Answer
     ensures { λ r. ⌜ r ≡ leftOpened node o ⌝ }
 {
     let after = openings::node_after(node, o);
-    Left {
+    Answer {
         number: o.number,
         size: o.size,
         node: after,
@@ -68,8 +67,8 @@ fn put_pair(recs: &mut [Session], p: Pair, o: Opened)
 }
 
 // What is asked, on the two records that it concerns, where they lie.
-fn settled_lent(node: Node, recs: &mut [Session], w: Wish, d: &[u8], reply: &mut [u8]) -> Left
-    ensures { λ r. ⌜ outcome (left r (now (recs .exit))) (now (reply .exit)) ≡ settledLent node (now (recs .entry)) w (now (d .entry)) (now (reply .entry)) ⌝ }
+fn settled_lent(node: Node, recs: &mut [Session], w: Wish, d: &[u8], reply: &mut [u8]) -> Answer
+    ensures { λ r. ⌜ outcome r (now (recs .exit)) (now (reply .exit)) ≡ settledLent node (now (recs .entry)) w (now (d .entry)) (now (reply .entry)) ⌝ }
 {
     let p = pair_lent(node, recs, w);
     let o = openings::take(node, w, p, d, reply);
@@ -84,8 +83,8 @@ pub extern "C" fn grugavorn_control(
     recs: &mut [Session],
     d: &[u8],
     reply: &mut [u8],
-) -> Left
-    ensures { λ r. ⌜ outcome (left r (now (recs .exit))) (now (reply .exit)) ≡ controlTaken node (held (now (recs .entry))) (now (d .entry)) (now (reply .entry)) ⌝ }
+) -> Answer
+    ensures { λ r. ⌜ outcome r (now (recs .exit)) (now (reply .exit)) ≡ controlTaken node (now (recs .entry)) (now (d .entry)) (now (reply .entry)) ⌝ }
 {
     let w = wishes::asks(node, d, reply.len());
     settled_lent(node, recs, w, d, reply)

@@ -1,12 +1,9 @@
-// The caller's records, lent as a slice: written as a whole. Every function of the layers above that has a lent slice of records in hand
-// is proved by hand; `proofs/` has what those proofs share.
-use session::Session;
+// The caller's records, lent as a slice: how many of them a call reads or changes. Every function of the layers above that has a lent slice of
+// records in hand is proved by a walk of its code; `proofs/` has what those walks share.
 ghost use mathlib.Core.Path.{_≡_};
-ghost use lib.ListN.{replicate};
-ghost use Rattle.session.specs.Session.{blankAt};
-ghost use Rattle.lentkit.specs.Records.{wholeOf, stored};
+ghost use Rattle.lentkit.specs.Records.{wholeOf};
 
-// How many of the lent records are moved: all where there are as many as places, else none.
+// How many of the lent records are changed by a call that changes all: all where there are as many as places, else none.
 pub fn whole(count: usize) -> usize
     ensures { λ r. ⌜ r ≡ wholeOf count ⌝ }
 {
@@ -14,24 +11,4 @@ pub fn whole(count: usize) -> usize
         return count;
     }
     0
-}
-
-// Records that no place was ever taken in.
-pub fn blanks() -> [Session; 64]
-    ensures { λ r. ⌜ r ≡ replicate 64 (blankAt 0) ⌝ }
-{
-    let nobody = Session::blank_at(0);
-    [nobody; 64]
-}
-
-// The records put back where there are 64; else what is lent stays as it is.
-pub fn store(recs: &mut [Session], t: [Session; 64])
-    ensures { λ _. ⌜ now (recs .exit) ≡ stored (now (recs .entry)) t ⌝ }
-{
-    let n = whole(recs.len());
-    let mut i = 0;
-    while i < n {
-        recs[i] = t[i];
-        i += 1;
-    }
 }

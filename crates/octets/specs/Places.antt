@@ -7,7 +7,7 @@ use mathlib.Core.Path.{_≡_, refl, ap, sym, _∙_}
 use native.Mathlib.Nat.{add-zero, zero-add, add-suc, suc-add}
 use native.Mathlib.Numerals.{add-one}
 use native.Mathlib.Omega.{arith}
-use lib.ListN.{length, take, drop, getD, set, length-drop}
+use lib.ListN.{length, take, drop, getD, set, replicate, length-drop}
 use lib.Seq.{drop-cons, take-suc, take-suc-set, take-all}
 
 module _ {A : Type 0} where
@@ -75,6 +75,11 @@ module _ {A : Type 0} (f : A → A) where
   map-all zero (x ∷ l) h = absurd (omega arith)
   map-all (suc i) [] h = refl
   map-all (suc i) (x ∷ l) h = ap (λ (m : List A). f x ∷ m) (map-all i l (omega arith))
+
+-- every element the same
+pub map-same : {A B : Type 0} (b : B) (l : List A) → map (λ x. b) l ≡ replicate (length l) b
+map-same b [] = refl
+map-same b (x ∷ l) = ap (λ (m : List _). b ∷ m) (map-same b l)
 
 -- ---- an array k that a loop fills: its first i elements are f of the first i of l
 module _ {A B : Type 0} (f : A → B) (l : List A) (k : List B) (i : ℕ) where

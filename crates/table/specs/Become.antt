@@ -1,10 +1,11 @@
 -- The changes of a record that a call makes of all, by their names.
 -- Assumes nothing.
 use Rattle.session.specs.declared.Session.{Session}
-use Rattle.session.specs.Session.{freed, ticked}
+use Rattle.session.specs.Session.{blankAt, freed, ticked}
 use Rattle.table.specs.declared.Change.{Change}
-use Rattle.table.specs.declared.Change.the-variants.{Free, Tick}
+use Rattle.table.specs.declared.Change.the-variants.{Free, Tick, Blank}
 
 unfoldable pub changedBy : Change → Session → Session
 changedBy Free s = freed s
 changedBy (Tick most) s = ticked most s
+changedBy Blank s = blankAt 0

@@ -37,6 +37,8 @@ pub enum Found {
 pub enum Change {
     Free,
     Tick(u8),
+    // zero, use included
+    Blank,
 }
 
 impl Node {
@@ -103,6 +105,7 @@ pub fn changed(s: Session, c: Change) -> Session
     match c {
         Change::Free => s.freed(),
         Change::Tick(most) => s.ticked(most),
+        Change::Blank => Session::blank_at(0),
     }
 }
 

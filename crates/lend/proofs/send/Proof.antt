@@ -1,11 +1,11 @@
 -- `lend::send` meets its contract: a walk of its MIR, by hand. A local array is lent to the call as a `&mut [Session]`, and what it then holds goes into the answer.
 -- Written by walks.py from walk.txt and the MIR, each statement of which stands over its lines. Assumes nothing.
-use Rattle.lentkit.proofs.Walks.{_≡_, refl, sym, ap, _∙_, ℕ, lit<, [], _∷_, List, length, URA, fullShare, named, tyArray, Val, SProp, ent, emp, via, fst∗, id⊢, Lft, Share, GName, Fml, ftrue, fsep, fat, flft, flent, Memory, Routine, Heap, Calls, Loops, WpFn, Tables, Atoms, Fun, fact, givenOf, tables, tablesOf, Given, given, learn, Item, ‵, raw, some, later, _⊛_, ⋆, _$_, _∵_, !, qed, by, move, keep, drop, use1, use2, use3, split, join, pick, fsplit, fjoin, feqL, suffices, frame, await, done, look, lit, init, overwrite, forget, stop, hop, fld, from, load, addr, of-opd, and-then, no-more, assigns, land, returns, enter, alloc1, alloc0, params1, pass1, pass0, free1, free0, agg, whole, sub, look-in, lft-new, lft-end, FmC, fmOf, WpFn-mono, owns, Is, shows, u8, RefT, now, sliceVal, MutSlice, Room, finally, slice-vals, mut-slice-tells, only, owned, peeks, heard, nothing, Array, array-vals, array-lawful, array-makes, Vals, onEntry, Meets, tripleOf, Contract, Triple, calls-at, ensured, lasts, entered, cited, says, Stays, stay-dropped, gave-slice, walkOf, goes-dropped, goes-gave-slice, Walks, ends-at, walked, walk-meets, yes, plain, Held}
+use Rattle.lentkit.proofs.Walks.{_≡_, refl, subst, _∙_, ℕ, lit<, [], _∷_, List, length, URA, fullShare, named, tyArray, Val, SProp, ent, emp, via, fst∗, id⊢, Lft, Share, GName, Fml, ftrue, fsep, fat, flft, flent, Memory, Routine, Heap, Calls, Loops, WpFn, Tables, Atoms, Fun, fact, givenOf, tables, tablesOf, Given, given, learn, Item, ‵, raw, some, later, _⊛_, ⋆, _$_, _∵_, !, qed, by, move, keep, drop, use1, use2, use3, split, join, pick, fsplit, fjoin, feqL, suffices, frame, await, done, look, lit, init, overwrite, forget, stop, hop, fld, from, load, addr, of-opd, and-then, no-more, assigns, land, returns, enter, alloc1, alloc0, params1, pass1, pass0, free1, free0, agg, whole, sub, look-in, lft-new, lft-end, FmC, fmOf, WpFn-mono, owns, Is, shows, u8, RefT, now, sliceVal, MutSlice, Room, finally, slice-vals, mut-slice-tells, only, owned, peeks, heard, nothing, Array, array-vals, array-lawful, array-makes, Vals, onEntry, Meets, tripleOf, Contract, Triple, calls-at, ensured, lasts, entered, cited, says, Stays, stay-dropped, gave-slice, walkOf, goes-dropped, goes-gave-slice, Walks, ends-at, walked, walk-meets, yes, plain, Held}
 use denote.Struct.Laws as LL
 use Rattle.lentkit.proofs.Local.{array-lent, array-back}
-use Rattle.timing.specs.declared.Answer.{Answer}
-use Rattle.timing.proofs.Answer as Answer-t
-use Rattle.timing.proofs.Answer.Laws as Answer-l
+use Rattle.lentcore.specs.declared.Whole.{Whole}
+use Rattle.lentcore.proofs.Whole as Whole-t
+use Rattle.lentcore.proofs.Whole.Laws as Whole-l
 use Rattle.table.specs.declared.Node.{Node}
 use Rattle.table.proofs.Node as Node-t
 use Rattle.table.proofs.Node.Laws as Node-l
@@ -15,11 +15,12 @@ use Rattle.table.proofs.Table.Laws as Table-l
 use Rattle.session.specs.declared.Session.{Session}
 use Rattle.session.proofs.Session as Session-t
 use Rattle.session.proofs.Session.Laws as Session-l
-use Rattle.lentcore.specs.declared.Left.{Left}
-use Rattle.lentcore.proofs.Left as Left-t
-use Rattle.lentcore.proofs.Left.Laws as Left-l
-use Rattle.lentcore.specs.Lent.{left}
-use Rattle.timing.specs.Timing.{held, held-is, outcome, sendOf}
+use Rattle.timing.specs.declared.Answer.{Answer}
+use Rattle.timing.proofs.Answer as Answer-t
+use Rattle.timing.proofs.Answer.Laws as Answer-l
+use Rattle.lentcore.specs.Lent.{outcomeOf, whole-is, wholeOf}
+use Rattle.timing.specs.Outcome.{outcome}
+use Rattle.timing.specs.Timing.{sendOf}
 use Rattle.lentcore.proofs.records_in as c-records-in′
 use Rattle.lentcore.proofs.records_in.Symbol as c-records-in-def
 use Rattle.lentcore.proofs.records_in.Symbol.{name as #lentcore·records-in}
@@ -88,13 +89,13 @@ module _ {M : Type 1} (𝓤 : URA M) (H : Heap 𝓤) (A : Atoms 𝓤) (W : Given
   Toks = ‵ (flft κ₀ q₀) ⊛ ‵ ftrue
 
   -- what the contract says of the answer and of the last values
-  abbrev Said : Answer → List ℕ → Type 0
-  Said r w-reply = outcome r w-reply ≡ sendOf node table (reply .now)
+  abbrev Said : Whole → List ℕ → Type 0
+  Said r w-reply = outcomeOf r w-reply ≡ sendOf node (table .recs) (reply .now)
 
-  exits : (r : Answer) (w : Val) (w-reply : List ℕ) → Said r w-reply → length w-reply ≡ length (reply .now)
-      → ent 𝓤 (⋆ 𝓤 H A (Toks ∷ ‵ (finally u8 (reply .name) w-reply) ∷ ‵ (Answer-t.the-row .own r (w ∷ [])) ∷ [])) (Post w)
+  exits : (r : Whole) (w : Val) (w-reply : List ℕ) → Said r w-reply → length w-reply ≡ length (reply .now)
+      → ent 𝓤 (⋆ 𝓤 H A (Toks ∷ ‵ (finally u8 (reply .name) w-reply) ∷ ‵ (Whole-t.the-row .own r (w ∷ [])) ∷ [])) (Post w)
   exits r w w-reply e l-reply =
-      qed W (Toks ∷ ‵ (finally u8 (reply .name) w-reply) ∷ ‵ (Answer-t.the-row .own r (w ∷ [])) ∷ []) ∵
+      qed W (Toks ∷ ‵ (finally u8 (reply .name) w-reply) ∷ ‵ (Whole-t.the-row .own r (w ∷ [])) ∷ []) ∵
       suffices ! _ (ends-at 𝓤 H A entry′.ended stayed (entry′.clauses 𝓤 H A mem run) W bound w r (tt, (tt, (w-reply, tt))) (tt, (tt, (l-reply, tt)))) $ says ! e $ frame ! $
       nothing ! $ move ! (1 ∷ 0 ∷ []) $ fjoin ! $ nothing ! $ fjoin ! $ nothing ! $ fjoin ! $ done !
 
@@ -132,13 +133,13 @@ module _ {M : Type 1} (𝓤 : URA M) (H : Heap 𝓤) (A : Atoms 𝓤) (W : Given
         owned ! Node-t.the-row (Is Node-t.the-row) (LL.makes Node-t.the-type Node-l.the-plain 𝓤 H A) node _ is-node $ fjoin ! $ move ! (1 ∷ 0 ∷ []) $
         use2 W (raw (c-grugavorn-send 𝓤 H A mem run .pre ((((ν ∷ []), (κ₀, tt)), (fullShare, (q₀, tt)), tt, (node, ((record { ptr = (l₄, 0); name = δ-grugavorn-send; now = r-records-in }), (reply, tt))), (v-node ∷ [], ((sliceVal (l₄, 0) 64) ∷ [], (v-reply ∷ [], tt)))), tt))) (qed W ((‵ (flft (ν ∷ []) fullShare) ⊛ ‵ (flft κ₀ q₀) ⊛ ‵ ftrue) ∷ ‵ (fsep (Node-t.the-row .own node (v-node ∷ [])) (fsep (MutSlice (named 0) (ν ∷ []) Session-t.the-row .own (record { ptr = (l₄, 0); name = δ-grugavorn-send; now = r-records-in }) ((sliceVal (l₄, 0) 64) ∷ [])) (fsep Own-reply ftrue))) ∷ []) ∵ join ! $ frame ! $ done !) $
         calls-at ! fm (c-grugavorn-send 𝓤 H A mem run) known-grugavorn-send ((((ν ∷ []), (κ₀, tt)), (fullShare, (q₀, tt)), tt, (node, ((record { ptr = (l₄, 0); name = δ-grugavorn-send; now = r-records-in }), (reply, tt))), (v-node ∷ [], ((sliceVal (l₄, 0) 64) ∷ [], (v-reply ∷ [], tt)))), tt) (and-then ! (load ! (from ! (stop !)) (look ! 19 refl)) (and-then ! (load ! (from ! (stop !)) (look ! 6 refl)) (and-then ! (load ! (from ! (stop !)) (look ! 2 refl)) (no-more !)))) (λ w-grugavorn-send.
-        use1 W (later (some (λ (r-grugavorn-send : Left). ((‵ (flft (ν ∷ []) fullShare) ⊛ ‵ (flft κ₀ q₀) ⊛ ‵ ftrue) ⊛ ‵ (Left-t.the-row .own r-grugavorn-send (w-grugavorn-send ∷ []))) ⊛ raw (ensured 𝓤 H A c-grugavorn-send′.ended (c-grugavorn-send′.clauses 𝓤 H A mem run) ((ν ∷ []), (κ₀, tt)) (node, ((record { ptr = (l₄, 0); name = δ-grugavorn-send; now = r-records-in }), (reply, tt))) tt r-grugavorn-send)))) (id⊢ 𝓤 _) $ await ! tt $
+        use1 W (later (some (λ (r-grugavorn-send : Answer). ((‵ (flft (ν ∷ []) fullShare) ⊛ ‵ (flft κ₀ q₀) ⊛ ‵ ftrue) ⊛ ‵ (Answer-t.the-row .own r-grugavorn-send (w-grugavorn-send ∷ []))) ⊛ raw (ensured 𝓤 H A c-grugavorn-send′.ended (c-grugavorn-send′.clauses 𝓤 H A mem run) ((ν ∷ []), (κ₀, tt)) (node, ((record { ptr = (l₄, 0); name = δ-grugavorn-send; now = r-records-in }), (reply, tt))) tt r-grugavorn-send)))) (id⊢ 𝓤 _) $ await ! tt $
         pick ! (λ r-grugavorn-send. split ! $ move ! (1 ∷ []) $
-        use1 W (some (λ (z-grugavorn-send : (Unit {0}) × ((List Session) × ((List ℕ) × Unit {0}))). ‵ (lasts c-grugavorn-send′.ended ((ν ∷ []), (κ₀, tt)) (node, ((record { ptr = (l₄, 0); name = δ-grugavorn-send; now = r-records-in }), (reply, tt))) z-grugavorn-send) ⊛ raw (fact 𝓤 (outcome (left r-grugavorn-send (z-grugavorn-send .1 .0)) (z-grugavorn-send .1 .1 .0) ≡ sendOf node (held (r-records-in)) (ys-reply))))) (id⊢ 𝓤 _) $
-        pick ! (λ z-grugavorn-send. split ! $ move ! (1 ∷ []) $ heard ! (outcome (left r-grugavorn-send (z-grugavorn-send .1 .0)) (z-grugavorn-send .1 .1 .0) ≡ sendOf node (held (r-records-in)) (ys-reply)) (λ e-grugavorn-send. fsplit ! $
-        drop ! $ fsplit ! $ fsplit ! $ move ! (1 ∷ []) $ feqL ! (λ len-grugavorn-send-recs. move ! (1 ∷ []) $ fsplit ! $ fsplit ! $ move ! (1 ∷ []) $ feqL ! (λ len-grugavorn-send-reply. move ! (1 ∷ []) $ drop ! $ move ! (2 ∷ []) $
-        split ! $ split ! $ move ! (1 ∷ []) $ split ! $ move ! (1 ∷ []) $ drop ! $ move ! (2 ∷ []) $ peeks ! Left-t.the-row (Is Left-t.the-row) (shows 𝓤 H A Left-t.the-row) r-grugavorn-send (w-grugavorn-send ∷ []) (λ is-grugavorn-send.
-        land ! (from ! (stop !)) (init ! 16 refl (LL.lawful Left-t.the-type Left-l.the-laws 𝓤 H A W .typed r-grugavorn-send _ is-grugavorn-send .0)) $ drop ! $ move ! (1 ∷ []) $ lft-end ! tt $ move ! (0 ∷ 4 ∷ 3 ∷ []) $
+        use1 W (some (λ (z-grugavorn-send : (Unit {0}) × ((List Session) × ((List ℕ) × Unit {0}))). ‵ (lasts c-grugavorn-send′.ended ((ν ∷ []), (κ₀, tt)) (node, ((record { ptr = (l₄, 0); name = δ-grugavorn-send; now = r-records-in }), (reply, tt))) z-grugavorn-send) ⊛ raw (fact 𝓤 (outcome r-grugavorn-send (z-grugavorn-send .1 .0) (z-grugavorn-send .1 .1 .0) ≡ sendOf node (r-records-in) (ys-reply))))) (id⊢ 𝓤 _) $
+        pick ! (λ z-grugavorn-send. split ! $ move ! (1 ∷ []) $ heard ! (outcome r-grugavorn-send (z-grugavorn-send .1 .0) (z-grugavorn-send .1 .1 .0) ≡ sendOf node (r-records-in) (ys-reply)) (λ e-grugavorn-send. fsplit ! $ drop ! $
+        fsplit ! $ fsplit ! $ move ! (1 ∷ []) $ feqL ! (λ len-grugavorn-send-recs. move ! (1 ∷ []) $ fsplit ! $ fsplit ! $ move ! (1 ∷ []) $ feqL ! (λ len-grugavorn-send-reply. move ! (1 ∷ []) $ drop ! $ move ! (2 ∷ []) $ split ! $
+        split ! $ move ! (1 ∷ []) $ split ! $ move ! (1 ∷ []) $ drop ! $ move ! (2 ∷ []) $ peeks ! Answer-t.the-row (Is Answer-t.the-row) (shows 𝓤 H A Answer-t.the-row) r-grugavorn-send (w-grugavorn-send ∷ []) (λ is-grugavorn-send.
+        land ! (from ! (stop !)) (init ! 16 refl (LL.lawful Answer-t.the-type Answer-l.the-laws 𝓤 H A W .typed r-grugavorn-send _ is-grugavorn-send .0)) $ drop ! $ move ! (1 ∷ []) $ lft-end ! tt $ move ! (0 ∷ 4 ∷ 3 ∷ []) $
         use3 W (later (given (Is (Array Session-t.the-row 64) (z-grugavorn-send .1 .0) (array-vals (LL.vals Session-t.the-type Session-l.the-laws) (z-grugavorn-send .1 .0))) (‵ (fat fullShare (tyArray Session-l.mir 64) l₄ 0 (only (array-vals (LL.vals Session-t.the-type Session-l.the-laws) (z-grugavorn-send .1 .0))))))) (array-back 𝓤 H A W l₄ (ν ∷ []) (z-grugavorn-send .1 .0) (len-grugavorn-send-recs ∙ is-records-in .1 .0 .1) δ-grugavorn-send) $ await ! tt $
         learn ! (λ is-grugavorn-send-back.
         -- _6 = _4
@@ -146,21 +147,21 @@ module _ {M : Type 1} (𝓤 : URA M) (H : Heap 𝓤) (A : Atoms 𝓤) (W : Given
         -- _0 = whole_of(_5, _6)
         nothing ! $ nothing ! $
         owned ! (Array Session-t.the-row 64) (Is (Array Session-t.the-row 64)) (array-makes 𝓤 H A W Session-t.the-row (LL.makes Session-t.the-type Session-l.the-plain 𝓤 H A) 64) (z-grugavorn-send .1 .0) _ is-grugavorn-send-back $ fjoin ! $
-        owned ! Left-t.the-row (Is Left-t.the-row) (LL.makes Left-t.the-type Left-l.the-plain 𝓤 H A) r-grugavorn-send _ is-grugavorn-send $ fjoin ! $ move ! (1 ∷ 0 ∷ []) $
-        use2 W (raw (c-whole-of 𝓤 H A mem run .pre ((tt, tt, tt, (r-grugavorn-send, ((z-grugavorn-send .1 .0), tt)), (w-grugavorn-send ∷ [], ((only (array-vals (LL.vals Session-t.the-type Session-l.the-laws) (z-grugavorn-send .1 .0))) ∷ [], tt))), tt))) (qed W ((‵ ftrue) ∷ ‵ (fsep (Left-t.the-row .own r-grugavorn-send (w-grugavorn-send ∷ [])) (fsep ((Array Session-t.the-row 64) .own (z-grugavorn-send .1 .0) ((only (array-vals (LL.vals Session-t.the-type Session-l.the-laws) (z-grugavorn-send .1 .0))) ∷ [])) ftrue)) ∷ []) ∵ join ! $ frame ! $ done !) $
+        owned ! Answer-t.the-row (Is Answer-t.the-row) (LL.makes Answer-t.the-type Answer-l.the-plain 𝓤 H A) r-grugavorn-send _ is-grugavorn-send $ fjoin ! $ move ! (1 ∷ 0 ∷ []) $
+        use2 W (raw (c-whole-of 𝓤 H A mem run .pre ((tt, tt, tt, (r-grugavorn-send, ((z-grugavorn-send .1 .0), tt)), (w-grugavorn-send ∷ [], ((only (array-vals (LL.vals Session-t.the-type Session-l.the-laws) (z-grugavorn-send .1 .0))) ∷ [], tt))), tt))) (qed W ((‵ ftrue) ∷ ‵ (fsep (Answer-t.the-row .own r-grugavorn-send (w-grugavorn-send ∷ [])) (fsep ((Array Session-t.the-row 64) .own (z-grugavorn-send .1 .0) ((only (array-vals (LL.vals Session-t.the-type Session-l.the-laws) (z-grugavorn-send .1 .0))) ∷ [])) ftrue)) ∷ []) ∵ join ! $ frame ! $ done !) $
         calls-at ! fm (c-whole-of 𝓤 H A mem run) known-whole-of ((tt, tt, tt, (r-grugavorn-send, ((z-grugavorn-send .1 .0), tt)), (w-grugavorn-send ∷ [], ((only (array-vals (LL.vals Session-t.the-type Session-l.the-laws) (z-grugavorn-send .1 .0))) ∷ [], tt))), tt) (and-then ! (load ! (from ! (stop !)) (look ! 14 refl)) (and-then ! (load ! (from ! (stop !)) (look ! 12 refl)) (no-more !))) (λ w-whole-of.
-        use1 W (later (some (λ (r-whole-of : Answer). ((‵ ftrue) ⊛ ‵ (Answer-t.the-row .own r-whole-of (w-whole-of ∷ []))) ⊛ raw (ensured 𝓤 H A c-whole-of′.ended (c-whole-of′.clauses 𝓤 H A mem run) tt (r-grugavorn-send, ((z-grugavorn-send .1 .0), tt)) tt r-whole-of)))) (id⊢ 𝓤 _) $ await ! tt $
+        use1 W (later (some (λ (r-whole-of : Whole). ((‵ ftrue) ⊛ ‵ (Whole-t.the-row .own r-whole-of (w-whole-of ∷ []))) ⊛ raw (ensured 𝓤 H A c-whole-of′.ended (c-whole-of′.clauses 𝓤 H A mem run) tt (r-grugavorn-send, ((z-grugavorn-send .1 .0), tt)) tt r-whole-of)))) (id⊢ 𝓤 _) $ await ! tt $
         pick ! (λ r-whole-of. split ! $ move ! (1 ∷ []) $
-        use1 W (some (λ (z-whole-of : (Unit {0}) × ((Unit {0}) × Unit {0})). ‵ (lasts c-whole-of′.ended tt (r-grugavorn-send, ((z-grugavorn-send .1 .0), tt)) z-whole-of) ⊛ raw (fact 𝓤 (r-whole-of ≡ left r-grugavorn-send (z-grugavorn-send .1 .0))))) (id⊢ 𝓤 _) $
-        pick ! (λ z-whole-of. split ! $ move ! (1 ∷ []) $ heard ! (r-whole-of ≡ left r-grugavorn-send (z-grugavorn-send .1 .0)) (λ e-whole-of. fsplit ! $ drop ! $ fsplit ! $ drop ! $ drop ! $ split ! $ drop ! $
-        peeks ! Answer-t.the-row (Is Answer-t.the-row) (shows 𝓤 H A Answer-t.the-row) r-whole-of (w-whole-of ∷ []) (λ is-whole-of.
-        land ! (from ! (stop !)) (init ! 23 refl (LL.lawful Answer-t.the-type Answer-l.the-laws 𝓤 H A W .typed r-whole-of _ is-whole-of .0)) $ drop ! $
+        use1 W (some (λ (z-whole-of : (Unit {0}) × ((Unit {0}) × Unit {0})). ‵ (lasts c-whole-of′.ended tt (r-grugavorn-send, ((z-grugavorn-send .1 .0), tt)) z-whole-of) ⊛ raw (fact 𝓤 (r-whole-of ≡ wholeOf r-grugavorn-send (z-grugavorn-send .1 .0))))) (id⊢ 𝓤 _) $
+        pick ! (λ z-whole-of. split ! $ move ! (1 ∷ []) $ heard ! (r-whole-of ≡ wholeOf r-grugavorn-send (z-grugavorn-send .1 .0)) (λ e-whole-of. fsplit ! $ drop ! $ fsplit ! $ drop ! $ drop ! $ split ! $ drop ! $
+        peeks ! Whole-t.the-row (Is Whole-t.the-row) (shows 𝓤 H A Whole-t.the-row) r-whole-of (w-whole-of ∷ []) (λ is-whole-of.
+        land ! (from ! (stop !)) (init ! 23 refl (LL.lawful Whole-t.the-type Whole-l.the-laws 𝓤 H A W .typed r-whole-of _ is-whole-of .0)) $ drop ! $
         -- return
         returns ! (look ! 22 refl) $
         forget ! 3 refl $ forget ! 5 refl $ forget ! 7 refl $ forget ! 9 refl $ forget ! 11 refl $ forget ! 13 refl $ forget ! 0 refl $ forget ! 16 refl $ forget ! 18 refl $ forget ! 20 refl $ forget ! 22 refl $
         move ! (22 ∷ 23 ∷ []) $ free1 ! $ move ! (20 ∷ 21 ∷ []) $ free1 ! $ move ! (18 ∷ 19 ∷ []) $ free1 ! $ move ! (16 ∷ 17 ∷ []) $ free1 ! $ move ! (0 ∷ 15 ∷ []) $ free1 ! $ move ! (12 ∷ 13 ∷ []) $ free1 ! $ move ! (10 ∷ 11 ∷ []) $ free1 ! $ move ! (8 ∷ 9 ∷ []) $ free1 ! $ move ! (6 ∷ 7 ∷ []) $ free1 ! $ move ! (4 ∷ 5 ∷ []) $ free1 ! $ move ! (2 ∷ 3 ∷ []) $ free1 ! $ free0 ! $
-        owned ! Answer-t.the-row (Is Answer-t.the-row) (LL.makes Answer-t.the-type Answer-l.the-plain 𝓤 H A) r-whole-of _ is-whole-of $ nothing ! $ move ! (2 ∷ 0 ∷ []) $ join ! $ keep ! (0 ∷ 2 ∷ 1 ∷ []) $
-        by ! (exits r-whole-of w-whole-of (z-grugavorn-send .1 .1 .0) (ap (λ (x : Answer). outcome x (z-grugavorn-send .1 .1 .0)) e-whole-of ∙ e-grugavorn-send ∙ ap (λ (t : Table). sendOf node t ys-reply) (sym (held-is table r-records-in (sym e-records-in)))) len-grugavorn-send-reply))))))))))))))))))))))))))))))))
+        owned ! Whole-t.the-row (Is Whole-t.the-row) (LL.makes Whole-t.the-type Whole-l.the-plain 𝓤 H A) r-whole-of _ is-whole-of $ nothing ! $ move ! (2 ∷ 0 ∷ []) $ join ! $ keep ! (0 ∷ 2 ∷ 1 ∷ []) $
+        by ! (exits r-whole-of w-whole-of (z-grugavorn-send .1 .1 .0) (subst (λ (t : List Session). outcomeOf r-whole-of (z-grugavorn-send .1 .1 .0) ≡ sendOf node t ys-reply) e-records-in (whole-is r-whole-of r-grugavorn-send (z-grugavorn-send .1 .0) (z-grugavorn-send .1 .1 .0) (sendOf node r-records-in ys-reply) e-whole-of e-grugavorn-send)) len-grugavorn-send-reply))))))))))))))))))))))))))))))))
 
 module _ {M : Type 1} (𝓤 : URA M) (H : Heap 𝓤) (A : Atoms 𝓤) (W : Given 𝓤 H A) (mem : Memory → SProp 𝓤) (run : Routine → Fun 𝓤) where
   send-walks : (C : Calls 𝓤 H) (Λ : Loops 𝓤 H) → FmC 𝓤 H (W .laws) C → Triple 𝓤 (C #lentcore·records-in) (c-records-in 𝓤 H A mem run) → Triple 𝓤 (C #lentclock·grugavorn-send) (c-grugavorn-send 𝓤 H A mem run) → Triple 𝓤 (C #lentcore·whole-of) (c-whole-of 𝓤 H A mem run)

@@ -1,11 +1,11 @@
 -- `lendcontrol::take_control` meets its contract: a walk of its MIR, by hand. A local array is lent to the call as a `&mut [Session]`, and what it then holds goes into the answer.
 -- Written by walks.py from walk.txt and the MIR, each statement of which stands over its lines. Assumes nothing.
-use Rattle.lentkit.proofs.Walks.{_≡_, refl, sym, ap, _∙_, ℕ, lit<, [], _∷_, List, length, URA, fullShare, named, tyArray, Val, SProp, ent, emp, via, fst∗, id⊢, Lft, Share, GName, Fml, ftrue, fsep, fat, flft, flent, Memory, Routine, Heap, Calls, Loops, WpFn, Tables, Atoms, Fun, fact, givenOf, tables, tablesOf, Given, given, learn, Item, ‵, raw, some, later, _⊛_, ⋆, _$_, _∵_, !, qed, by, move, keep, drop, use1, use2, use3, split, join, pick, fsplit, fjoin, feqL, suffices, frame, await, done, look, lit, init, overwrite, forget, stop, hop, fld, from, load, addr, of-opd, and-then, no-more, assigns, land, returns, enter, alloc1, alloc0, params1, pass1, pass0, free1, free0, agg, whole, sub, look-in, lft-new, lft-end, FmC, fmOf, WpFn-mono, owns, Is, shows, u8, RefT, now, sliceVal, MutSlice, ShrSlice, Room, finally, slice-vals, shr-slice-tells, shr-slice-copy, mut-slice-tells, only, owned, peeks, heard, nothing, Array, array-vals, array-lawful, array-makes, Vals, onEntry, Meets, tripleOf, Contract, Triple, calls-at, ensured, lasts, entered, cited, says, Stays, stay-dropped, gave-slice, walkOf, goes-dropped, goes-gave-slice, Walks, ends-at, walked, walk-meets, yes, plain, shrSliceOf, Held}
+use Rattle.lentkit.proofs.Walks.{_≡_, refl, subst, _∙_, ℕ, lit<, [], _∷_, List, length, URA, fullShare, named, tyArray, Val, SProp, ent, emp, via, fst∗, id⊢, Lft, Share, GName, Fml, ftrue, fsep, fat, flft, flent, Memory, Routine, Heap, Calls, Loops, WpFn, Tables, Atoms, Fun, fact, givenOf, tables, tablesOf, Given, given, learn, Item, ‵, raw, some, later, _⊛_, ⋆, _$_, _∵_, !, qed, by, move, keep, drop, use1, use2, use3, split, join, pick, fsplit, fjoin, feqL, suffices, frame, await, done, look, lit, init, overwrite, forget, stop, hop, fld, from, load, addr, of-opd, and-then, no-more, assigns, land, returns, enter, alloc1, alloc0, params1, pass1, pass0, free1, free0, agg, whole, sub, look-in, lft-new, lft-end, FmC, fmOf, WpFn-mono, owns, Is, shows, u8, RefT, now, sliceVal, MutSlice, ShrSlice, Room, finally, slice-vals, shr-slice-tells, shr-slice-copy, mut-slice-tells, only, owned, peeks, heard, nothing, Array, array-vals, array-lawful, array-makes, Vals, onEntry, Meets, tripleOf, Contract, Triple, calls-at, ensured, lasts, entered, cited, says, Stays, stay-dropped, gave-slice, walkOf, goes-dropped, goes-gave-slice, Walks, ends-at, walked, walk-meets, yes, plain, shrSliceOf, Held}
 use denote.Struct.Laws as LL
 use Rattle.lentkit.proofs.Local.{array-lent, array-back}
-use Rattle.timing.specs.declared.Answer.{Answer}
-use Rattle.timing.proofs.Answer as Answer-t
-use Rattle.timing.proofs.Answer.Laws as Answer-l
+use Rattle.lentcore.specs.declared.Whole.{Whole}
+use Rattle.lentcore.proofs.Whole as Whole-t
+use Rattle.lentcore.proofs.Whole.Laws as Whole-l
 use Rattle.table.specs.declared.Node.{Node}
 use Rattle.table.proofs.Node as Node-t
 use Rattle.table.proofs.Node.Laws as Node-l
@@ -15,12 +15,12 @@ use Rattle.table.proofs.Table.Laws as Table-l
 use Rattle.session.specs.declared.Session.{Session}
 use Rattle.session.proofs.Session as Session-t
 use Rattle.session.proofs.Session.Laws as Session-l
-use Rattle.lentcore.specs.declared.Left.{Left}
-use Rattle.lentcore.proofs.Left as Left-t
-use Rattle.lentcore.proofs.Left.Laws as Left-l
+use Rattle.timing.specs.declared.Answer.{Answer}
+use Rattle.timing.proofs.Answer as Answer-t
+use Rattle.timing.proofs.Answer.Laws as Answer-l
 use Rattle.control.specs.Control.{controlTaken}
-use Rattle.lentcore.specs.Lent.{left}
-use Rattle.timing.specs.Timing.{held, held-is, outcome}
+use Rattle.lentcore.specs.Lent.{outcomeOf, whole-is, wholeOf}
+use Rattle.timing.specs.Outcome.{outcome}
 use Rattle.lentcore.proofs.records_in as c-records-in′
 use Rattle.lentcore.proofs.records_in.Symbol as c-records-in-def
 use Rattle.lentcore.proofs.records_in.Symbol.{name as #lentcore·records-in}
@@ -95,13 +95,13 @@ module _ {M : Type 1} (𝓤 : URA M) (H : Heap 𝓤) (A : Atoms 𝓤) (W : Given
   Toks = ‵ (flft κ₀ q₀) ⊛ ‵ (flft κ₁ q₁) ⊛ ‵ ftrue
 
   -- what the contract says of the answer and of the last values
-  abbrev Said : Answer → List ℕ → Type 0
-  Said r w-reply = outcome r w-reply ≡ controlTaken node table (d .now) (reply .now)
+  abbrev Said : Whole → List ℕ → Type 0
+  Said r w-reply = outcomeOf r w-reply ≡ controlTaken node (table .recs) (d .now) (reply .now)
 
-  exits : (r : Answer) (w : Val) (w-reply : List ℕ) → Said r w-reply → length w-reply ≡ length (reply .now)
-      → ent 𝓤 (⋆ 𝓤 H A (Toks ∷ ‵ (finally u8 (reply .name) w-reply) ∷ ‵ (Answer-t.the-row .own r (w ∷ [])) ∷ [])) (Post w)
+  exits : (r : Whole) (w : Val) (w-reply : List ℕ) → Said r w-reply → length w-reply ≡ length (reply .now)
+      → ent 𝓤 (⋆ 𝓤 H A (Toks ∷ ‵ (finally u8 (reply .name) w-reply) ∷ ‵ (Whole-t.the-row .own r (w ∷ [])) ∷ [])) (Post w)
   exits r w w-reply e l-reply =
-      qed W (Toks ∷ ‵ (finally u8 (reply .name) w-reply) ∷ ‵ (Answer-t.the-row .own r (w ∷ [])) ∷ []) ∵
+      qed W (Toks ∷ ‵ (finally u8 (reply .name) w-reply) ∷ ‵ (Whole-t.the-row .own r (w ∷ [])) ∷ []) ∵
       suffices ! _ (ends-at 𝓤 H A entry′.ended stayed (entry′.clauses 𝓤 H A mem run) W bound w r (tt, (tt, (tt, (w-reply, tt)))) (tt, (tt, (tt, (l-reply, tt))))) $ says ! e $ frame ! $
       nothing ! $ move ! (1 ∷ 0 ∷ []) $ fjoin ! $ nothing ! $ fjoin ! $ nothing ! $ fjoin ! $ nothing ! $ fjoin ! $ done !
 
@@ -140,15 +140,15 @@ module _ {M : Type 1} (𝓤 : URA M) (H : Heap 𝓤) (A : Atoms 𝓤) (W : Given
         owned ! Node-t.the-row (Is Node-t.the-row) (LL.makes Node-t.the-type Node-l.the-plain 𝓤 H A) node _ is-node $ fjoin ! $ move ! (1 ∷ 0 ∷ []) $
         use2 W (raw (c-grugavorn-control 𝓤 H A mem run .pre ((((ν ∷ []), (κ₀, (κ₁, tt))), (fullShare, (q₀, (q₁, tt))), tt, (node, ((record { ptr = (l₅, 0); name = δ-grugavorn-control; now = r-records-in }), (d, (reply, tt)))), (v-node ∷ [], ((sliceVal (l₅, 0) 64) ∷ [], (v-d ∷ [], (v-reply ∷ [], tt))))), tt))) (qed W ((‵ (flft (ν ∷ []) fullShare) ⊛ ‵ (flft κ₀ q₀) ⊛ ‵ (flft κ₁ q₁) ⊛ ‵ ftrue) ∷ ‵ (fsep (Node-t.the-row .own node (v-node ∷ [])) (fsep (MutSlice (named 0) (ν ∷ []) Session-t.the-row .own (record { ptr = (l₅, 0); name = δ-grugavorn-control; now = r-records-in }) ((sliceVal (l₅, 0) 64) ∷ [])) (fsep Own-d (fsep Own-reply ftrue)))) ∷ []) ∵ join ! $ frame ! $ done !) $
         calls-at ! fm (c-grugavorn-control 𝓤 H A mem run) known-grugavorn-control ((((ν ∷ []), (κ₀, (κ₁, tt))), (fullShare, (q₀, (q₁, tt))), tt, (node, ((record { ptr = (l₅, 0); name = δ-grugavorn-control; now = r-records-in }), (d, (reply, tt)))), (v-node ∷ [], ((sliceVal (l₅, 0) 64) ∷ [], (v-d ∷ [], (v-reply ∷ [], tt))))), tt) (and-then ! (load ! (from ! (stop !)) (look ! 22 refl)) (and-then ! (load ! (from ! (stop !)) (look ! 7 refl)) (and-then ! (load ! (from ! (stop !)) (look ! 18 refl)) (and-then ! (load ! (from ! (stop !)) (look ! 3 refl)) (no-more !))))) (λ w-grugavorn-control.
-        use1 W (later (some (λ (r-grugavorn-control : Left). ((‵ (flft (ν ∷ []) fullShare) ⊛ ‵ (flft κ₀ q₀) ⊛ ‵ (flft κ₁ q₁) ⊛ ‵ ftrue) ⊛ ‵ (Left-t.the-row .own r-grugavorn-control (w-grugavorn-control ∷ []))) ⊛ raw (ensured 𝓤 H A c-grugavorn-control′.ended (c-grugavorn-control′.clauses 𝓤 H A mem run) ((ν ∷ []), (κ₀, (κ₁, tt))) (node, ((record { ptr = (l₅, 0); name = δ-grugavorn-control; now = r-records-in }), (d, (reply, tt)))) tt r-grugavorn-control)))) (id⊢ 𝓤 _) $ await ! tt $
+        use1 W (later (some (λ (r-grugavorn-control : Answer). ((‵ (flft (ν ∷ []) fullShare) ⊛ ‵ (flft κ₀ q₀) ⊛ ‵ (flft κ₁ q₁) ⊛ ‵ ftrue) ⊛ ‵ (Answer-t.the-row .own r-grugavorn-control (w-grugavorn-control ∷ []))) ⊛ raw (ensured 𝓤 H A c-grugavorn-control′.ended (c-grugavorn-control′.clauses 𝓤 H A mem run) ((ν ∷ []), (κ₀, (κ₁, tt))) (node, ((record { ptr = (l₅, 0); name = δ-grugavorn-control; now = r-records-in }), (d, (reply, tt)))) tt r-grugavorn-control)))) (id⊢ 𝓤 _) $ await ! tt $
         pick ! (λ r-grugavorn-control. split ! $ move ! (1 ∷ []) $
-        use1 W (some (λ (z-grugavorn-control : (Unit {0}) × ((List Session) × ((Unit {0}) × ((List ℕ) × Unit {0})))). ‵ (lasts c-grugavorn-control′.ended ((ν ∷ []), (κ₀, (κ₁, tt))) (node, ((record { ptr = (l₅, 0); name = δ-grugavorn-control; now = r-records-in }), (d, (reply, tt)))) z-grugavorn-control) ⊛ raw (fact 𝓤 (outcome (left r-grugavorn-control (z-grugavorn-control .1 .0)) (z-grugavorn-control .1 .1 .1 .0) ≡ controlTaken node (held (r-records-in)) (d .now) (ys-reply))))) (id⊢ 𝓤 _) $
+        use1 W (some (λ (z-grugavorn-control : (Unit {0}) × ((List Session) × ((Unit {0}) × ((List ℕ) × Unit {0})))). ‵ (lasts c-grugavorn-control′.ended ((ν ∷ []), (κ₀, (κ₁, tt))) (node, ((record { ptr = (l₅, 0); name = δ-grugavorn-control; now = r-records-in }), (d, (reply, tt)))) z-grugavorn-control) ⊛ raw (fact 𝓤 (outcome r-grugavorn-control (z-grugavorn-control .1 .0) (z-grugavorn-control .1 .1 .1 .0) ≡ controlTaken node (r-records-in) (d .now) (ys-reply))))) (id⊢ 𝓤 _) $
         pick ! (λ z-grugavorn-control. split ! $ move ! (1 ∷ []) $
-        heard ! (outcome (left r-grugavorn-control (z-grugavorn-control .1 .0)) (z-grugavorn-control .1 .1 .1 .0) ≡ controlTaken node (held (r-records-in)) (d .now) (ys-reply)) (λ e-grugavorn-control. fsplit ! $ drop ! $ fsplit ! $
-        fsplit ! $ move ! (1 ∷ []) $ feqL ! (λ len-grugavorn-control-recs. move ! (1 ∷ []) $ fsplit ! $ drop ! $ fsplit ! $ fsplit ! $ move ! (1 ∷ []) $ feqL ! (λ len-grugavorn-control-reply. move ! (1 ∷ []) $ drop ! $ move ! (2 ∷ []) $
-        split ! $ split ! $ move ! (1 ∷ []) $ split ! $ move ! (1 ∷ []) $ split ! $ move ! (1 ∷ []) $ drop ! $ move ! (3 ∷ []) $
-        peeks ! Left-t.the-row (Is Left-t.the-row) (shows 𝓤 H A Left-t.the-row) r-grugavorn-control (w-grugavorn-control ∷ []) (λ is-grugavorn-control.
-        land ! (from ! (stop !)) (init ! 18 refl (LL.lawful Left-t.the-type Left-l.the-laws 𝓤 H A W .typed r-grugavorn-control _ is-grugavorn-control .0)) $ drop ! $ move ! (2 ∷ []) $ lft-end ! tt $ move ! (0 ∷ 6 ∷ 4 ∷ []) $
+        heard ! (outcome r-grugavorn-control (z-grugavorn-control .1 .0) (z-grugavorn-control .1 .1 .1 .0) ≡ controlTaken node (r-records-in) (d .now) (ys-reply)) (λ e-grugavorn-control. fsplit ! $ drop ! $ fsplit ! $ fsplit ! $
+        move ! (1 ∷ []) $ feqL ! (λ len-grugavorn-control-recs. move ! (1 ∷ []) $ fsplit ! $ drop ! $ fsplit ! $ fsplit ! $ move ! (1 ∷ []) $ feqL ! (λ len-grugavorn-control-reply. move ! (1 ∷ []) $ drop ! $ move ! (2 ∷ []) $ split ! $
+        split ! $ move ! (1 ∷ []) $ split ! $ move ! (1 ∷ []) $ split ! $ move ! (1 ∷ []) $ drop ! $ move ! (3 ∷ []) $
+        peeks ! Answer-t.the-row (Is Answer-t.the-row) (shows 𝓤 H A Answer-t.the-row) r-grugavorn-control (w-grugavorn-control ∷ []) (λ is-grugavorn-control.
+        land ! (from ! (stop !)) (init ! 18 refl (LL.lawful Answer-t.the-type Answer-l.the-laws 𝓤 H A W .typed r-grugavorn-control _ is-grugavorn-control .0)) $ drop ! $ move ! (2 ∷ []) $ lft-end ! tt $ move ! (0 ∷ 6 ∷ 4 ∷ []) $
         use3 W (later (given (Is (Array Session-t.the-row 64) (z-grugavorn-control .1 .0) (array-vals (LL.vals Session-t.the-type Session-l.the-laws) (z-grugavorn-control .1 .0))) (‵ (fat fullShare (tyArray Session-l.mir 64) l₅ 0 (only (array-vals (LL.vals Session-t.the-type Session-l.the-laws) (z-grugavorn-control .1 .0))))))) (array-back 𝓤 H A W l₅ (ν ∷ []) (z-grugavorn-control .1 .0) (len-grugavorn-control-recs ∙ is-records-in .1 .0 .1) δ-grugavorn-control) $ await ! tt $
         learn ! (λ is-grugavorn-control-back.
         -- _7 = _5
@@ -156,21 +156,21 @@ module _ {M : Type 1} (𝓤 : URA M) (H : Heap 𝓤) (A : Atoms 𝓤) (W : Given
         -- _0 = whole_of(_6, _7)
         nothing ! $ nothing ! $
         owned ! (Array Session-t.the-row 64) (Is (Array Session-t.the-row 64)) (array-makes 𝓤 H A W Session-t.the-row (LL.makes Session-t.the-type Session-l.the-plain 𝓤 H A) 64) (z-grugavorn-control .1 .0) _ is-grugavorn-control-back $
-        fjoin ! $ owned ! Left-t.the-row (Is Left-t.the-row) (LL.makes Left-t.the-type Left-l.the-plain 𝓤 H A) r-grugavorn-control _ is-grugavorn-control $ fjoin ! $ move ! (1 ∷ 0 ∷ []) $
-        use2 W (raw (c-whole-of 𝓤 H A mem run .pre ((tt, tt, tt, (r-grugavorn-control, ((z-grugavorn-control .1 .0), tt)), (w-grugavorn-control ∷ [], ((only (array-vals (LL.vals Session-t.the-type Session-l.the-laws) (z-grugavorn-control .1 .0))) ∷ [], tt))), tt))) (qed W ((‵ ftrue) ∷ ‵ (fsep (Left-t.the-row .own r-grugavorn-control (w-grugavorn-control ∷ [])) (fsep ((Array Session-t.the-row 64) .own (z-grugavorn-control .1 .0) ((only (array-vals (LL.vals Session-t.the-type Session-l.the-laws) (z-grugavorn-control .1 .0))) ∷ [])) ftrue)) ∷ []) ∵ join ! $ frame ! $ done !) $
+        fjoin ! $ owned ! Answer-t.the-row (Is Answer-t.the-row) (LL.makes Answer-t.the-type Answer-l.the-plain 𝓤 H A) r-grugavorn-control _ is-grugavorn-control $ fjoin ! $ move ! (1 ∷ 0 ∷ []) $
+        use2 W (raw (c-whole-of 𝓤 H A mem run .pre ((tt, tt, tt, (r-grugavorn-control, ((z-grugavorn-control .1 .0), tt)), (w-grugavorn-control ∷ [], ((only (array-vals (LL.vals Session-t.the-type Session-l.the-laws) (z-grugavorn-control .1 .0))) ∷ [], tt))), tt))) (qed W ((‵ ftrue) ∷ ‵ (fsep (Answer-t.the-row .own r-grugavorn-control (w-grugavorn-control ∷ [])) (fsep ((Array Session-t.the-row 64) .own (z-grugavorn-control .1 .0) ((only (array-vals (LL.vals Session-t.the-type Session-l.the-laws) (z-grugavorn-control .1 .0))) ∷ [])) ftrue)) ∷ []) ∵ join ! $ frame ! $ done !) $
         calls-at ! fm (c-whole-of 𝓤 H A mem run) known-whole-of ((tt, tt, tt, (r-grugavorn-control, ((z-grugavorn-control .1 .0), tt)), (w-grugavorn-control ∷ [], ((only (array-vals (LL.vals Session-t.the-type Session-l.the-laws) (z-grugavorn-control .1 .0))) ∷ [], tt))), tt) (and-then ! (load ! (from ! (stop !)) (look ! 16 refl)) (and-then ! (load ! (from ! (stop !)) (look ! 14 refl)) (no-more !))) (λ w-whole-of.
-        use1 W (later (some (λ (r-whole-of : Answer). ((‵ ftrue) ⊛ ‵ (Answer-t.the-row .own r-whole-of (w-whole-of ∷ []))) ⊛ raw (ensured 𝓤 H A c-whole-of′.ended (c-whole-of′.clauses 𝓤 H A mem run) tt (r-grugavorn-control, ((z-grugavorn-control .1 .0), tt)) tt r-whole-of)))) (id⊢ 𝓤 _) $ await ! tt $
+        use1 W (later (some (λ (r-whole-of : Whole). ((‵ ftrue) ⊛ ‵ (Whole-t.the-row .own r-whole-of (w-whole-of ∷ []))) ⊛ raw (ensured 𝓤 H A c-whole-of′.ended (c-whole-of′.clauses 𝓤 H A mem run) tt (r-grugavorn-control, ((z-grugavorn-control .1 .0), tt)) tt r-whole-of)))) (id⊢ 𝓤 _) $ await ! tt $
         pick ! (λ r-whole-of. split ! $ move ! (1 ∷ []) $
-        use1 W (some (λ (z-whole-of : (Unit {0}) × ((Unit {0}) × Unit {0})). ‵ (lasts c-whole-of′.ended tt (r-grugavorn-control, ((z-grugavorn-control .1 .0), tt)) z-whole-of) ⊛ raw (fact 𝓤 (r-whole-of ≡ left r-grugavorn-control (z-grugavorn-control .1 .0))))) (id⊢ 𝓤 _) $
-        pick ! (λ z-whole-of. split ! $ move ! (1 ∷ []) $ heard ! (r-whole-of ≡ left r-grugavorn-control (z-grugavorn-control .1 .0)) (λ e-whole-of. fsplit ! $ drop ! $ fsplit ! $ drop ! $ drop ! $ split ! $ drop ! $
-        peeks ! Answer-t.the-row (Is Answer-t.the-row) (shows 𝓤 H A Answer-t.the-row) r-whole-of (w-whole-of ∷ []) (λ is-whole-of.
-        land ! (from ! (stop !)) (init ! 27 refl (LL.lawful Answer-t.the-type Answer-l.the-laws 𝓤 H A W .typed r-whole-of _ is-whole-of .0)) $ drop ! $
+        use1 W (some (λ (z-whole-of : (Unit {0}) × ((Unit {0}) × Unit {0})). ‵ (lasts c-whole-of′.ended tt (r-grugavorn-control, ((z-grugavorn-control .1 .0), tt)) z-whole-of) ⊛ raw (fact 𝓤 (r-whole-of ≡ wholeOf r-grugavorn-control (z-grugavorn-control .1 .0))))) (id⊢ 𝓤 _) $
+        pick ! (λ z-whole-of. split ! $ move ! (1 ∷ []) $ heard ! (r-whole-of ≡ wholeOf r-grugavorn-control (z-grugavorn-control .1 .0)) (λ e-whole-of. fsplit ! $ drop ! $ fsplit ! $ drop ! $ drop ! $ split ! $ drop ! $
+        peeks ! Whole-t.the-row (Is Whole-t.the-row) (shows 𝓤 H A Whole-t.the-row) r-whole-of (w-whole-of ∷ []) (λ is-whole-of.
+        land ! (from ! (stop !)) (init ! 27 refl (LL.lawful Whole-t.the-type Whole-l.the-laws 𝓤 H A W .typed r-whole-of _ is-whole-of .0)) $ drop ! $
         -- return
         returns ! (look ! 26 refl) $
         forget ! 5 refl $ forget ! 7 refl $ forget ! 9 refl $ forget ! 11 refl $ forget ! 13 refl $ forget ! 15 refl $ forget ! 0 refl $ forget ! 18 refl $ forget ! 20 refl $ forget ! 22 refl $ forget ! 24 refl $ forget ! 26 refl $
         move ! (26 ∷ 27 ∷ []) $ free1 ! $ move ! (24 ∷ 25 ∷ []) $ free1 ! $ move ! (22 ∷ 23 ∷ []) $ free1 ! $ move ! (20 ∷ 21 ∷ []) $ free1 ! $ move ! (18 ∷ 19 ∷ []) $ free1 ! $ move ! (0 ∷ 17 ∷ []) $ free1 ! $ move ! (14 ∷ 15 ∷ []) $ free1 ! $ move ! (12 ∷ 13 ∷ []) $ free1 ! $ move ! (10 ∷ 11 ∷ []) $ free1 ! $ move ! (8 ∷ 9 ∷ []) $ free1 ! $ move ! (6 ∷ 7 ∷ []) $ free1 ! $ move ! (4 ∷ 5 ∷ []) $ free1 ! $ free0 ! $
-        owned ! Answer-t.the-row (Is Answer-t.the-row) (LL.makes Answer-t.the-type Answer-l.the-plain 𝓤 H A) r-whole-of _ is-whole-of $ nothing ! $ move ! (2 ∷ 0 ∷ []) $ join ! $ move ! (2 ∷ 0 ∷ []) $ join ! $ keep ! (0 ∷ 2 ∷ 1 ∷ []) $
-        by ! (exits r-whole-of w-whole-of (z-grugavorn-control .1 .1 .1 .0) (ap (λ (x : Answer). outcome x (z-grugavorn-control .1 .1 .1 .0)) e-whole-of ∙ e-grugavorn-control ∙ ap (λ (t : Table). controlTaken node t (now d) ys-reply) (sym (held-is table r-records-in (sym e-records-in)))) len-grugavorn-control-reply)))))))))))))))))))))))))))))))))
+        owned ! Whole-t.the-row (Is Whole-t.the-row) (LL.makes Whole-t.the-type Whole-l.the-plain 𝓤 H A) r-whole-of _ is-whole-of $ nothing ! $ move ! (2 ∷ 0 ∷ []) $ join ! $ move ! (2 ∷ 0 ∷ []) $ join ! $ keep ! (0 ∷ 2 ∷ 1 ∷ []) $
+        by ! (exits r-whole-of w-whole-of (z-grugavorn-control .1 .1 .1 .0) (subst (λ (t : List Session). outcomeOf r-whole-of (z-grugavorn-control .1 .1 .1 .0) ≡ controlTaken node t (now d) ys-reply) e-records-in (whole-is r-whole-of r-grugavorn-control (z-grugavorn-control .1 .0) (z-grugavorn-control .1 .1 .1 .0) (controlTaken node r-records-in (now d) ys-reply) e-whole-of e-grugavorn-control)) len-grugavorn-control-reply)))))))))))))))))))))))))))))))))
 
 module _ {M : Type 1} (𝓤 : URA M) (H : Heap 𝓤) (A : Atoms 𝓤) (W : Given 𝓤 H A) (mem : Memory → SProp 𝓤) (run : Routine → Fun 𝓤) where
   take-control-walks : (C : Calls 𝓤 H) (Λ : Loops 𝓤 H) → FmC 𝓤 H (W .laws) C → Triple 𝓤 (C #lentcore·records-in) (c-records-in 𝓤 H A mem run) → Triple 𝓤 (C #lentcontrol·grugavorn-control) (c-grugavorn-control 𝓤 H A mem run) → Triple 𝓤 (C #lentcore·whole-of) (c-whole-of 𝓤 H A mem run)

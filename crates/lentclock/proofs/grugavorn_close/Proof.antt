@@ -3,20 +3,20 @@
 use Rattle.lentkit.proofs.Walks.{_≡_, refl, ℕ, Bool, [], _∷_, List, length, getD, set, URA, fullShare, named, w64, Val, vint, SProp, ent, emp, via, fst∗, id⊢, Lft, Share, GName, Fml, ftrue, fsep, flft, Memory, Routine, Heap, Calls, Loops, WpFn, Tables, Atoms, Fun, fact, givenOf, tables, tablesOf, Given, Item, ‵, raw, some, later, _⊛_, ⋆, _$_, _∵_, !, qed, by, move, keep, drop, use1, use2, split, join, pick, fsplit, fjoin, feqL, suffices, frame, await, done, look, init, forget, stop, hop, fld, from, load, addr, and-then, no-more, assigns, land, returns, enter, alloc1, alloc0, params1, pass1, pass0, free1, free0, agg, whole, sub, look-in, lft-new, lft-end, FmC, fmOf, WpFn-mono, owns, Is, shows, Nothing, nothing-lawful, uint-lawful, uint-makes, uint-vals, uint-tells, bool-lawful, bool-makes, usize, bool, RefT, now, sliceVal, MutSlice, ShrSlice, Room, finally, slice-vals, mut-slice-tells, owned, peeks, heard, nothing, Vals, onEntry, Meets, tripleOf, Contract, Triple, calls-at, ensured, lasts, entered, cited, says, Stays, stay-dropped, gave-slice, walkOf, goes-dropped, goes-gave-slice, Walks, ends-at, walked, walk-meets, yes, plain}
 use denote.Struct.Laws as LL
 use Rattle.lentkit.proofs.Loans.{Away, goes-out, comes-back}
-use Rattle.lentcore.specs.declared.Left.{Left}
-use Rattle.lentcore.proofs.Left as Left-t
-use Rattle.lentcore.proofs.Left.Laws as Left-l
+use Rattle.timing.specs.declared.Answer.{Answer}
+use Rattle.timing.proofs.Answer as Answer-t
+use Rattle.timing.proofs.Answer.Laws as Answer-l
 use Rattle.table.specs.declared.Node.{Node}
 use Rattle.table.proofs.Node as Node-t
 use Rattle.table.proofs.Node.Laws as Node-l
 use Rattle.session.specs.declared.Session.{Session}
 use Rattle.session.proofs.Session as Session-t
 use Rattle.session.proofs.Session.Laws as Session-l
-use Rattle.lentcore.specs.Lent.{left}
 use Rattle.lentstep.specs.Step.{closeLeft, closedBy, lent-close}
 use Rattle.session.specs.Session.{blankAt}
 use Rattle.table.specs.Rules.{keepsRules}
-use Rattle.timing.specs.Timing.{closeOf, held}
+use Rattle.timing.specs.Outcome.{outcome}
+use Rattle.timing.specs.Timing.{closeOf}
 use Rattle.lentrules.proofs.kept as c-kept′
 use Rattle.lentrules.proofs.kept.Symbol as c-kept-def
 use Rattle.lentrules.proofs.kept.Symbol.{name as #lentrules·kept}
@@ -99,13 +99,13 @@ module _ {M : Type 1} (𝓤 : URA M) (H : Heap 𝓤) (A : Atoms 𝓤) (W : Given
   Toks = ‵ (flft κ₀ q₀) ⊛ ‵ ftrue
 
   -- what the contract says of the answer and of the last values
-  abbrev Said : Left → List Session → Type 0
-  Said r w-recs = left r w-recs ≡ closeOf node (held (recs .now)) place
+  abbrev Said : Answer → List Session → Type 0
+  Said r w-recs = outcome r w-recs [] ≡ closeOf node (recs .now) place
 
-  exits : (r : Left) (w : Val) (w-recs : List Session) → Said r w-recs → length w-recs ≡ length (recs .now)
-      → ent 𝓤 (⋆ 𝓤 H A (Toks ∷ ‵ (finally Session-t.the-row (recs .name) w-recs) ∷ ‵ (Left-t.the-row .own r (w ∷ [])) ∷ [])) (Post w)
+  exits : (r : Answer) (w : Val) (w-recs : List Session) → Said r w-recs → length w-recs ≡ length (recs .now)
+      → ent 𝓤 (⋆ 𝓤 H A (Toks ∷ ‵ (finally Session-t.the-row (recs .name) w-recs) ∷ ‵ (Answer-t.the-row .own r (w ∷ [])) ∷ [])) (Post w)
   exits r w w-recs e l-recs =
-      qed W (Toks ∷ ‵ (finally Session-t.the-row (recs .name) w-recs) ∷ ‵ (Left-t.the-row .own r (w ∷ [])) ∷ []) ∵
+      qed W (Toks ∷ ‵ (finally Session-t.the-row (recs .name) w-recs) ∷ ‵ (Answer-t.the-row .own r (w ∷ [])) ∷ []) ∵
       suffices ! _ (ends-at 𝓤 H A entry′.ended stayed (entry′.clauses 𝓤 H A mem run) W bound w r (tt, (w-recs, (tt, tt))) (tt, (l-recs, (tt, tt)))) $ says ! e $ frame ! $
       nothing ! $ nothing ! $ fjoin ! $ move ! (1 ∷ 0 ∷ []) $ fjoin ! $ nothing ! $ fjoin ! $ done !
 
@@ -182,17 +182,17 @@ module _ {M : Type 1} (𝓤 : URA M) (H : Heap 𝓤) (A : Atoms 𝓤) (W : Given
         owned ! Node-t.the-row (Is Node-t.the-row) (LL.makes Node-t.the-type Node-l.the-plain 𝓤 H A) node _ is-node $ fjoin ! $ owned ! bool (Is bool) (bool-makes 𝓤 H A W) r-kept _ is-kept $ fjoin ! $ move ! (1 ∷ 0 ∷ []) $
         use2 W (raw (c-close-left 𝓤 H A mem run .pre ((tt, tt, tt, (r-kept, (node, (r-read, tt))), (w-kept ∷ [], (v-node ∷ [], (w-read ∷ [], tt)))), tt))) (qed W ((‵ ftrue) ∷ ‵ (fsep (bool .own r-kept (w-kept ∷ [])) (fsep (Node-t.the-row .own node (v-node ∷ [])) (fsep (Session-t.the-row .own r-read (w-read ∷ [])) ftrue))) ∷ []) ∵ join ! $ frame ! $ done !) $
         calls-at ! fm (c-close-left 𝓤 H A mem run) known-close-left ((tt, tt, tt, (r-kept, (node, (r-read, tt))), (w-kept ∷ [], (v-node ∷ [], (w-read ∷ [], tt)))), tt) (and-then ! (load ! (from ! (stop !)) (look ! 21 refl)) (and-then ! (load ! (from ! (stop !)) (look ! 27 refl)) (and-then ! (load ! (from ! (stop !)) (look ! 19 refl)) (no-more !)))) (λ w-close-left.
-        use1 W (later (some (λ (r-close-left : Left). ((‵ ftrue) ⊛ ‵ (Left-t.the-row .own r-close-left (w-close-left ∷ []))) ⊛ raw (ensured 𝓤 H A c-close-left′.ended (c-close-left′.clauses 𝓤 H A mem run) tt (r-kept, (node, (r-read, tt))) tt r-close-left)))) (id⊢ 𝓤 _) $ await ! tt $
+        use1 W (later (some (λ (r-close-left : Answer). ((‵ ftrue) ⊛ ‵ (Answer-t.the-row .own r-close-left (w-close-left ∷ []))) ⊛ raw (ensured 𝓤 H A c-close-left′.ended (c-close-left′.clauses 𝓤 H A mem run) tt (r-kept, (node, (r-read, tt))) tt r-close-left)))) (id⊢ 𝓤 _) $ await ! tt $
         pick ! (λ r-close-left. split ! $ move ! (1 ∷ []) $
         use1 W (some (λ (z-close-left : (Unit {0}) × ((Unit {0}) × ((Unit {0}) × Unit {0}))). ‵ (lasts c-close-left′.ended tt (r-kept, (node, (r-read, tt))) z-close-left) ⊛ raw (fact 𝓤 (r-close-left ≡ closeLeft r-kept node r-read)))) (id⊢ 𝓤 _) $
         pick ! (λ z-close-left. split ! $ move ! (1 ∷ []) $ heard ! (r-close-left ≡ closeLeft r-kept node r-read) (λ e-close-left. fsplit ! $ drop ! $ fsplit ! $ drop ! $ fsplit ! $ drop ! $ drop ! $ split ! $ drop ! $
-        peeks ! Left-t.the-row (Is Left-t.the-row) (shows 𝓤 H A Left-t.the-row) r-close-left (w-close-left ∷ []) (λ is-close-left.
-        land ! (from ! (stop !)) (init ! 29 refl (LL.lawful Left-t.the-type Left-l.the-laws 𝓤 H A W .typed r-close-left _ is-close-left .0)) $ drop ! $
+        peeks ! Answer-t.the-row (Is Answer-t.the-row) (shows 𝓤 H A Answer-t.the-row) r-close-left (w-close-left ∷ []) (λ is-close-left.
+        land ! (from ! (stop !)) (init ! 29 refl (LL.lawful Answer-t.the-type Answer-l.the-laws 𝓤 H A W .typed r-close-left _ is-close-left .0)) $ drop ! $
         -- return
         returns ! (look ! 28 refl) $
         forget ! 2 refl $ forget ! 4 refl $ forget ! 6 refl $ forget ! 8 refl $ forget ! 10 refl $ forget ! 12 refl $ forget ! 14 refl $ forget ! 16 refl $ forget ! 18 refl $ forget ! 20 refl $ forget ! 22 refl $ forget ! 24 refl $ forget ! 26 refl $ forget ! 28 refl $
         move ! (28 ∷ 29 ∷ []) $ free1 ! $ move ! (26 ∷ 27 ∷ []) $ free1 ! $ move ! (24 ∷ 25 ∷ []) $ free1 ! $ move ! (22 ∷ 23 ∷ []) $ free1 ! $ move ! (20 ∷ 21 ∷ []) $ free1 ! $ move ! (18 ∷ 19 ∷ []) $ free1 ! $ move ! (16 ∷ 17 ∷ []) $ free1 ! $ move ! (14 ∷ 15 ∷ []) $ free1 ! $ move ! (12 ∷ 13 ∷ []) $ free1 ! $ move ! (10 ∷ 11 ∷ []) $ free1 ! $ move ! (8 ∷ 9 ∷ []) $ free1 ! $ move ! (6 ∷ 7 ∷ []) $ free1 ! $ move ! (4 ∷ 5 ∷ []) $ free1 ! $ move ! (2 ∷ 3 ∷ []) $ free1 ! $ free0 ! $
-        owned ! Left-t.the-row (Is Left-t.the-row) (LL.makes Left-t.the-type Left-l.the-plain 𝓤 H A) r-close-left _ is-close-left $ nothing ! $ move ! (2 ∷ 0 ∷ []) $ join ! $ keep ! (0 ∷ 2 ∷ 1 ∷ []) $
+        owned ! Answer-t.the-row (Is Answer-t.the-row) (LL.makes Answer-t.the-type Answer-l.the-plain 𝓤 H A) r-close-left _ is-close-left $ nothing ! $ move ! (2 ∷ 0 ∷ []) $ join ! $ keep ! (0 ∷ 2 ∷ 1 ∷ []) $
         by ! (exits r-close-left w-close-left (z-put .0) (lent-close node ys-recs (z-put .0) place r-kept r-read r-closed-by r-close-left e-kept e-read e-closed-by e-put e-close-left) len-put-recs)))))))))))))))))))))))))))))))))))))))))))))
 
 module _ {M : Type 1} (𝓤 : URA M) (H : Heap 𝓤) (A : Atoms 𝓤) (W : Given 𝓤 H A) (mem : Memory → SProp 𝓤) (run : Routine → Fun 𝓤) where

@@ -4,9 +4,9 @@ use Rattle.lentkit.proofs.Walks.{_≡_, refl, ℕ, Bool, lit<, [], _∷_, List,
 use denote.Struct.Laws as LL
 use denote.Enum.Laws as EL
 use Rattle.lentkit.proofs.Loans.{Away, goes-out, comes-back}
-use Rattle.lentcore.specs.declared.Left.{Left}
-use Rattle.lentcore.proofs.Left as Left-t
-use Rattle.lentcore.proofs.Left.Laws as Left-l
+use Rattle.timing.specs.declared.Answer.{Answer}
+use Rattle.timing.proofs.Answer as Answer-t
+use Rattle.timing.proofs.Answer.Laws as Answer-l
 use Rattle.table.specs.declared.Node.{Node}
 use Rattle.table.proofs.Node as Node-t
 use Rattle.table.proofs.Node.Laws as Node-l
@@ -19,13 +19,13 @@ use Rattle.glance.proofs.Seen.Laws as Seen-l
 use Rattle.lentstep.specs.declared.Sending.{Sending}
 use Rattle.lentstep.proofs.Sending as Sending-t
 use Rattle.lentstep.proofs.Sending.Laws as Sending-l
-use Rattle.lentcore.specs.Lent.{left}
 use Rattle.lentrules.specs.Kept.{seenOf}
 use Rattle.lentrules.specs.Read.{readOf}
-use Rattle.lentstep.specs.Send.{lent-send, loudIn, nextDue, placeOf, posted, sendLeft, sentBy}
+use Rattle.lentstep.specs.Send.{lent-send, loudIn, nextDue, placeOf, sendLeft, sentBy}
 use Rattle.rules.specs.Survey.{waitOf}
 use Rattle.session.specs.Session.{blankAt}
-use Rattle.timing.specs.Timing.{held, outcome, sendOf}
+use Rattle.timing.specs.Outcome.{back, outcome}
+use Rattle.timing.specs.Timing.{sendOf}
 use Rattle.lentrules.proofs.seen as c-seen′
 use Rattle.lentrules.proofs.seen.Symbol as c-seen-def
 use Rattle.lentrules.proofs.seen.Symbol.{name as #lentrules·seen}
@@ -145,13 +145,13 @@ module _ {M : Type 1} (𝓤 : URA M) (H : Heap 𝓤) (A : Atoms 𝓤) (W : Given
   Toks = ‵ (flft κ₀ q₀) ⊛ ‵ (flft κ₁ q₁) ⊛ ‵ ftrue
 
   -- what the contract says of the answer and of the last values
-  abbrev Said : Left → List Session → List ℕ → Type 0
-  Said r w-recs w-reply = outcome (left r w-recs) w-reply ≡ sendOf node (held (recs .now)) (reply .now)
+  abbrev Said : Answer → List Session → List ℕ → Type 0
+  Said r w-recs w-reply = outcome r w-recs w-reply ≡ sendOf node (recs .now) (reply .now)
 
-  exits : (r : Left) (w : Val) (w-recs : List Session) (w-reply : List ℕ) → Said r w-recs w-reply → length w-recs ≡ length (recs .now) → length w-reply ≡ length (reply .now)
-      → ent 𝓤 (⋆ 𝓤 H A (Toks ∷ ‵ (finally Session-t.the-row (recs .name) w-recs) ∷ ‵ (finally u8 (reply .name) w-reply) ∷ ‵ (Left-t.the-row .own r (w ∷ [])) ∷ [])) (Post w)
+  exits : (r : Answer) (w : Val) (w-recs : List Session) (w-reply : List ℕ) → Said r w-recs w-reply → length w-recs ≡ length (recs .now) → length w-reply ≡ length (reply .now)
+      → ent 𝓤 (⋆ 𝓤 H A (Toks ∷ ‵ (finally Session-t.the-row (recs .name) w-recs) ∷ ‵ (finally u8 (reply .name) w-reply) ∷ ‵ (Answer-t.the-row .own r (w ∷ [])) ∷ [])) (Post w)
   exits r w w-recs w-reply e l-recs l-reply =
-      qed W (Toks ∷ ‵ (finally Session-t.the-row (recs .name) w-recs) ∷ ‵ (finally u8 (reply .name) w-reply) ∷ ‵ (Left-t.the-row .own r (w ∷ [])) ∷ []) ∵
+      qed W (Toks ∷ ‵ (finally Session-t.the-row (recs .name) w-recs) ∷ ‵ (finally u8 (reply .name) w-reply) ∷ ‵ (Answer-t.the-row .own r (w ∷ [])) ∷ []) ∵
       suffices ! _ (ends-at 𝓤 H A entry′.ended stayed (entry′.clauses 𝓤 H A mem run) W bound w r (tt, (w-recs, (w-reply, tt))) (tt, (l-recs, (l-reply, tt)))) $ says ! e $ frame ! $
       nothing ! $ move ! (2 ∷ 0 ∷ []) $ fjoin ! $ move ! (1 ∷ 0 ∷ []) $ fjoin ! $ nothing ! $ fjoin ! $ done !
 
@@ -283,18 +283,19 @@ module _ {M : Type 1} (𝓤 : URA M) (H : Heap 𝓤) (A : Atoms 𝓤) (W : Given
         owned ! Sending-t.the-row (Is Sending-t.the-row) (EL.makes Sending-t.the-type Sending-l.the-plain 𝓤 H A) r-next-due _ is-next-due $ fjoin ! $ move ! (1 ∷ 0 ∷ []) $
         use2 W (raw (c-send-left 𝓤 H A mem run .pre (((κ₁, tt), (q₁, tt), tt, (r-next-due, (node, (r-read, (reply, tt)))), (w-next-due ∷ [], (v-node ∷ [], (w-read ∷ [], (v-reply ∷ [], tt))))), tt))) (qed W ((‵ (flft κ₁ q₁) ⊛ ‵ ftrue) ∷ ‵ (fsep (Sending-t.the-row .own r-next-due (w-next-due ∷ [])) (fsep (Node-t.the-row .own node (v-node ∷ [])) (fsep (Session-t.the-row .own r-read (w-read ∷ [])) (fsep Own-reply ftrue)))) ∷ []) ∵ join ! $ frame ! $ done !) $
         calls-at ! fm (c-send-left 𝓤 H A mem run) known-send-left (((κ₁, tt), (q₁, tt), tt, (r-next-due, (node, (r-read, (reply, tt)))), (w-next-due ∷ [], (v-node ∷ [], (w-read ∷ [], (v-reply ∷ [], tt))))), tt) (and-then ! (load ! (from ! (stop !)) (look ! 33 refl)) (and-then ! (load ! (from ! (stop !)) (look ! 45 refl)) (and-then ! (load ! (from ! (stop !)) (look ! 29 refl)) (and-then ! (load ! (from ! (stop !)) (look ! 3 refl)) (no-more !))))) (λ w-send-left.
-        use1 W (later (some (λ (r-send-left : Left). ((‵ (flft κ₁ q₁) ⊛ ‵ ftrue) ⊛ ‵ (Left-t.the-row .own r-send-left (w-send-left ∷ []))) ⊛ raw (ensured 𝓤 H A c-send-left′.ended (c-send-left′.clauses 𝓤 H A mem run) (κ₁, tt) (r-next-due, (node, (r-read, (reply, tt)))) tt r-send-left)))) (id⊢ 𝓤 _) $ await ! tt $
+        use1 W (later (some (λ (r-send-left : Answer). ((‵ (flft κ₁ q₁) ⊛ ‵ ftrue) ⊛ ‵ (Answer-t.the-row .own r-send-left (w-send-left ∷ []))) ⊛ raw (ensured 𝓤 H A c-send-left′.ended (c-send-left′.clauses 𝓤 H A mem run) (κ₁, tt) (r-next-due, (node, (r-read, (reply, tt)))) tt r-send-left)))) (id⊢ 𝓤 _) $ await ! tt $
         pick ! (λ r-send-left. split ! $ move ! (1 ∷ []) $
-        use1 W (some (λ (z-send-left : (Unit {0}) × ((Unit {0}) × ((Unit {0}) × ((List ℕ) × Unit {0})))). ‵ (lasts c-send-left′.ended (κ₁, tt) (r-next-due, (node, (r-read, (reply, tt)))) z-send-left) ⊛ raw (fact 𝓤 (posted r-send-left (z-send-left .1 .1 .1 .0) ≡ sendLeft r-next-due node r-read (ys-reply))))) (id⊢ 𝓤 _) $
-        pick ! (λ z-send-left. split ! $ move ! (1 ∷ []) $ heard ! (posted r-send-left (z-send-left .1 .1 .1 .0) ≡ sendLeft r-next-due node r-read (ys-reply)) (λ e-send-left. fsplit ! $ drop ! $ fsplit ! $ drop ! $ fsplit ! $ drop ! $
+        use1 W (some (λ (z-send-left : (Unit {0}) × ((Unit {0}) × ((Unit {0}) × ((List ℕ) × Unit {0})))). ‵ (lasts c-send-left′.ended (κ₁, tt) (r-next-due, (node, (r-read, (reply, tt)))) z-send-left) ⊛ raw (fact 𝓤 (back r-send-left (z-send-left .1 .1 .1 .0) ≡ sendLeft r-next-due node r-read (ys-reply))))) (id⊢ 𝓤 _) $
+        pick ! (λ z-send-left. split ! $ move ! (1 ∷ []) $ heard ! (back r-send-left (z-send-left .1 .1 .1 .0) ≡ sendLeft r-next-due node r-read (ys-reply)) (λ e-send-left. fsplit ! $ drop ! $ fsplit ! $ drop ! $ fsplit ! $ drop ! $
         fsplit ! $ fsplit ! $ move ! (1 ∷ []) $ feqL ! (λ len-send-left-reply. move ! (1 ∷ []) $ drop ! $ move ! (1 ∷ []) $ split ! $ split ! $ move ! (1 ∷ []) $ drop ! $ move ! (1 ∷ []) $
-        peeks ! Left-t.the-row (Is Left-t.the-row) (shows 𝓤 H A Left-t.the-row) r-send-left (w-send-left ∷ []) (λ is-send-left.
-        land ! (from ! (stop !)) (init ! 49 refl (LL.lawful Left-t.the-type Left-l.the-laws 𝓤 H A W .typed r-send-left _ is-send-left .0)) $ drop ! $
+        peeks ! Answer-t.the-row (Is Answer-t.the-row) (shows 𝓤 H A Answer-t.the-row) r-send-left (w-send-left ∷ []) (λ is-send-left.
+        land ! (from ! (stop !)) (init ! 49 refl (LL.lawful Answer-t.the-type Answer-l.the-laws 𝓤 H A W .typed r-send-left _ is-send-left .0)) $ drop ! $
         -- return
         returns ! (look ! 48 refl) $
         forget ! 4 refl $ forget ! 6 refl $ forget ! 8 refl $ forget ! 10 refl $ forget ! 12 refl $ forget ! 14 refl $ forget ! 16 refl $ forget ! 18 refl $ forget ! 20 refl $ forget ! 22 refl $ forget ! 24 refl $ forget ! 26 refl $ forget ! 28 refl $ forget ! 30 refl $ forget ! 32 refl $ forget ! 34 refl $ forget ! 36 refl $ forget ! 38 refl $ forget ! 40 refl $ forget ! 42 refl $ forget ! 44 refl $ forget ! 46 refl $ forget ! 48 refl $
         move ! (48 ∷ 49 ∷ []) $ free1 ! $ move ! (46 ∷ 47 ∷ []) $ free1 ! $ move ! (44 ∷ 45 ∷ []) $ free1 ! $ move ! (42 ∷ 43 ∷ []) $ free1 ! $ move ! (40 ∷ 41 ∷ []) $ free1 ! $ move ! (38 ∷ 39 ∷ []) $ free1 ! $ move ! (36 ∷ 37 ∷ []) $ free1 ! $ move ! (34 ∷ 35 ∷ []) $ free1 ! $ move ! (32 ∷ 33 ∷ []) $ free1 ! $ move ! (30 ∷ 31 ∷ []) $ free1 ! $ move ! (28 ∷ 29 ∷ []) $ free1 ! $ move ! (26 ∷ 27 ∷ []) $ free1 ! $ move ! (24 ∷ 25 ∷ []) $ free1 ! $ move ! (22 ∷ 23 ∷ []) $ free1 ! $ move ! (20 ∷ 21 ∷ []) $ free1 ! $ move ! (18 ∷ 19 ∷ []) $ free1 ! $ move ! (16 ∷ 17 ∷ []) $ free1 ! $ move ! (14 ∷ 15 ∷ []) $ free1 ! $ move ! (12 ∷ 13 ∷ []) $ free1 ! $ move ! (10 ∷ 11 ∷ []) $ free1 ! $ move ! (8 ∷ 9 ∷ []) $ free1 ! $ move ! (6 ∷ 7 ∷ []) $ free1 ! $ move ! (4 ∷ 5 ∷ []) $ free1 ! $ free0 ! $
-        owned ! Left-t.the-row (Is Left-t.the-row) (LL.makes Left-t.the-type Left-l.the-plain 𝓤 H A) r-send-left _ is-send-left $ nothing ! $ move ! (2 ∷ 0 ∷ []) $ join ! $ move ! (3 ∷ 0 ∷ []) $ join ! $ keep ! (0 ∷ 3 ∷ 2 ∷ 1 ∷ []) $
+        owned ! Answer-t.the-row (Is Answer-t.the-row) (LL.makes Answer-t.the-type Answer-l.the-plain 𝓤 H A) r-send-left _ is-send-left $ nothing ! $ move ! (2 ∷ 0 ∷ []) $ join ! $ move ! (3 ∷ 0 ∷ []) $ join ! $
+        keep ! (0 ∷ 3 ∷ 2 ∷ 1 ∷ []) $
         by ! (exits r-send-left w-send-left (z-put .0) (z-send-left .1 .1 .1 .0) (lent-send node ys-recs (z-put .0) ys-reply (z-send-left .1 .1 .1 .0) r-next-due r-place-of r-read r-sent-by r-send-left e-place-of e-read e-sent-by e-put e-send-left r-seen r-loud r-awaited e-seen e-loud e-awaited e-next-due) len-put-recs len-send-left-reply)))))))))))))))))))))))))))))))))))))))))))))))))))))))))))))))))))))))))))))
 
 module _ {M : Type 1} (𝓤 : URA M) (H : Heap 𝓤) (A : Atoms 𝓤) (W : Given 𝓤 H A) (mem : Memory → SProp 𝓤) (run : Routine → Fun 𝓤) where

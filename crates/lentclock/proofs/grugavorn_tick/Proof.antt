@@ -4,9 +4,9 @@ use Rattle.lentkit.proofs.Walks.{_≡_, refl, ℕ, [], _∷_, List, length, URA
 use denote.Struct.Laws as LL
 use denote.Enum.Laws as EL
 use Rattle.lentkit.proofs.Loans.{Away, goes-out, comes-back}
-use Rattle.lentcore.specs.declared.Left.{Left}
-use Rattle.lentcore.proofs.Left as Left-t
-use Rattle.lentcore.proofs.Left.Laws as Left-l
+use Rattle.timing.specs.declared.Answer.{Answer}
+use Rattle.timing.proofs.Answer as Answer-t
+use Rattle.timing.proofs.Answer.Laws as Answer-l
 use Rattle.table.specs.declared.Node.{Node}
 use Rattle.table.proofs.Node as Node-t
 use Rattle.table.proofs.Node.Laws as Node-l
@@ -16,11 +16,11 @@ use Rattle.table.specs.declared.Change.{Change}
 use Rattle.table.proofs.Change as Change-t
 use Rattle.table.proofs.Change.Laws as Change-l
 use Rattle.glance.specs.Glance.{standsOf}
-use Rattle.lentcore.specs.Lent.{left}
 use Rattle.lentstep.specs.Step.{lent-tick, tickChange, tickCount, tickLeft}
 use Rattle.octets.specs.Places.{mapFirst}
 use Rattle.table.specs.Become.{changedBy}
-use Rattle.timing.specs.Timing.{held, tickOf}
+use Rattle.timing.specs.Outcome.{outcome}
+use Rattle.timing.specs.Timing.{tickOf}
 use Rattle.lentrules.proofs.standing as c-standing′
 use Rattle.lentrules.proofs.standing.Symbol as c-standing-def
 use Rattle.lentrules.proofs.standing.Symbol.{name as #lentrules·standing}
@@ -100,13 +100,13 @@ module _ {M : Type 1} (𝓤 : URA M) (H : Heap 𝓤) (A : Atoms 𝓤) (W : Given
   Toks = ‵ (flft κ₀ q₀) ⊛ ‵ ftrue
 
   -- what the contract says of the answer and of the last values
-  abbrev Said : Left → List Session → Type 0
-  Said r w-recs = left r w-recs ≡ tickOf node (held (recs .now))
+  abbrev Said : Answer → List Session → Type 0
+  Said r w-recs = outcome r w-recs [] ≡ tickOf node (recs .now)
 
-  exits : (r : Left) (w : Val) (w-recs : List Session) → Said r w-recs → length w-recs ≡ length (recs .now)
-      → ent 𝓤 (⋆ 𝓤 H A (Toks ∷ ‵ (finally Session-t.the-row (recs .name) w-recs) ∷ ‵ (Left-t.the-row .own r (w ∷ [])) ∷ [])) (Post w)
+  exits : (r : Answer) (w : Val) (w-recs : List Session) → Said r w-recs → length w-recs ≡ length (recs .now)
+      → ent 𝓤 (⋆ 𝓤 H A (Toks ∷ ‵ (finally Session-t.the-row (recs .name) w-recs) ∷ ‵ (Answer-t.the-row .own r (w ∷ [])) ∷ [])) (Post w)
   exits r w w-recs e l-recs =
-      qed W (Toks ∷ ‵ (finally Session-t.the-row (recs .name) w-recs) ∷ ‵ (Left-t.the-row .own r (w ∷ [])) ∷ []) ∵
+      qed W (Toks ∷ ‵ (finally Session-t.the-row (recs .name) w-recs) ∷ ‵ (Answer-t.the-row .own r (w ∷ [])) ∷ []) ∵
       suffices ! _ (ends-at 𝓤 H A entry′.ended stayed (entry′.clauses 𝓤 H A mem run) W bound w r (tt, (w-recs, tt)) (tt, (l-recs, tt))) $ says ! e $ frame ! $
       nothing ! $ move ! (1 ∷ 0 ∷ []) $ fjoin ! $ nothing ! $ fjoin ! $ done !
 
@@ -173,17 +173,17 @@ module _ {M : Type 1} (𝓤 : URA M) (H : Heap 𝓤) (A : Atoms 𝓤) (W : Given
         move ! (1 ∷ 0 ∷ []) $
         use2 W (raw (c-tick-left 𝓤 H A mem run .pre ((tt, tt, tt, (r-standing, (node, tt)), (w-standing ∷ [], (v-node ∷ [], tt))), tt))) (qed W ((‵ ftrue) ∷ ‵ (fsep (u8 .own r-standing (w-standing ∷ [])) (fsep (Node-t.the-row .own node (v-node ∷ [])) ftrue)) ∷ []) ∵ join ! $ frame ! $ done !) $
         calls-at ! fm (c-tick-left 𝓤 H A mem run) known-tick-left ((tt, tt, tt, (r-standing, (node, tt)), (w-standing ∷ [], (v-node ∷ [], tt))), tt) (and-then ! (load ! (from ! (stop !)) (look ! 17 refl)) (and-then ! (load ! (from ! (stop !)) (look ! 21 refl)) (no-more !))) (λ w-tick-left.
-        use1 W (later (some (λ (r-tick-left : Left). ((‵ ftrue) ⊛ ‵ (Left-t.the-row .own r-tick-left (w-tick-left ∷ []))) ⊛ raw (ensured 𝓤 H A c-tick-left′.ended (c-tick-left′.clauses 𝓤 H A mem run) tt (r-standing, (node, tt)) tt r-tick-left)))) (id⊢ 𝓤 _) $ await ! tt $
+        use1 W (later (some (λ (r-tick-left : Answer). ((‵ ftrue) ⊛ ‵ (Answer-t.the-row .own r-tick-left (w-tick-left ∷ []))) ⊛ raw (ensured 𝓤 H A c-tick-left′.ended (c-tick-left′.clauses 𝓤 H A mem run) tt (r-standing, (node, tt)) tt r-tick-left)))) (id⊢ 𝓤 _) $ await ! tt $
         pick ! (λ r-tick-left. split ! $ move ! (1 ∷ []) $
         use1 W (some (λ (z-tick-left : (Unit {0}) × ((Unit {0}) × Unit {0})). ‵ (lasts c-tick-left′.ended tt (r-standing, (node, tt)) z-tick-left) ⊛ raw (fact 𝓤 (r-tick-left ≡ tickLeft r-standing node)))) (id⊢ 𝓤 _) $ pick ! (λ z-tick-left.
         split ! $ move ! (1 ∷ []) $ heard ! (r-tick-left ≡ tickLeft r-standing node) (λ e-tick-left. fsplit ! $ drop ! $ fsplit ! $ drop ! $ drop ! $ split ! $ drop ! $
-        peeks ! Left-t.the-row (Is Left-t.the-row) (shows 𝓤 H A Left-t.the-row) r-tick-left (w-tick-left ∷ []) (λ is-tick-left.
-        land ! (from ! (stop !)) (init ! 23 refl (LL.lawful Left-t.the-type Left-l.the-laws 𝓤 H A W .typed r-tick-left _ is-tick-left .0)) $ drop ! $
+        peeks ! Answer-t.the-row (Is Answer-t.the-row) (shows 𝓤 H A Answer-t.the-row) r-tick-left (w-tick-left ∷ []) (λ is-tick-left.
+        land ! (from ! (stop !)) (init ! 23 refl (LL.lawful Answer-t.the-type Answer-l.the-laws 𝓤 H A W .typed r-tick-left _ is-tick-left .0)) $ drop ! $
         -- return
         returns ! (look ! 22 refl) $
         forget ! 2 refl $ forget ! 4 refl $ forget ! 6 refl $ forget ! 8 refl $ forget ! 10 refl $ forget ! 12 refl $ forget ! 14 refl $ forget ! 16 refl $ forget ! 18 refl $ forget ! 20 refl $ forget ! 22 refl $
         move ! (22 ∷ 23 ∷ []) $ free1 ! $ move ! (20 ∷ 21 ∷ []) $ free1 ! $ move ! (18 ∷ 19 ∷ []) $ free1 ! $ move ! (16 ∷ 17 ∷ []) $ free1 ! $ move ! (14 ∷ 15 ∷ []) $ free1 ! $ move ! (12 ∷ 13 ∷ []) $ free1 ! $ move ! (10 ∷ 11 ∷ []) $ free1 ! $ move ! (8 ∷ 9 ∷ []) $ free1 ! $ move ! (6 ∷ 7 ∷ []) $ free1 ! $ move ! (4 ∷ 5 ∷ []) $ free1 ! $ move ! (2 ∷ 3 ∷ []) $ free1 ! $ free0 ! $
-        owned ! Left-t.the-row (Is Left-t.the-row) (LL.makes Left-t.the-type Left-l.the-plain 𝓤 H A) r-tick-left _ is-tick-left $ nothing ! $ move ! (2 ∷ 0 ∷ []) $ join ! $ keep ! (0 ∷ 2 ∷ 1 ∷ []) $
+        owned ! Answer-t.the-row (Is Answer-t.the-row) (LL.makes Answer-t.the-type Answer-l.the-plain 𝓤 H A) r-tick-left _ is-tick-left $ nothing ! $ move ! (2 ∷ 0 ∷ []) $ join ! $ keep ! (0 ∷ 2 ∷ 1 ∷ []) $
         by ! (exits r-tick-left w-tick-left (z-change-each .0) (lent-tick node ys-recs (z-change-each .0) r-standing r-tick-change r-tick-count r-tick-left e-standing e-tick-change e-tick-count e-change-each e-tick-left) len-change-each-recs))))))))))))))))))))))))))))))))))))))))
 
 module _ {M : Type 1} (𝓤 : URA M) (H : Heap 𝓤) (A : Atoms 𝓤) (W : Given 𝓤 H A) (mem : Memory → SProp 𝓤) (run : Routine → Fun 𝓤) where

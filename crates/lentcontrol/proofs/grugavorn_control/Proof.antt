@@ -3,9 +3,9 @@
 use Rattle.lentkit.proofs.Walks.{_≡_, refl, ℕ, [], _∷_, List, length, URA, named, w64, Val, vint, SProp, ent, emp, via, fst∗, id⊢, Lft, Share, GName, Fml, ftrue, fsep, flft, Memory, Routine, Heap, Calls, Loops, WpFn, Tables, Atoms, Fun, fact, givenOf, tables, tablesOf, Given, Item, ‵, raw, some, later, _⊛_, ⋆, _$_, _∵_, !, qed, by, move, keep, drop, use1, use2, split, join, pick, fsplit, fjoin, feqL, suffices, frame, await, done, look, init, forget, stop, hop, fld, from, load, addr, of-opd, and-then, no-more, assigns, land, returns, enter, alloc1, alloc0, params1, pass1, pass0, free1, free0, agg, whole, sub, look-in, FmC, fmOf, WpFn-mono, owns, Is, shows, uint-makes, u8, usize, RefT, now, sliceVal, MutSlice, ShrSlice, Room, finally, slice-vals, shr-slice-tells, shr-slice-copy, mut-slice-tells, owned, peeks, heard, nothing, Vals, onEntry, Meets, tripleOf, Contract, Triple, calls-at, ensured, lasts, entered, cited, says, Stays, stay-dropped, gave-slice, walkOf, goes-dropped, goes-gave-slice, Walks, ends-at, walked, walk-meets, yes, plain, shrSliceOf}
 use denote.Struct.Laws as LL
 use denote.Enum.Laws as EL
-use Rattle.lentcore.specs.declared.Left.{Left}
-use Rattle.lentcore.proofs.Left as Left-t
-use Rattle.lentcore.proofs.Left.Laws as Left-l
+use Rattle.timing.specs.declared.Answer.{Answer}
+use Rattle.timing.proofs.Answer as Answer-t
+use Rattle.timing.proofs.Answer.Laws as Answer-l
 use Rattle.table.specs.declared.Node.{Node}
 use Rattle.table.proofs.Node as Node-t
 use Rattle.table.proofs.Node.Laws as Node-l
@@ -16,8 +16,7 @@ use Rattle.wishes.proofs.Wish as Wish-t
 use Rattle.wishes.proofs.Wish.Laws as Wish-l
 use Rattle.control.specs.Control.{controlTaken}
 use Rattle.lentcontrol.specs.Lent.{control-lent, settledLent}
-use Rattle.lentcore.specs.Lent.{left}
-use Rattle.timing.specs.Timing.{held, outcome}
+use Rattle.timing.specs.Outcome.{outcome}
 use Rattle.wishes.specs.Wishes.{asksFor}
 use Rattle.wishes.proofs.asks as c-asks′
 use Rattle.wishes.proofs.asks.Symbol as c-asks-def
@@ -95,13 +94,13 @@ module _ {M : Type 1} (𝓤 : URA M) (H : Heap 𝓤) (A : Atoms 𝓤) (W : Given
   Toks = ‵ (flft κ₀ q₀) ⊛ ‵ (flft κ₁ q₁) ⊛ ‵ (flft κ₂ q₂) ⊛ ‵ ftrue
 
   -- what the contract says of the answer and of the last values
-  abbrev Said : Left → List Session → List ℕ → Type 0
-  Said r w-recs w-reply = outcome (left r w-recs) w-reply ≡ controlTaken node (held (recs .now)) (d .now) (reply .now)
+  abbrev Said : Answer → List Session → List ℕ → Type 0
+  Said r w-recs w-reply = outcome r w-recs w-reply ≡ controlTaken node (recs .now) (d .now) (reply .now)
 
-  exits : (r : Left) (w : Val) (w-recs : List Session) (w-reply : List ℕ) → Said r w-recs w-reply → length w-recs ≡ length (recs .now) → length w-reply ≡ length (reply .now)
-      → ent 𝓤 (⋆ 𝓤 H A (Toks ∷ ‵ (finally Session-t.the-row (recs .name) w-recs) ∷ ‵ (finally u8 (reply .name) w-reply) ∷ ‵ (Left-t.the-row .own r (w ∷ [])) ∷ [])) (Post w)
+  exits : (r : Answer) (w : Val) (w-recs : List Session) (w-reply : List ℕ) → Said r w-recs w-reply → length w-recs ≡ length (recs .now) → length w-reply ≡ length (reply .now)
+      → ent 𝓤 (⋆ 𝓤 H A (Toks ∷ ‵ (finally Session-t.the-row (recs .name) w-recs) ∷ ‵ (finally u8 (reply .name) w-reply) ∷ ‵ (Answer-t.the-row .own r (w ∷ [])) ∷ [])) (Post w)
   exits r w w-recs w-reply e l-recs l-reply =
-      qed W (Toks ∷ ‵ (finally Session-t.the-row (recs .name) w-recs) ∷ ‵ (finally u8 (reply .name) w-reply) ∷ ‵ (Left-t.the-row .own r (w ∷ [])) ∷ []) ∵
+      qed W (Toks ∷ ‵ (finally Session-t.the-row (recs .name) w-recs) ∷ ‵ (finally u8 (reply .name) w-reply) ∷ ‵ (Answer-t.the-row .own r (w ∷ [])) ∷ []) ∵
       suffices ! _ (ends-at 𝓤 H A entry′.ended stayed (entry′.clauses 𝓤 H A mem run) W bound w r (tt, (w-recs, (tt, (w-reply, tt)))) (tt, (l-recs, (tt, (l-reply, tt))))) $ says ! e $ frame ! $
       nothing ! $ move ! (2 ∷ 0 ∷ []) $ fjoin ! $ nothing ! $ fjoin ! $ move ! (1 ∷ 0 ∷ []) $ fjoin ! $ nothing ! $ fjoin ! $ done !
 
@@ -141,21 +140,21 @@ module _ {M : Type 1} (𝓤 : URA M) (H : Heap 𝓤) (A : Atoms 𝓤) (W : Given
         owned ! Node-t.the-row (Is Node-t.the-row) (LL.makes Node-t.the-type Node-l.the-plain 𝓤 H A) node _ is-node $ fjoin ! $ move ! (1 ∷ 0 ∷ []) $
         use2 W (raw (c-settled-lent 𝓤 H A mem run .pre (((κ₀, (κ₁, (κ₂, tt))), (q₀, (q₁, (q₂, tt))), tt, (node, (recs, (r-asks, (d, (reply, tt))))), (v-node ∷ [], (v-recs ∷ [], (w-asks ∷ [], (v-d ∷ [], (v-reply ∷ [], tt)))))), tt))) (qed W ((‵ (flft κ₀ q₀) ⊛ ‵ (flft κ₁ q₁) ⊛ ‵ (flft κ₂ q₂) ⊛ ‵ ftrue) ∷ ‵ (fsep (Node-t.the-row .own node (v-node ∷ [])) (fsep Own-recs (fsep (Wish-t.the-row .own r-asks (w-asks ∷ [])) (fsep Own-d (fsep Own-reply ftrue))))) ∷ []) ∵ join ! $ frame ! $ done !) $
         calls-at ! fm (c-settled-lent 𝓤 H A mem run) known-settled-lent (((κ₀, (κ₁, (κ₂, tt))), (q₀, (q₁, (q₂, tt))), tt, (node, (recs, (r-asks, (d, (reply, tt))))), (v-node ∷ [], (v-recs ∷ [], (w-asks ∷ [], (v-d ∷ [], (v-reply ∷ [], tt)))))), tt) (and-then ! (load ! (from ! (stop !)) (look ! 20 refl)) (and-then ! (load ! (from ! (stop !)) (look ! 6 refl)) (and-then ! (load ! (from ! (stop !)) (look ! 12 refl)) (and-then ! (load ! (from ! (stop !)) (look ! 16 refl)) (and-then ! (load ! (from ! (stop !)) (look ! 2 refl)) (no-more !)))))) (λ w-settled-lent.
-        use1 W (later (some (λ (r-settled-lent : Left). ((‵ (flft κ₀ q₀) ⊛ ‵ (flft κ₁ q₁) ⊛ ‵ (flft κ₂ q₂) ⊛ ‵ ftrue) ⊛ ‵ (Left-t.the-row .own r-settled-lent (w-settled-lent ∷ []))) ⊛ raw (ensured 𝓤 H A c-settled-lent′.ended (c-settled-lent′.clauses 𝓤 H A mem run) (κ₀, (κ₁, (κ₂, tt))) (node, (recs, (r-asks, (d, (reply, tt))))) tt r-settled-lent)))) (id⊢ 𝓤 _) $ await ! tt $
+        use1 W (later (some (λ (r-settled-lent : Answer). ((‵ (flft κ₀ q₀) ⊛ ‵ (flft κ₁ q₁) ⊛ ‵ (flft κ₂ q₂) ⊛ ‵ ftrue) ⊛ ‵ (Answer-t.the-row .own r-settled-lent (w-settled-lent ∷ []))) ⊛ raw (ensured 𝓤 H A c-settled-lent′.ended (c-settled-lent′.clauses 𝓤 H A mem run) (κ₀, (κ₁, (κ₂, tt))) (node, (recs, (r-asks, (d, (reply, tt))))) tt r-settled-lent)))) (id⊢ 𝓤 _) $ await ! tt $
         pick ! (λ r-settled-lent. split ! $ move ! (1 ∷ []) $
-        use1 W (some (λ (z-settled-lent : (Unit {0}) × ((List Session) × ((Unit {0}) × ((Unit {0}) × ((List ℕ) × Unit {0}))))). ‵ (lasts c-settled-lent′.ended (κ₀, (κ₁, (κ₂, tt))) (node, (recs, (r-asks, (d, (reply, tt))))) z-settled-lent) ⊛ raw (fact 𝓤 (outcome (left r-settled-lent (z-settled-lent .1 .0)) (z-settled-lent .1 .1 .1 .1 .0) ≡ settledLent node (ys-recs) r-asks (d .now) (ys-reply))))) (id⊢ 𝓤 _) $
-        pick ! (λ z-settled-lent. split ! $ move ! (1 ∷ []) $ heard ! (outcome (left r-settled-lent (z-settled-lent .1 .0)) (z-settled-lent .1 .1 .1 .1 .0) ≡ settledLent node (ys-recs) r-asks (d .now) (ys-reply)) (λ e-settled-lent.
-        fsplit ! $ drop ! $ fsplit ! $ fsplit ! $ move ! (1 ∷ []) $ feqL ! (λ len-settled-lent-recs. move ! (1 ∷ []) $ fsplit ! $ drop ! $ fsplit ! $ drop ! $ fsplit ! $ fsplit ! $ move ! (1 ∷ []) $ feqL ! (λ len-settled-lent-reply.
-        move ! (1 ∷ []) $ drop ! $ move ! (2 ∷ []) $ split ! $ split ! $ move ! (1 ∷ []) $ split ! $ move ! (1 ∷ []) $ split ! $ move ! (1 ∷ []) $ drop ! $ move ! (3 ∷ []) $
-        peeks ! Left-t.the-row (Is Left-t.the-row) (shows 𝓤 H A Left-t.the-row) r-settled-lent (w-settled-lent ∷ []) (λ is-settled-lent.
-        land ! (from ! (stop !)) (init ! 27 refl (LL.lawful Left-t.the-type Left-l.the-laws 𝓤 H A W .typed r-settled-lent _ is-settled-lent .0)) $ drop ! $
+        use1 W (some (λ (z-settled-lent : (Unit {0}) × ((List Session) × ((Unit {0}) × ((Unit {0}) × ((List ℕ) × Unit {0}))))). ‵ (lasts c-settled-lent′.ended (κ₀, (κ₁, (κ₂, tt))) (node, (recs, (r-asks, (d, (reply, tt))))) z-settled-lent) ⊛ raw (fact 𝓤 (outcome r-settled-lent (z-settled-lent .1 .0) (z-settled-lent .1 .1 .1 .1 .0) ≡ settledLent node (ys-recs) r-asks (d .now) (ys-reply))))) (id⊢ 𝓤 _) $
+        pick ! (λ z-settled-lent. split ! $ move ! (1 ∷ []) $ heard ! (outcome r-settled-lent (z-settled-lent .1 .0) (z-settled-lent .1 .1 .1 .1 .0) ≡ settledLent node (ys-recs) r-asks (d .now) (ys-reply)) (λ e-settled-lent. fsplit ! $
+        drop ! $ fsplit ! $ fsplit ! $ move ! (1 ∷ []) $ feqL ! (λ len-settled-lent-recs. move ! (1 ∷ []) $ fsplit ! $ drop ! $ fsplit ! $ drop ! $ fsplit ! $ fsplit ! $ move ! (1 ∷ []) $ feqL ! (λ len-settled-lent-reply. move ! (1 ∷ []) $
+        drop ! $ move ! (2 ∷ []) $ split ! $ split ! $ move ! (1 ∷ []) $ split ! $ move ! (1 ∷ []) $ split ! $ move ! (1 ∷ []) $ drop ! $ move ! (3 ∷ []) $
+        peeks ! Answer-t.the-row (Is Answer-t.the-row) (shows 𝓤 H A Answer-t.the-row) r-settled-lent (w-settled-lent ∷ []) (λ is-settled-lent.
+        land ! (from ! (stop !)) (init ! 27 refl (LL.lawful Answer-t.the-type Answer-l.the-laws 𝓤 H A W .typed r-settled-lent _ is-settled-lent .0)) $ drop ! $
         -- return
         returns ! (look ! 26 refl) $
         forget ! 6 refl $ forget ! 8 refl $ forget ! 10 refl $ forget ! 12 refl $ forget ! 14 refl $ forget ! 16 refl $ forget ! 18 refl $ forget ! 20 refl $ forget ! 22 refl $ forget ! 24 refl $ forget ! 26 refl $
         move ! (26 ∷ 27 ∷ []) $ free1 ! $ move ! (24 ∷ 25 ∷ []) $ free1 ! $ move ! (22 ∷ 23 ∷ []) $ free1 ! $ move ! (20 ∷ 21 ∷ []) $ free1 ! $ move ! (18 ∷ 19 ∷ []) $ free1 ! $ move ! (16 ∷ 17 ∷ []) $ free1 ! $ move ! (14 ∷ 15 ∷ []) $ free1 ! $ move ! (12 ∷ 13 ∷ []) $ free1 ! $ move ! (10 ∷ 11 ∷ []) $ free1 ! $ move ! (8 ∷ 9 ∷ []) $ free1 ! $ move ! (6 ∷ 7 ∷ []) $ free1 ! $ free0 ! $
-        owned ! Left-t.the-row (Is Left-t.the-row) (LL.makes Left-t.the-type Left-l.the-plain 𝓤 H A) r-settled-lent _ is-settled-lent $ nothing ! $ move ! (2 ∷ 0 ∷ []) $ join ! $ move ! (2 ∷ 0 ∷ []) $ join ! $ move ! (2 ∷ 0 ∷ []) $
+        owned ! Answer-t.the-row (Is Answer-t.the-row) (LL.makes Answer-t.the-type Answer-l.the-plain 𝓤 H A) r-settled-lent _ is-settled-lent $ nothing ! $ move ! (2 ∷ 0 ∷ []) $ join ! $ move ! (2 ∷ 0 ∷ []) $ join ! $ move ! (2 ∷ 0 ∷ []) $
         join ! $ keep ! (0 ∷ 3 ∷ 2 ∷ 1 ∷ []) $
-        by ! (exits r-settled-lent w-settled-lent (z-settled-lent .1 .0) (z-settled-lent .1 .1 .1 .1 .0) (control-lent node ys-recs (now d) ys-reply (outcome (left r-settled-lent (z-settled-lent .1 .0)) (z-settled-lent .1 .1 .1 .1 .0)) r-asks e-asks e-settled-lent) len-settled-lent-recs len-settled-lent-reply))))))))))))))))))))))))
+        by ! (exits r-settled-lent w-settled-lent (z-settled-lent .1 .0) (z-settled-lent .1 .1 .1 .1 .0) (control-lent node ys-recs (now d) ys-reply (outcome r-settled-lent (z-settled-lent .1 .0) (z-settled-lent .1 .1 .1 .1 .0)) r-asks e-asks e-settled-lent) len-settled-lent-recs len-settled-lent-reply))))))))))))))))))))))))
 
 module _ {M : Type 1} (𝓤 : URA M) (H : Heap 𝓤) (A : Atoms 𝓤) (W : Given 𝓤 H A) (mem : Memory → SProp 𝓤) (run : Routine → Fun 𝓤) where
   grugavorn-control-walks : (C : Calls 𝓤 H) (Λ : Loops 𝓤 H) → FmC 𝓤 H (W .laws) C → Triple 𝓤 (C #wishes·asks) (c-asks 𝓤 H A mem run) → Triple 𝓤 (C #lentcontrol·settled-lent) (c-settled-lent 𝓤 H A mem run)

@@ -4,9 +4,9 @@ use Rattle.lentkit.proofs.Walks.{_≡_, refl, ℕ, [], _∷_, List, length, URA
 use denote.Struct.Laws as LL
 use denote.Enum.Laws as EL
 use Rattle.lentkit.proofs.Loans.{Away, goes-out, comes-back}
-use Rattle.lentcore.specs.declared.Left.{Left}
-use Rattle.lentcore.proofs.Left as Left-t
-use Rattle.lentcore.proofs.Left.Laws as Left-l
+use Rattle.timing.specs.declared.Answer.{Answer}
+use Rattle.timing.proofs.Answer as Answer-t
+use Rattle.timing.proofs.Answer.Laws as Answer-l
 use Rattle.table.specs.declared.Node.{Node}
 use Rattle.table.proofs.Node as Node-t
 use Rattle.table.proofs.Node.Laws as Node-l
@@ -22,9 +22,8 @@ use Rattle.openings.specs.declared.Opened.{Opened}
 use Rattle.openings.proofs.Opened as Opened-t
 use Rattle.openings.proofs.Opened.Laws as Opened-l
 use Rattle.lentcontrol.specs.Lent.{leftOpened, pairLent, settled-lent, settledLent}
-use Rattle.lentcore.specs.Lent.{left}
 use Rattle.openings.specs.Openings.{made, pairPut, takenOn}
-use Rattle.timing.specs.Timing.{outcome}
+use Rattle.timing.specs.Outcome.{outcome}
 use Rattle.lentcontrol.proofs.pair_lent as c-pair-lent′
 use Rattle.lentcontrol.proofs.pair_lent.Symbol as c-pair-lent-def
 use Rattle.lentcontrol.proofs.pair_lent.Symbol.{name as #lentcontrol·pair-lent}
@@ -118,13 +117,13 @@ module _ {M : Type 1} (𝓤 : URA M) (H : Heap 𝓤) (A : Atoms 𝓤) (W : Given
   Toks = ‵ (flft κ₀ q₀) ⊛ ‵ (flft κ₁ q₁) ⊛ ‵ (flft κ₂ q₂) ⊛ ‵ ftrue
 
   -- what the contract says of the answer and of the last values
-  abbrev Said : Left → List Session → List ℕ → Type 0
-  Said r w-recs w-reply = outcome (left r w-recs) w-reply ≡ settledLent node (recs .now) w (d .now) (reply .now)
+  abbrev Said : Answer → List Session → List ℕ → Type 0
+  Said r w-recs w-reply = outcome r w-recs w-reply ≡ settledLent node (recs .now) w (d .now) (reply .now)
 
-  exits : (r : Left) (w : Val) (w-recs : List Session) (w-reply : List ℕ) → Said r w-recs w-reply → length w-recs ≡ length (recs .now) → length w-reply ≡ length (reply .now)
-      → ent 𝓤 (⋆ 𝓤 H A (Toks ∷ ‵ (finally Session-t.the-row (recs .name) w-recs) ∷ ‵ (finally u8 (reply .name) w-reply) ∷ ‵ (Left-t.the-row .own r (w ∷ [])) ∷ [])) (Post w)
+  exits : (r : Answer) (w : Val) (w-recs : List Session) (w-reply : List ℕ) → Said r w-recs w-reply → length w-recs ≡ length (recs .now) → length w-reply ≡ length (reply .now)
+      → ent 𝓤 (⋆ 𝓤 H A (Toks ∷ ‵ (finally Session-t.the-row (recs .name) w-recs) ∷ ‵ (finally u8 (reply .name) w-reply) ∷ ‵ (Answer-t.the-row .own r (w ∷ [])) ∷ [])) (Post w)
   exits r w w-recs w-reply e l-recs l-reply =
-      qed W (Toks ∷ ‵ (finally Session-t.the-row (recs .name) w-recs) ∷ ‵ (finally u8 (reply .name) w-reply) ∷ ‵ (Left-t.the-row .own r (w ∷ [])) ∷ []) ∵
+      qed W (Toks ∷ ‵ (finally Session-t.the-row (recs .name) w-recs) ∷ ‵ (finally u8 (reply .name) w-reply) ∷ ‵ (Answer-t.the-row .own r (w ∷ [])) ∷ []) ∵
       suffices ! _ (ends-at 𝓤 H A entry′.ended stayed (entry′.clauses 𝓤 H A mem run) W bound w r (tt, (w-recs, (tt, (tt, (w-reply, tt))))) (tt, (l-recs, (tt, (tt, (l-reply, tt)))))) $ says ! e $ frame ! $
       nothing ! $ move ! (2 ∷ 0 ∷ []) $ fjoin ! $ nothing ! $ fjoin ! $ nothing ! $ fjoin ! $ move ! (1 ∷ 0 ∷ []) $ fjoin ! $ nothing ! $ fjoin ! $ done !
 
@@ -193,18 +192,18 @@ module _ {M : Type 1} (𝓤 : URA M) (H : Heap 𝓤) (A : Atoms 𝓤) (W : Given
         owned ! Node-t.the-row (Is Node-t.the-row) (LL.makes Node-t.the-type Node-l.the-plain 𝓤 H A) node _ is-node $ fjoin ! $ move ! (1 ∷ 0 ∷ []) $
         use2 W (raw (c-left-opened 𝓤 H A mem run .pre ((tt, tt, tt, (node, (r-take, tt)), (v-node ∷ [], (w-take ∷ [], tt))), tt))) (qed W ((‵ ftrue) ∷ ‵ (fsep (Node-t.the-row .own node (v-node ∷ [])) (fsep (Opened-t.the-row .own r-take (w-take ∷ [])) ftrue)) ∷ []) ∵ join ! $ frame ! $ done !) $
         calls-at ! fm (c-left-opened 𝓤 H A mem run) known-left-opened ((tt, tt, tt, (node, (r-take, tt)), (v-node ∷ [], (w-take ∷ [], tt))), tt) (and-then ! (load ! (from ! (stop !)) (look ! 33 refl)) (and-then ! (load ! (from ! (stop !)) (look ! 21 refl)) (no-more !))) (λ w-left-opened.
-        use1 W (later (some (λ (r-left-opened : Left). ((‵ ftrue) ⊛ ‵ (Left-t.the-row .own r-left-opened (w-left-opened ∷ []))) ⊛ raw (ensured 𝓤 H A c-left-opened′.ended (c-left-opened′.clauses 𝓤 H A mem run) tt (node, (r-take, tt)) tt r-left-opened)))) (id⊢ 𝓤 _) $ await ! tt $
+        use1 W (later (some (λ (r-left-opened : Answer). ((‵ ftrue) ⊛ ‵ (Answer-t.the-row .own r-left-opened (w-left-opened ∷ []))) ⊛ raw (ensured 𝓤 H A c-left-opened′.ended (c-left-opened′.clauses 𝓤 H A mem run) tt (node, (r-take, tt)) tt r-left-opened)))) (id⊢ 𝓤 _) $ await ! tt $
         pick ! (λ r-left-opened. split ! $ move ! (1 ∷ []) $
         use1 W (some (λ (z-left-opened : (Unit {0}) × ((Unit {0}) × Unit {0})). ‵ (lasts c-left-opened′.ended tt (node, (r-take, tt)) z-left-opened) ⊛ raw (fact 𝓤 (r-left-opened ≡ leftOpened node r-take)))) (id⊢ 𝓤 _) $
         pick ! (λ z-left-opened. split ! $ move ! (1 ∷ []) $ heard ! (r-left-opened ≡ leftOpened node r-take) (λ e-left-opened. fsplit ! $ drop ! $ fsplit ! $ drop ! $ drop ! $ split ! $ drop ! $
-        peeks ! Left-t.the-row (Is Left-t.the-row) (shows 𝓤 H A Left-t.the-row) r-left-opened (w-left-opened ∷ []) (λ is-left-opened.
-        land ! (from ! (stop !)) (init ! 35 refl (LL.lawful Left-t.the-type Left-l.the-laws 𝓤 H A W .typed r-left-opened _ is-left-opened .0)) $ drop ! $
+        peeks ! Answer-t.the-row (Is Answer-t.the-row) (shows 𝓤 H A Answer-t.the-row) r-left-opened (w-left-opened ∷ []) (λ is-left-opened.
+        land ! (from ! (stop !)) (init ! 35 refl (LL.lawful Answer-t.the-type Answer-l.the-laws 𝓤 H A W .typed r-left-opened _ is-left-opened .0)) $ drop ! $
         -- return
         returns ! (look ! 34 refl) $
         forget ! 6 refl $ forget ! 8 refl $ forget ! 10 refl $ forget ! 12 refl $ forget ! 14 refl $ forget ! 16 refl $ forget ! 18 refl $ forget ! 20 refl $ forget ! 22 refl $ forget ! 24 refl $ forget ! 26 refl $ forget ! 28 refl $ forget ! 30 refl $ forget ! 32 refl $ forget ! 34 refl $
         move ! (34 ∷ 35 ∷ []) $ free1 ! $ move ! (32 ∷ 33 ∷ []) $ free1 ! $ move ! (30 ∷ 31 ∷ []) $ free1 ! $ move ! (28 ∷ 29 ∷ []) $ free1 ! $ move ! (26 ∷ 27 ∷ []) $ free1 ! $ move ! (24 ∷ 25 ∷ []) $ free1 ! $ move ! (22 ∷ 23 ∷ []) $ free1 ! $ move ! (20 ∷ 21 ∷ []) $ free1 ! $ move ! (18 ∷ 19 ∷ []) $ free1 ! $ move ! (16 ∷ 17 ∷ []) $ free1 ! $ move ! (14 ∷ 15 ∷ []) $ free1 ! $ move ! (12 ∷ 13 ∷ []) $ free1 ! $ move ! (10 ∷ 11 ∷ []) $ free1 ! $ move ! (8 ∷ 9 ∷ []) $ free1 ! $ move ! (6 ∷ 7 ∷ []) $ free1 ! $ free0 ! $
-        owned ! Left-t.the-row (Is Left-t.the-row) (LL.makes Left-t.the-type Left-l.the-plain 𝓤 H A) r-left-opened _ is-left-opened $ nothing ! $ move ! (4 ∷ 0 ∷ []) $ join ! $ move ! (4 ∷ 0 ∷ []) $ join ! $ move ! (2 ∷ 0 ∷ []) $ join ! $
-        keep ! (0 ∷ 2 ∷ 3 ∷ 1 ∷ []) $
+        owned ! Answer-t.the-row (Is Answer-t.the-row) (LL.makes Answer-t.the-type Answer-l.the-plain 𝓤 H A) r-left-opened _ is-left-opened $ nothing ! $ move ! (4 ∷ 0 ∷ []) $ join ! $ move ! (4 ∷ 0 ∷ []) $ join ! $ move ! (2 ∷ 0 ∷ []) $
+        join ! $ keep ! (0 ∷ 2 ∷ 3 ∷ 1 ∷ []) $
         by ! (exits r-left-opened w-left-opened (z-put-pair .0) (z-take .1 .1 .1 .1 .0) (settled-lent node ys-recs (z-put-pair .0) w (now d) ys-reply (z-take .1 .1 .1 .1 .0) r-pair-lent r-take r-left-opened e-pair-lent e-take e-put-pair e-left-opened) len-put-pair-recs len-take-reply))))))))))))))))))))))))))))))))))))))))
 
 module _ {M : Type 1} (𝓤 : URA M) (H : Heap 𝓤) (A : Atoms 𝓤) (W : Given 𝓤 H A) (mem : Memory → SProp 𝓤) (run : Routine → Fun 𝓤) where

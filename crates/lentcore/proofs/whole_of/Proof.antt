@@ -1,11 +1,10 @@
 use mathlib.Core.Path.{refl}
-use Rattle.timing.specs.Timing.{held}
-use Rattle.lentcore.specs.Lent.{left}
+use Rattle.lentcore.specs.Lent.{wholeOf}
 use Rattle.lentcore.proofs.whole_of.Statement.{statement}
 use Rattle.lentcore.proofs.whole_of.Tie as tie
 
 returns : tie.Need-returns
-unfolding left held
+unfolding wholeOf
 returns c = refl
 
 pub whole-of-spec : {M : Type 1} → statement M

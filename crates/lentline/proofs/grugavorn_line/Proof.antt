@@ -1,22 +1,22 @@
 -- `lentline::grugavorn_line` meets its contract: a walk of its MIR, by hand. The rules are checked, one record is read, and the line is written from it.
 -- Written by walks.py from walk.txt and the MIR, each statement of which stands over its lines. Assumes nothing.
-use Rattle.lentkit.proofs.Walks.{_≡_, refl, ℕ, Bool, [], _∷_, List, length, getD, URA, named, w64, Val, vint, SProp, ent, emp, via, fst∗, id⊢, Lft, Share, GName, Fml, ftrue, fsep, flft, Memory, Routine, Heap, Calls, Loops, WpFn, Tables, Atoms, Fun, fact, givenOf, tables, tablesOf, Given, Item, ‵, raw, some, later, _⊛_, ⋆, _$_, _∵_, !, qed, by, move, keep, drop, use1, use2, split, join, pick, fsplit, fjoin, feqL, suffices, frame, await, done, look, init, forget, stop, hop, fld, from, load, addr, and-then, no-more, assigns, land, returns, enter, alloc1, alloc0, params1, pass1, pass0, free1, free0, agg, whole, sub, look-in, FmC, fmOf, WpFn-mono, owns, Is, shows, uint-lawful, uint-makes, uint-vals, uint-tells, bool-lawful, bool-makes, u8, usize, bool, RefT, now, sliceVal, MutSlice, ShrSlice, Room, finally, slice-vals, shr-slice-tells, shr-slice-copy, mut-slice-tells, owned, peeks, heard, nothing, Vals, onEntry, Meets, tripleOf, Contract, Triple, calls-at, ensured, lasts, entered, cited, says, Stays, stay-dropped, gave-slice, walkOf, goes-dropped, goes-gave-slice, Walks, ends-at, walked, walk-meets, yes, plain, shrSliceOf}
+use Rattle.lentkit.proofs.Walks.{_≡_, refl, ℕ, Bool, ltb, [], _∷_, List, length, getD, URA, named, w64, Val, vint, SProp, ent, emp, via, fst∗, id⊢, Lft, Share, GName, Fml, ftrue, fsep, flft, Memory, Routine, Heap, Calls, Loops, WpFn, Tables, Atoms, Fun, fact, givenOf, tables, tablesOf, Given, Item, ‵, raw, some, later, _⊛_, ⋆, _$_, _∵_, !, qed, by, move, keep, drop, use1, use2, split, join, pick, fsplit, fjoin, feqL, suffices, frame, await, done, look, init, forget, stop, hop, fld, from, load, addr, and-then, no-more, assigns, land, returns, enter, alloc1, alloc0, params1, pass1, pass0, free1, free0, agg, whole, sub, look-in, FmC, fmOf, WpFn-mono, owns, Is, shows, uint-lawful, uint-makes, uint-vals, uint-tells, bool-lawful, bool-makes, u8, usize, bool, RefT, now, sliceVal, MutSlice, ShrSlice, Room, finally, slice-vals, shr-slice-tells, shr-slice-copy, mut-slice-tells, owned, peeks, heard, nothing, Vals, onEntry, Meets, tripleOf, Contract, Triple, calls-at, ensured, lasts, entered, cited, says, Stays, stay-dropped, gave-slice, walkOf, goes-dropped, goes-gave-slice, Walks, ends-at, walked, walk-meets, yes, plain, shrSliceOf}
 use denote.Struct.Laws as LL
-use Rattle.lentcore.specs.declared.Left.{Left}
-use Rattle.lentcore.proofs.Left as Left-t
-use Rattle.lentcore.proofs.Left.Laws as Left-l
+use Rattle.timing.specs.declared.Answer.{Answer}
+use Rattle.timing.proofs.Answer as Answer-t
+use Rattle.timing.proofs.Answer.Laws as Answer-l
 use Rattle.table.specs.declared.Node.{Node}
 use Rattle.table.proofs.Node as Node-t
 use Rattle.table.proofs.Node.Laws as Node-l
 use Rattle.session.specs.declared.Session.{Session}
 use Rattle.session.proofs.Session as Session-t
 use Rattle.session.proofs.Session.Laws as Session-l
-use Rattle.lentcore.specs.Lent.{left}
-use Rattle.lentline.specs.Lent.{line-lent, lineBy, lined}
-use Rattle.placeline.specs.Line.{lineOf}
+use Rattle.lentline.specs.Lent.{line-lent}
+use Rattle.placeline.specs.Line.{lineBy, lineOf}
 use Rattle.session.specs.Session.{blankAt}
 use Rattle.table.specs.Rules.{keepsRules}
-use Rattle.timing.specs.Timing.{held, outcome}
+use Rattle.timing.specs.Outcome.{back, outcome}
+use Rattle.tunnel.specs.Numbering.{places}
 use Rattle.lentrules.proofs.kept as c-kept′
 use Rattle.lentrules.proofs.kept.Symbol as c-kept-def
 use Rattle.lentrules.proofs.kept.Symbol.{name as #lentrules·kept}
@@ -91,13 +91,13 @@ module _ {M : Type 1} (𝓤 : URA M) (H : Heap 𝓤) (A : Atoms 𝓤) (W : Given
   Toks = ‵ (flft κ₀ q₀) ⊛ ‵ (flft κ₁ q₁) ⊛ ‵ ftrue
 
   -- what the contract says of the answer and of the last values
-  abbrev Said : Left → List ℕ → Type 0
-  Said r w-reply = outcome (left r (recs .now)) w-reply ≡ lineOf node (held (recs .now)) place (reply .now)
+  abbrev Said : Answer → List ℕ → Type 0
+  Said r w-reply = outcome r (recs .now) w-reply ≡ lineOf node (recs .now) place (reply .now)
 
-  exits : (r : Left) (w : Val) (w-reply : List ℕ) → Said r w-reply → length w-reply ≡ length (reply .now)
-      → ent 𝓤 (⋆ 𝓤 H A (Toks ∷ ‵ (finally u8 (reply .name) w-reply) ∷ ‵ (Left-t.the-row .own r (w ∷ [])) ∷ [])) (Post w)
+  exits : (r : Answer) (w : Val) (w-reply : List ℕ) → Said r w-reply → length w-reply ≡ length (reply .now)
+      → ent 𝓤 (⋆ 𝓤 H A (Toks ∷ ‵ (finally u8 (reply .name) w-reply) ∷ ‵ (Answer-t.the-row .own r (w ∷ [])) ∷ [])) (Post w)
   exits r w w-reply e l-reply =
-      qed W (Toks ∷ ‵ (finally u8 (reply .name) w-reply) ∷ ‵ (Left-t.the-row .own r (w ∷ [])) ∷ []) ∵
+      qed W (Toks ∷ ‵ (finally u8 (reply .name) w-reply) ∷ ‵ (Answer-t.the-row .own r (w ∷ [])) ∷ []) ∵
       suffices ! _ (ends-at 𝓤 H A entry′.ended stayed (entry′.clauses 𝓤 H A mem run) W bound w r (tt, (tt, (tt, (w-reply, tt)))) (tt, (tt, (tt, (l-reply, tt))))) $ says ! e $ frame ! $
       nothing ! $ move ! (1 ∷ 0 ∷ []) $ fjoin ! $ nothing ! $ fjoin ! $ nothing ! $ fjoin ! $ nothing ! $ fjoin ! $ done !
 
@@ -140,17 +140,17 @@ module _ {M : Type 1} (𝓤 : URA M) (H : Heap 𝓤) (A : Atoms 𝓤) (W : Given
         owned ! bool (Is bool) (bool-makes 𝓤 H A W) r-kept _ is-kept $ fjoin ! $ move ! (1 ∷ 0 ∷ []) $
         use2 W (raw (c-line-by 𝓤 H A mem run .pre (((κ₁, tt), (q₁, tt), tt, (r-kept, (node, (place, (r-read, (reply, tt))))), (w-kept ∷ [], (v-node ∷ [], (v-place ∷ [], (w-read ∷ [], (v-reply ∷ [], tt)))))), tt))) (qed W ((‵ (flft κ₁ q₁) ⊛ ‵ ftrue) ∷ ‵ (fsep (bool .own r-kept (w-kept ∷ [])) (fsep (Node-t.the-row .own node (v-node ∷ [])) (fsep (usize .own place (v-place ∷ [])) (fsep (Session-t.the-row .own r-read (w-read ∷ [])) (fsep Own-reply ftrue))))) ∷ []) ∵ join ! $ frame ! $ done !) $
         calls-at ! fm (c-line-by 𝓤 H A mem run) known-line-by (((κ₁, tt), (q₁, tt), tt, (r-kept, (node, (place, (r-read, (reply, tt))))), (w-kept ∷ [], (v-node ∷ [], (v-place ∷ [], (w-read ∷ [], (v-reply ∷ [], tt)))))), tt) (and-then ! (load ! (from ! (stop !)) (look ! 9 refl)) (and-then ! (load ! (from ! (stop !)) (look ! 17 refl)) (and-then ! (load ! (from ! (stop !)) (look ! 13 refl)) (and-then ! (load ! (from ! (stop !)) (look ! 7 refl)) (and-then ! (load ! (from ! (stop !)) (look ! 3 refl)) (no-more !)))))) (λ w-line-by.
-        use1 W (later (some (λ (r-line-by : Left). ((‵ (flft κ₁ q₁) ⊛ ‵ ftrue) ⊛ ‵ (Left-t.the-row .own r-line-by (w-line-by ∷ []))) ⊛ raw (ensured 𝓤 H A c-line-by′.ended (c-line-by′.clauses 𝓤 H A mem run) (κ₁, tt) (r-kept, (node, (place, (r-read, (reply, tt))))) tt r-line-by)))) (id⊢ 𝓤 _) $ await ! tt $
+        use1 W (later (some (λ (r-line-by : Answer). ((‵ (flft κ₁ q₁) ⊛ ‵ ftrue) ⊛ ‵ (Answer-t.the-row .own r-line-by (w-line-by ∷ []))) ⊛ raw (ensured 𝓤 H A c-line-by′.ended (c-line-by′.clauses 𝓤 H A mem run) (κ₁, tt) (r-kept, (node, (place, (r-read, (reply, tt))))) tt r-line-by)))) (id⊢ 𝓤 _) $ await ! tt $
         pick ! (λ r-line-by. split ! $ move ! (1 ∷ []) $
-        use1 W (some (λ (z-line-by : (Unit {0}) × ((Unit {0}) × ((Unit {0}) × ((Unit {0}) × ((List ℕ) × Unit {0}))))). ‵ (lasts c-line-by′.ended (κ₁, tt) (r-kept, (node, (place, (r-read, (reply, tt))))) z-line-by) ⊛ raw (fact 𝓤 (lined r-line-by (z-line-by .1 .1 .1 .1 .0) ≡ lineBy r-kept node place r-read (ys-reply))))) (id⊢ 𝓤 _) $
-        pick ! (λ z-line-by. split ! $ move ! (1 ∷ []) $ heard ! (lined r-line-by (z-line-by .1 .1 .1 .1 .0) ≡ lineBy r-kept node place r-read (ys-reply)) (λ e-line-by. fsplit ! $ drop ! $ fsplit ! $ drop ! $ fsplit ! $ drop ! $ fsplit ! $
-        drop ! $ fsplit ! $ fsplit ! $ move ! (1 ∷ []) $ feqL ! (λ len-line-by-reply. move ! (1 ∷ []) $ drop ! $ move ! (1 ∷ []) $ split ! $ split ! $ move ! (1 ∷ []) $ drop ! $ move ! (1 ∷ []) $
-        peeks ! Left-t.the-row (Is Left-t.the-row) (shows 𝓤 H A Left-t.the-row) r-line-by (w-line-by ∷ []) (λ is-line-by.
-        land ! (from ! (stop !)) (init ! 21 refl (LL.lawful Left-t.the-type Left-l.the-laws 𝓤 H A W .typed r-line-by _ is-line-by .0)) $ drop ! $
+        use1 W (some (λ (z-line-by : (Unit {0}) × ((Unit {0}) × ((Unit {0}) × ((Unit {0}) × ((List ℕ) × Unit {0}))))). ‵ (lasts c-line-by′.ended (κ₁, tt) (r-kept, (node, (place, (r-read, (reply, tt))))) z-line-by) ⊛ raw (fact 𝓤 (back r-line-by (z-line-by .1 .1 .1 .1 .0) ≡ lineBy r-kept (ltb place places) node place r-read (ys-reply))))) (id⊢ 𝓤 _) $
+        pick ! (λ z-line-by. split ! $ move ! (1 ∷ []) $ heard ! (back r-line-by (z-line-by .1 .1 .1 .1 .0) ≡ lineBy r-kept (ltb place places) node place r-read (ys-reply)) (λ e-line-by. fsplit ! $ drop ! $ fsplit ! $ drop ! $ fsplit ! $
+        drop ! $ fsplit ! $ drop ! $ fsplit ! $ fsplit ! $ move ! (1 ∷ []) $ feqL ! (λ len-line-by-reply. move ! (1 ∷ []) $ drop ! $ move ! (1 ∷ []) $ split ! $ split ! $ move ! (1 ∷ []) $ drop ! $ move ! (1 ∷ []) $
+        peeks ! Answer-t.the-row (Is Answer-t.the-row) (shows 𝓤 H A Answer-t.the-row) r-line-by (w-line-by ∷ []) (λ is-line-by.
+        land ! (from ! (stop !)) (init ! 21 refl (LL.lawful Answer-t.the-type Answer-l.the-laws 𝓤 H A W .typed r-line-by _ is-line-by .0)) $ drop ! $
         -- return
         returns ! (look ! 20 refl) $ forget ! 4 refl $ forget ! 6 refl $ forget ! 8 refl $ forget ! 10 refl $ forget ! 12 refl $ forget ! 14 refl $ forget ! 16 refl $ forget ! 18 refl $ forget ! 20 refl $
         move ! (20 ∷ 21 ∷ []) $ free1 ! $ move ! (18 ∷ 19 ∷ []) $ free1 ! $ move ! (16 ∷ 17 ∷ []) $ free1 ! $ move ! (14 ∷ 15 ∷ []) $ free1 ! $ move ! (12 ∷ 13 ∷ []) $ free1 ! $ move ! (10 ∷ 11 ∷ []) $ free1 ! $ move ! (8 ∷ 9 ∷ []) $ free1 ! $ move ! (6 ∷ 7 ∷ []) $ free1 ! $ move ! (4 ∷ 5 ∷ []) $ free1 ! $ free0 ! $
-        owned ! Left-t.the-row (Is Left-t.the-row) (LL.makes Left-t.the-type Left-l.the-plain 𝓤 H A) r-line-by _ is-line-by $ nothing ! $ move ! (2 ∷ 0 ∷ []) $ join ! $ move ! (3 ∷ 0 ∷ []) $ join ! $ keep ! (0 ∷ 2 ∷ 1 ∷ []) $
+        owned ! Answer-t.the-row (Is Answer-t.the-row) (LL.makes Answer-t.the-type Answer-l.the-plain 𝓤 H A) r-line-by _ is-line-by $ nothing ! $ move ! (2 ∷ 0 ∷ []) $ join ! $ move ! (3 ∷ 0 ∷ []) $ join ! $ keep ! (0 ∷ 2 ∷ 1 ∷ []) $
         by ! (exits r-line-by w-line-by (z-line-by .1 .1 .1 .1 .0) (line-lent node (now recs) place ys-reply (z-line-by .1 .1 .1 .1 .0) r-kept r-read r-line-by e-kept e-read e-line-by) len-line-by-reply))))))))))))))))))))))))))
 
 module _ {M : Type 1} (𝓤 : URA M) (H : Heap 𝓤) (A : Atoms 𝓤) (W : Given 𝓤 H A) (mem : Memory → SProp 𝓤) (run : Routine → Fun 𝓤) where

@@ -2,14 +2,14 @@ use mathlib.Core.Bool.{true, false}
 use mathlib.Core.Path.{_≡_, refl, sym, _∙_}
 use borrow.Author.Tests.{lt-ltb, le-ltb, not-true, not-false}
 use Rattle.tunnel.specs.Numbering.{places}
-use Rattle.timing.specs.Timing.{leastReply}
-use Rattle.lentline.specs.Lent.{lineBy, bare}
+use Rattle.timing.specs.Outcome.{leastReply}
+use Rattle.placeline.specs.Line.{lineBy}
 use borrow.Author.Needs.{needs}
 use Rattle.lentline.proofs.line_by.Statement.{statement}
 use Rattle.lentline.proofs.line_by.Tie as tie
 use Rattle.lentline.proofs.line_by.Reads as reads
 use Rattle.lentline.proofs.line_by.Lts as lts
-use Rattle.lentline.proofs.bare.Reads as bare-reads
+use Rattle.timing.proofs.Answer.bare.Reads as bare-reads
 use Rattle.placeline.proofs.put_line.Reads as put-line-reads
 
 -- src/lib.rt:25:9
@@ -45,10 +45,6 @@ returns-3 c = let k : c .before .before .before .before .before .args .kept ≡ 
 put-line-requires : tie.Need-put-line-requires
 put-line-requires c κs = search needs
 
--- src/lib.rt:34:5
-bare-requires-4 : tie.Need-bare-requires-4
-bare-requires-4 c κs = search needs
-
 -- src/lib.rt:21:1
 same-length : tie.Need-same-length
 same-length c = search needs
@@ -56,8 +52,8 @@ same-length c = search needs
 -- src/lib.rt:21:1
 returns-4 : tie.Need-returns-4
 unfolding lineBy leastReply places
-returns-4 c = let k : c .before .before .before .before .before .before .before .before .before .args .kept ≡ true = not-false _ (c .before .before .before .before .before .before .if2 .left) in
-    rw (le-ltb _ _ (c .before .before .before .before .before .before .before .if1 .left), k, lt-ltb _ _ (c .before .before .before .before .before .if3 .left), c .bare4 .ensures, ← c .before .before .before .put-line .ensures)
+returns-4 c = let k : c .before .before .before .before .before .before .before .before .args .kept ≡ true = not-false _ (c .before .before .before .before .before .if2 .left) in
+    rw (le-ltb _ _ (c .before .before .before .before .before .before .if1 .left), k, lt-ltb _ _ (c .before .before .before .before .if3 .left), ← c .before .before .put-line .ensures)
 
 pub line-by-spec : {M : Type 1} → statement M
 line-by-spec =
@@ -70,6 +66,5 @@ line-by-spec =
     bare-requires-3
     returns-3
     put-line-requires
-    bare-requires-4
     same-length
     returns-4)

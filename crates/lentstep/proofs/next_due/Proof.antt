@@ -1,5 +1,5 @@
 use Rattle.lentstep.specs.Send.{nextDue}
-use Rattle.timing.specs.Timing.{leastReply}
+use Rattle.timing.specs.Outcome.{leastReply}
 use Rattle.tunnel.specs.Numbering.{places}
 use borrow.Author.Tests.{eq-eqb, ne-eqb, lt-ltb, le-ltb}
 use borrow.Author.Needs.{needs}

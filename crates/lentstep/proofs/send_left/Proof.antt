@@ -6,8 +6,8 @@ use Rattle.lentstep.proofs.send_left.Tie as tie
 enum-known-p : tie.Need-enum-known-p
 enum-known-p c = search needs
 
-refusal-requires : tie.Need-refusal-requires
-refusal-requires c κs = search needs
+bare-requires : tie.Need-bare-requires
+bare-requires c κs = search needs
 
 enum-known-p-2 : tie.Need-enum-known-p-2
 enum-known-p-2 c = search needs
@@ -23,7 +23,7 @@ place-left-requires c κs = search needs
 
 returns : tie.Need-returns
 unfolding sendLeft
-returns c = rw (c .refusal .ensures, c .before .before .p .given .1)
+returns c = rw (c .bare .ensures, c .before .before .p .given .1)
 
 same-length : tie.Need-same-length
 same-length c = search needs
@@ -44,7 +44,7 @@ send-left-spec =
     tie.close
     (tie.spec
     enum-known-p
-    refusal-requires
+    bare-requires
     enum-known-p-2
     echo-left-requires
     enum-known-p-3

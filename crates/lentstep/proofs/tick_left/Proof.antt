@@ -6,31 +6,31 @@ use Rattle.lentstep.proofs.tick_left.Statement.{statement}
 use Rattle.lentstep.proofs.tick_left.Tie as tie
 use Rattle.lentstep.proofs.tick_left.Reads as reads
 use Rattle.lentstep.proofs.tick_left.Lts as lts
-use Rattle.lentstep.proofs.refusal.Reads as refusal-reads
+use Rattle.timing.proofs.Answer.bare.Reads as bare-reads
 use Rattle.table.proofs.Node.echo_ticked.Reads as echo-ticked-reads
 
 -- src/lib.rt:66:9
-refusal-requires : tie.Need-refusal-requires
-refusal-requires c κs = search needs
+bare-requires : tie.Need-bare-requires
+bare-requires c κs = search needs
 
 -- src/lib.rt:66:9
 returns : tie.Need-returns
 unfolding tickLeft
-returns c = rw (eq-eqb _ _ (c .before .if1 .taken), c .refusal .ensures)
+returns c = rw (eq-eqb _ _ (c .before .if1 .taken), c .bare .ensures)
 
 -- src/lib.rt:68:9
 echo-ticked-requires : tie.Need-echo-ticked-requires
 echo-ticked-requires c κs = search needs
 
 -- src/lib.rt:70:5
-refusal-requires-2 : tie.Need-refusal-requires-2
-refusal-requires-2 c κs = search needs
+bare-requires-2 : tie.Need-bare-requires-2
+bare-requires-2 c κs = search needs
 
 -- src/lib.rt:62:1
 returns-2 : tie.Need-returns-2
 unfolding tickLeft timed
-returns-2 c = rw (ne-eqb _ _ (c .before .before .if1 .left), c .refusal2 .ensures, c .before .echo-ticked .ensures)
+returns-2 c = rw (ne-eqb _ _ (c .before .before .if1 .left), c .bare2 .ensures, c .before .echo-ticked .ensures)
 
 pub tick-left-spec : {M : Type 1} → statement M
 tick-left-spec =
-    tie.close (tie.spec refusal-requires returns echo-ticked-requires refusal-requires-2 returns-2)
+    tie.close (tie.spec bare-requires returns echo-ticked-requires bare-requires-2 returns-2)
