@@ -80,7 +80,7 @@ oneMore b guarantee ceiling octets out =
 unfoldable pub planTaken : Bench → List ℕ → Ran
 planTaken b out =
     pick (eqb (freshOf (b .node .plan) (b .table .recs) .answer .number) 0)
-    (ran (keptIn (freshOf (b .node .plan) (b .table .recs)) runs (b .made) b) out)
+    (ran (keptIn (freshOf (b .node .plan) (b .table .recs) .answer .node) (freshOf (b .node .plan) (b .table .recs) .table) runs (b .made) b) out)
     (answered over (freshOf (b .node .plan) (b .table .recs)) b out)
 
 -- the first line has to be N

@@ -9,6 +9,9 @@ use Rattle.octets.specs.Choice.{pick}
 use Rattle.numerals.specs.Laid.{laid, written, Written, laid-length}
 use Rattle.tunnel.specs.Numbering.{places}
 use Rattle.plan.specs.Limits.{noPlan}
+use Rattle.session.specs.declared.Session.{Session}
+use Rattle.table.specs.declared.Node.{Node}
+use Rattle.table.specs.declared.Table.{Table}
 use Rattle.table.specs.Change.{nobody}
 use Rattle.table.specs.Own.{freshNode}
 use Rattle.timing.specs.Outcome.{Outcome}
@@ -53,8 +56,8 @@ withLine b = record { phase = b .phase; lines = counted (b .lines); made = b .ma
 unfoldable pub withMade : ℕ → Bench → Bench
 withMade made b = record { phase = b .phase; lines = b .lines; made = made; node = b .node; table = b .table }
 
-unfoldable pub keptIn : Outcome → ℕ → ℕ → Bench → Bench
-keptIn x phase made b = record { phase = phase; lines = b .lines; made = made; node = x .answer .node; table = record { recs = x .table } }
+unfoldable pub keptIn : Node → List Session → ℕ → ℕ → Bench → Bench
+keptIn node t phase made b = record { phase = phase; lines = b .lines; made = made; node = node; table = record { recs = t } }
 
 -- ---- printing
 -- text behind what was printed before, and the run that is the outcome, by the place behind the text
@@ -71,7 +74,11 @@ endBad b out = printed (badText (b .lines)) (badAt b) (b .made) out
 -- number and reply
 unfoldable pub answered : ℕ → Outcome → Bench → List ℕ → Ran
 answered phase x b out =
-    printed (answerText (x .answer .number) (take (x .answer .size) (x .reply))) (λ made. keptIn x phase made b) (b .made) out
+    printed (answerText (x .answer .number) (take (x .answer .size) (x .reply))) (λ made. keptIn (x .answer .node) (x .table) phase made b) (b .made) out
+
+-- a table by value is its records
+pub table-is : (t : Table) (l : List Session) → t .recs ≡ l → t ≡ record { recs = l }
+table-is t l e = rw (← e)
 
 -- ---- laws of the printing
 pub printed-by : (text : List ℕ) (next : ℕ → Bench) (made r : ℕ) (out o : List ℕ) → written r o ≡ laid made text out → ran (next r) o ≡ printed text next made out

@@ -6,7 +6,6 @@ use plan::AccessPoint;
 use plan::Plan;
 use table::Node;
 use table::Table;
-ghost use mathlib.Core.List.{[]};
 ghost use mathlib.Core.Path.{_≡_};
 ghost use lib.ListN.{take};
 ghost use Rattle.lentcore.specs.Lent.{outcomeOf};
@@ -151,7 +150,7 @@ pub fn one_more(mut b: Bench, guarantee: u8, ceiling: u8, octets: &[u8], out: &m
 
 // What a call answered is kept, and so much is printed.
 pub fn kept_in(mut b: Bench, a: Whole, phase: u8, made: usize) -> Bench
-    ensures { λ r. ⌜ r ≡ keptIn (outcomeOf a []) phase made b ⌝ }
+    ensures { λ r. ⌜ r ≡ keptIn (a .node) (a .table .recs) phase made b ⌝ }
 {
     let node = a.node;
     let table = a.table;

@@ -27,7 +27,7 @@ isDue b = eqb (sendTry b .answer .number) 0
 unfoldable pub sentOne : Bench → List ℕ → Ran
 sentOne b out =
     pick (isDue b)
-    (printed (dueText (take (sendTry b .answer .size) (sendTry b .reply))) (λ made. keptIn (sendTry b) (b .phase) made b) (b .made) out)
+    (printed (dueText (take (sendTry b .answer .size) (sendTry b .reply))) (λ made. keptIn (sendTry b .answer .node) (sendTry b .table) (b .phase) made b) (b .made) out)
     (ran b out)
 
 unfoldable pub dueSent : ℕ → Ran → Ran

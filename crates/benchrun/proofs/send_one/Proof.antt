@@ -34,7 +34,7 @@ same-length c = search needs
 returns-2 : tie.Need-returns-2
 unfolding isDue sentOne sendTry lentReply
 returns-2 c = let a = c .before .before .before .before .before .before .before .before .before .before .before .before .before .args in
-    rw (← c .before .before .before .before .before .before .before .before .before .before .send .ensures, eq-eqb _ _ (c .before .before .before .before .before .before .before .if1 .left), c .kept-in .ensures, ← c .before .before .before .before .before .front .ensures) (refl, printed-by _ (λ made. keptIn _ _ made (a .b)) _ _ _ _ (c .before .before .before .put-due .ensures))
+    rw (← c .before .before .before .before .before .before .before .before .before .before .send .ensures, eq-eqb _ _ (c .before .before .before .before .before .before .before .if1 .left), c .kept-in .ensures, ← c .before .before .before .before .before .front .ensures) (refl, printed-by _ (λ made. keptIn _ _ _ made (a .b)) _ _ _ _ (c .before .before .before .put-due .ensures))
 
 pub send-one-spec : {M : Type 1} → statement M
 send-one-spec =
