@@ -216,7 +216,7 @@ module _ (node : Node) (l : List Session) (d reply : List ℕ) (g : Sight) where
         (sym (placed-by node (pairFor w) l (wishTaken node w (pairFor w) d reply) (pick (g .all) (map freed l) l)
         (put-heard w (length (echoOf 2 seq (node .plan .recovery))) false r (rules-of node l k .size) refl (sees .cleared))))
 
-    ended-same : (r : Recovery) → Sees node l (W.Ended r) g 
+    ended-same : (r : Recovery) → Sees node l (W.Ended r) g
         → noReply 0 (echoEnded (heardBy r node l) .node) (echoEnded (heardBy r node l) .table) reply ≡ comesTo (W.Ended r)
     unfolding noReply echoEnded wishTaken unmovedOn nodeAfter restedNode restartsIn newPlace pairIn pairBy
     ended-same r sees =
