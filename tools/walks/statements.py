@@ -1,0 +1,105 @@
+"""Assignments to a local: literals, copies, lengths, comparisons, addresses and slices."""
+from .elements import walk_element
+from .mir import Refusal, elements, is_int, is_read, local_of, operator, place, statement_text
+from .parameters import ArrayAddress, Lent, Value
+from .text import address
+from .valuetypes import Boolean, Number, Unit
+
+COMPARISONS = {"eq": "(eqb {} {})", "ne": "(not (eqb {} {}))", "lt": "(ltb {} {})", "le": "(leb {} {})"}
+
+
+def truth(term):
+    """A value of the type bool that is spelled out."""
+    return Value(term, f"(vbool {term})", Boolean(), "refl")
+
+
+def literal(operand):
+    """The value of a literal number."""
+    bits, term = operand[1], operand[2]
+    return Value(term, f"(vint w{bits} {term})", Number(int(bits)), "(refl, lit< tt)")
+
+
+def walk_assignment(walk, statement):
+    """Walks one assignment."""
+    if walk_element(walk, statement):
+        return
+    (local, path), value = place(statement[1]), statement[2]
+    if path:
+        raise Refusal(f"a store through {statement_text(statement)}")
+    kinds = {"rvOpd": _operand, "op2": _comparison, "addrOf": _address, "aggregate": _slice}
+    held = kinds[value[0]](walk, local, value) if value[0] in kinds else None
+    if held is None:
+        raise Refusal(f"the assignment {statement_text(statement)}")
+    walk.now.values[local] = held
+
+
+def _operand(walk, local, value):
+    """x = y, x = 1, x = true, x = (), x = slice.len()"""
+    operand = value[1]
+    if operand == "unit":
+        walk.assigns("(of-opd ! (unit-lit !))", local, "(tt, tt)")
+        return Value("tt", "vunit", Unit(), "refl")
+    if operand in ("true", "false"):
+        walk.assigns(f"(of-opd ! ({operand}-lit !))", local, "(tt, tt)")
+        return truth(operand)
+    if is_int(operand):
+        walk.assigns("(of-opd ! (lit ! tt))", local, "(tt, record { fits = lit< tt })")
+        return literal(operand)
+    if not is_read(operand):
+        return None
+    source, path = place(operand[1])
+    held = walk.now.values[source]
+    if not path and isinstance(held, Value):
+        walk.assigns(f"(of-opd ! {walk.load(operand)})", local, held.type.typed(held.term, held.proof))
+        return held
+    if path == [1] and isinstance(held, Lent):
+        return _length(walk, local, operand, held.param)
+    return None
+
+
+def _length(walk, local, operand, param):
+    """x = slice.len()"""
+    fits = f"{param.room} .0"
+    walk.assigns(f"(of-opd ! {walk.load(operand)})", local, f"(tt, record {{ fits = {fits} }})")
+    term = f"(length ({param.name} .now))"
+    return Value(term, f"(vint w64 {term})", Number(64), f"(refl, {fits})")
+
+
+def _comparison(walk, local, value):
+    """x = y < z and the like"""
+    form = COMPARISONS.get(operator(value[1]))
+    if form is None:
+        return None
+    sides = [side[2] if is_int(side) else walk.now.values[local_of(side)].term for side in value[2:4]]
+    walk.assigns(f"(bin ! {walk.load(value[2])} {walk.load(value[3])} tt)", local, "(tt, tt)")
+    return truth(form.format(*sides))
+
+
+def _address(walk, local, value):
+    """x = & y, and x = & *y of a slice or a reference, which is y itself"""
+    source, path = place(value[1])
+    cell = walk.position(f"c{source}")
+    if not path:
+        way = "stop !"
+    elif path[0] == 0:
+        way = f"fld ! refl (hop ! (look-in ! {cell} (sub ! 0 refl (whole !))) (stop !))"
+    else:
+        way = f"hop ! (look ! {cell} refl) (stop !)"
+    walk.assigns(f"(addr ! (from ! ({way})))", local, "(tt, tt)")
+    return walk.now.values[source] if path else ArrayAddress(source)
+
+
+def _slice(walk, local, value):
+    """x = a slice of what an address stands for, with its length"""
+    kind = walk.function.locals[local]
+    if not (isinstance(kind, list) and kind[0] == "tyStruct" and kind[1] == '"&[]"'):
+        return None
+    base, length = elements(value[1])
+    held = walk.now.values[local_of(base)]
+    if isinstance(held, ArrayAddress):
+        fits, result = "lit< tt", ArrayAddress(held.local, f"(sliceVal ({address(held.local)}, 0) {length[2]})")
+    else:
+        fits, result = f"{held.param.room} .0", held
+    parts = f"(and-then ! {walk.load(base)} (and-then ! {walk.load(length)} (no-more !)))"
+    walk.assigns(f"(agg ! {parts})", local, f"(tt, (tt, (record {{ fits = {fits} }}, tt)))")
+    return result
