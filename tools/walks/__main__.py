@@ -79,7 +79,7 @@ class Repository:
             head, _, text = read(kept).partition("\n")
             if head == digest:
                 return text
-        ran = subprocess.run(["rt", "mir", crate], capture_output=True, text=True, cwd=self.root, check=False)
+        ran = subprocess.run(["rt", "mir", crate], capture_output=True, encoding="utf-8", cwd=self.root)
         if ran.returncode:
             print(ran.stdout + ran.stderr)
             raise Refusal(f"rt mir {crate} failed")
