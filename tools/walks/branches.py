@@ -16,7 +16,7 @@ def walk_body(walk, body, walk_loop):
         walk.rest = body[number + 1:]
         walk.note(statement)
         if is_statement(statement, "if"):
-            _walk_branch(walk, statement, number + 2)
+            _walk_branch_of_body(walk, statement, number + 2)
         elif is_statement(statement, "block") and statement[1][0] == "loop" and walk.loop is None:
             walk_loop(walk, statement, number + 2)
         elif statement == "return":
@@ -53,8 +53,20 @@ def environment(walk):
     return f"En {addresses(walk.function.local_count)}"
 
 
-def _walk_branch(walk, statement, following):
-    """Walks `if test { .. return }`: the arm first, then what follows, which the MIR calls t-following."""
+def _walk_branch_of_body(walk, statement, following):
+    """Walks a branch that the function's own body has; what follows is t-following in the MIR."""
+    cut = walk.function.branch_count > 1
+    if cut and walk.function.has_loop:
+        raise Refusal("several branches beside a loop")
+    env = "En" if walk.function.has_loop else f"({environment(walk)})" if cut else "_"
+    walk.names_mir = True
+    fact = walk_branch(walk, statement, f"exec ! C Λ {env} mir.t-{following} (atRet {env} Post) $")
+    if cut:
+        cut_here(walk, following, fact)
+
+
+def walk_branch(walk, statement, resumed):
+    """Walks `if test { .. return }`: the arm first, then the step that goes on; gives what is known then, by name."""
     rest = walk.rest
     test = walk_test(walk, statement[1])
     walk.names.kit.add("Branch")
@@ -70,13 +82,9 @@ def _walk_branch(walk, statement, following):
     walk.close_to(depth)
     walk.now = before
     walk.binds(f"(λ off{number}. let t{number} = off-false {test} off{number} in")
-    cut = walk.function.branch_count > 1
-    env = f"({environment(walk)})" if cut else "_"
-    walk.step(f"skips ! $ exec ! C Λ {env} mir.t-{following} (atRet {env} Post) $")
-    walk.names_mir = True
+    walk.step(f"skips ! $ {resumed}")
     walk.rest = rest
-    if cut:
-        cut_here(walk, following, (f"t{number}", f"{test} ≡ false"))
+    return f"t{number}", f"{test} ≡ false"
 
 
 def _walk_arm(walk, body):

@@ -3,7 +3,7 @@ from .loans import Argument, ArrayLoan, Call, SliceLoan, is_loan
 from .mir import Function, Refusal, callee, elements, is_int, place, statement_text
 from .parameters import ArrayAddress, Lent, PartOf, Value
 from .statements import literal, truth
-from .text import dashed, product, projection, separated, tuple_of
+from .text import dashed, lifetime, product, projection, separated, share, tuple_of
 from .valuetypes import Pointer
 
 
@@ -19,8 +19,6 @@ class CallWalk:
         self.operands = elements(statement[2])
         self.base = dashed(self.path.split("::")[-1])
         self.target, target_path = place(statement[3])
-        if self.contract.requires:
-            raise Refusal(f"{self.path} has a `requires`")
         if target_path:
             raise Refusal(statement_text(statement))
         if walk.calls.setdefault(self.base, self.path) != self.path:
@@ -30,6 +28,8 @@ class CallWalk:
         count = walk.call_counts[self.base]
         self.number = "" if count == 1 else str(count)
         self.label = f"{self.base}{self.number}"
+        if self.contract.requires and self.label not in walk.description.requires:
+            raise Refusal(f"{self.path} has a `requires`: the description needs a line `requires {self.label} TERM`")
 
     @property
     def parameters(self):
@@ -80,6 +80,8 @@ class CallWalk:
                 argument = SliceLoan(self.walk, call, number, one.param, kind, name).begin()
             elif isinstance(one, Lent):
                 argument = self._passed_on(number, one.param)
+            elif isinstance(one, PartOf):
+                argument = self._copied(number, one.term, one.machine, one.own, one.type)
             else:
                 raise Refusal(f"{statement_text(self.statement)}: an argument of another kind")
             self.arguments.append(argument)
@@ -97,20 +99,15 @@ class CallWalk:
 
     def _passed_on(self, number, param):
         """A parameter that is passed on: a `&` is copied, a `&mut` is given for good."""
-        walk, row = self.walk, param.type
+        walk, kind = self.walk, param.type
+        if not kind.mutable:
+            return self._copied(number, param.name, param.value, param.own, kind)
         argument = Argument(
             param.name, param.value, param.own, f"own:{param.name}", referred=f"{param.name} .now",
             life=param.lifetime, share=param.share, token=f"t{param.life}")
-        if not row.mutable:
-            law = f"(shr-slice-copy 𝓤 H A W (named {param.life}) {param.lifetime} {row.of.row} .twice"
-            walk.move([f"own:{param.name}"])
-            walk.step(f"use1 W (‵ {param.own} ⊛ ‵ {param.own}) {law} {param.name} ({param.value} ∷ [])) $ split ! $")
-            walk.becomes(1, [f"own:{param.name}", f"pass{number}"])
-            argument.give = f"pass{number}"
-            return argument
-        if not row.slice and walk.used_later(param):
+        if not kind.slice and walk.used_later(param):
             raise Refusal(f"{param.name} is passed on twice")
-        if row.slice:
+        if kind.slice:
             held, length = walk.now.lists[param.name]
             argument.referred = held
             if length is not None:
@@ -119,6 +116,16 @@ class CallWalk:
                 argument.own = param.own_slice("MutSlice", param.lifetime, f"γ-{param.name}", held, param.value)
         argument.end = lambda last, same_length: self._given_up(number, param, last, same_length)
         return argument
+
+    def _copied(self, number, name, value, own, kind):
+        """A `&[T]`, which is copied: a parameter, or a part of one."""
+        walk, life = self.walk, lifetime(kind.life)
+        law = f"(shr-slice-copy 𝓤 H A W (named {kind.life}) {life} {kind.of.row} .twice"
+        walk.move([f"own:{name}"])
+        walk.step(f"use1 W (‵ {own} ⊛ ‵ {own}) {law} {name} ({value} ∷ [])) $ split ! $")
+        walk.becomes(1, [f"own:{name}", f"pass{number}"])
+        return Argument(name, value, own, f"pass{number}", referred=f"{name} .now", life=life, share=share(kind.life),
+                        token=f"t{kind.life}")
 
     def _lifetimes(self):
         """The callee's lifetimes, as the arguments say them."""
@@ -132,6 +139,8 @@ class CallWalk:
             self.lives[kind.life] = argument.life
             self.shares[kind.life] = argument.share
             self.tokens[kind.life] = argument.token
+        if len(set(self.tokens)) < count:
+            raise Refusal(f"{self.path}: two of its lifetimes are one here")
 
     # the contract
 
@@ -141,15 +150,20 @@ class CallWalk:
         walk.build(self.tokens, "join", "ctoks")
         walk.build([argument.give for argument in self.arguments], "fjoin", "cowns")
         walk.move(["ctoks", "cowns"])
-        pairs = [f"‵ (flft {life} {share})" for life, share in zip(self.lives, self.shares)]
+        pairs = [f"‵ (flft {life} {part})" for life, part in zip(self.lives, self.shares)]
         self.token_items = " ⊛ ".join(pairs + ["‵ ftrue"])
         self.lives_term = tuple_of(self.lives)
         self.terms = tuple_of([argument.term for argument in self.arguments])
         machines = tuple_of([f"{argument.machine} ∷ []" for argument in self.arguments])
         ghost = f"(({self.lives_term}, {tuple_of(self.shares)}, tt, {self.terms}, {machines}), tt)"
         owned = separated([argument.own for argument in self.arguments])
+        meets = "join ! $ frame ! $ done !"
+        if self.contract.requires:
+            shares = tuple_of(self.shares)
+            entry = f"onEntry 𝓤 H A {name}′.signature {self.lives_term} {shares} {self.terms} {machines}"
+            meets = f"says ! {{P = {entry}}} ({walk.said(walk.description.requires[self.label])}) $ join ! $ done !"
         walk.step(f"use2 W (raw ({name} 𝓤 H A mem run .pre {ghost})) "
-                  f"(qed W (({self.token_items}) ∷ ‵ ({owned}) ∷ []) ∵ join ! $ frame ! $ done !) $")
+                  f"(qed W (({self.token_items}) ∷ ‵ ({owned}) ∷ []) ∵ {meets}) $")
         walk.becomes(2, ["post"])
         loads = "(no-more !)"
         for operand in reversed(self.operands):
@@ -188,27 +202,38 @@ class CallWalk:
             walk.now.lasts[f"{spoken}.{named}"] = last
         arguments = [(named, kind, argument.term, argument.referred) for (_, named, kind), argument
                      in zip(self.parameters, self.arguments)]
-        fact = walk.names.fact(self.contract.ensures, self.contract.uses, arguments, self.lasts, answer)
+        fact = None
+        if self.contract.ensures:
+            fact = walk.names.fact(self.contract.ensures, self.contract.uses, arguments, self.lasts, answer)
+        clause = f"fact 𝓤 ({fact})" if fact else "emp 𝓤"
         last_types = product([f"({kind.last})" for kind in self.function.parameters])
         said = f"‵ (lasts {name}′.ended {self.lives_term} {self.terms} {lasts})"
-        walk.step(f"use1 W (some (λ ({lasts} : {last_types}). {said} ⊛ raw (fact 𝓤 ({fact})))) (id⊢ 𝓤 _) $")
+        walk.step(f"use1 W (some (λ ({lasts} : {last_types}). {said} ⊛ raw ({clause}))) (id⊢ 𝓤 _) $")
         walk.binds(f"pick ! (λ {lasts}.")
         walk.step("split ! $")
         walk.becomes(1, ["LASTS", "fact"])
-        walk.move(["fact"])
-        walk.binds(f"heard ! ({fact}) (λ e-{label}.")
-        walk.now.context.pop(0)
-        self._tell(spoken, fact)
+        if fact:
+            walk.move(["fact"])
+            walk.binds(f"heard ! ({fact}) (λ e-{label}.")
+            walk.now.context.pop(0)
+        else:
+            walk.drop("fact")
+        self._tell(spoken, fact, last_types)
 
-    def _tell(self, spoken, fact):
+    def _tell(self, spoken, fact, last_types):
         """Keeps what a law can name, and what a lemma further on takes."""
         walk, label = self.walk, self.label
-        walk.facts += [f"r-{label} : {self.result.denotation}", f"e-{label} : {fact}"]
+        walk.facts += [f"r-{label} : {self.result.denotation}"] + ([f"e-{label} : {fact}"] if fact else [])
         walk.facts += [f"{{{spoken}.{name}}} : {kind.last}" for _, name, kind in self.parameters if kind.mutable]
         if walk.loop is None and not walk.in_arm:
             is_answer = f"Is {self.result.row} r-{label} (w-{label} ∷ [])"
-            walk.binders += [(f"w-{label}", "Val"), (f"r-{label}", self.result.denotation), (f"e-{label}", fact),
-                             (f"is-{label}", is_answer)]
+            walk.binders += [(f"w-{label}", "Val"), (f"r-{label}", self.result.denotation)]
+            if self.lasts:
+                walk.binders.append((f"z-{label}", last_types))
+            walk.binders += ([(f"e-{label}", fact)] if fact else []) + [(f"is-{label}", is_answer)]
+            walk.binders += [(f"len-{label}-{name}", f"length {self.lasts[name]} ≡ length ({argument.referred})")
+                             for (_, name, kind), argument in zip(self.parameters, self.arguments)
+                             if kind.mutable and kind.slice]
 
     def _land(self):
         """Takes the last values and the tokens apart, and stores the answer."""
@@ -233,15 +258,16 @@ class CallWalk:
         walk.move(["ownr"])
         row, answer, machine, known = self.result.row, f"r-{label}", f"w-{label}", f"is-{label}"
         walk.binds(f"peeks ! {row} (Is {row}) (shows 𝓤 H A {row}) {answer} ({machine} ∷ []) (λ {known}.")
-        if not self.result.plain and self.target != 0:
-            raise Refusal(f"{statement_text(self.statement)}: a part that is not answered at once")
+        if self.result.mutable and self.target != 0:
+            raise Refusal(f"{statement_text(self.statement)}: a part of a `&mut` slice that is not answered at once")
         walk.step(f"land ! (from ! (stop !)) {walk.init(self.target, self.result.typed(answer, known))} $")
         if self.result.plain:
             walk.drop("ownr")
             walk.now.values[self.target] = Value(answer, machine, self.result, known)
         else:
-            walk.now.context[0] = "own:result"
-            walk.now.values[self.target] = PartOf(answer, machine, self.result)
+            part = PartOf(answer, machine, self.result)
+            walk.now.context[0] = f"own:{answer}" if self.target else "own:result"
+            walk.now.values[self.target] = walk.held_parts[answer] = part
 
     def _take_back(self):
         """Ends the loans."""

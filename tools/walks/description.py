@@ -3,25 +3,8 @@ from dataclasses import dataclass, field
 
 from .mir import Refusal
 
-ONCE = ("within", "inside", "default")
+ONCE = ("within", "inside", "default", "holds", "begin", "turn")
 REPEATED = {"head": "heads", "law": "laws", "use": "uses", "abbrev": "abbrevs"}
-OF_KEPT = ("length", "begin", "turn")
-
-
-@dataclass
-class Kept:
-    """What a slice, or the local array _K, holds after i turns of the loop, and the proofs that it does."""
-
-    name: str
-    term: str
-    length: str = None
-    begin: str = None
-    turn: str = None
-
-    @property
-    def local(self):
-        """The number of the local array, or None for a slice."""
-        return int(self.name[1:]) if self.name[0] == "_" else None
 
 
 @dataclass
@@ -32,10 +15,13 @@ class Description:
     laws: list = field(default_factory=list)
     uses: list = field(default_factory=list)
     abbrevs: list = field(default_factory=list)
-    kept: list = field(default_factory=list)
+    requires: dict = field(default_factory=dict)
     within: str = None
     inside: str = None
     default: str = None
+    holds: str = None
+    begin: str = None
+    turn: str = None
 
 
 def read_description(path):
@@ -53,10 +39,8 @@ def read_description(path):
     for line in lines:
         word, _, rest = line.partition(" ")
         _add(description, path, word, rest.strip())
-    for kept in description.kept:
-        missing = [word for word in OF_KEPT if getattr(kept, word) is None]
-        if missing:
-            raise Refusal(f"{path}: `keeps {kept.name}` needs a line `{missing[0]}`")
+    if description.holds and not (description.begin and description.turn):
+        raise Refusal(f"{path}: `holds` needs a line `begin` and a line `turn`")
     return description
 
 
@@ -64,12 +48,10 @@ def _add(description, path, word, rest):
     """Adds one line."""
     if word in ONCE:
         setattr(description, word, rest)
+    elif word == "requires":
+        call, _, term = rest.partition(" ")
+        description.requires[call] = term.strip()
     elif word in REPEATED:
         getattr(description, REPEATED[word]).append(rest)
-    elif word == "keeps":
-        name, _, term = rest.partition("=")
-        description.kept.append(Kept(name.strip(), term.strip()))
-    elif word in OF_KEPT and description.kept:
-        setattr(description.kept[-1], word, rest)
     else:
-        raise Refusal(f"{path}: a line `{word}` in this place")
+        raise Refusal(f"{path}: a line `{word}`")

@@ -1,12 +1,9 @@
 """Elements of a lent slice, or of a local array that is held as a row: index, address, read and store."""
 from dataclasses import dataclass
 
-from .mir import Refusal, is_operation, is_read, local_of, place
+from .mir import Refusal, element_bases, is_operation, is_read, local_of, place
 from .parameters import ElementAddress, Lent, Parameter, Scaled, Value
 from .text import address
-
-ARRAY_COUNT = 64        # the length of the local arrays that a walk looks into
-
 
 @dataclass
 class Row:
@@ -49,8 +46,7 @@ def index_proof(walk, base):
     term = walk.index_terms[word]
     if term is None:
         raise Refusal(f"an element is looked at: the description needs a line `{word}`")
-    walk.names.cite(term)
-    return f"({walk.at_turn(term)})"
+    return f"({walk.said(term)})"
 
 
 def index_now(walk, row, index):
@@ -105,12 +101,12 @@ def _element_read(walk, statement):
 
 
 def offset_base(walk):
-    """The parameter, or None for a local array, that the next computed address is in."""
-    following = next((statement for statement in walk.rest if is_operation(statement, "offset")), None)
-    if following is None:
+    """What the next computed address is in: a parameter, or the number of a local array."""
+    bases = element_bases(walk.rest)
+    if not bases:
         raise Refusal("a product that is no element's offset")
-    local = local_of(following[2][2])
-    return walk.params[local - 1] if local <= walk.function.parameter_count else None
+    local = next(iter(bases))
+    return local if isinstance(walk.now.values[local], Value) else walk.params[local - 1]
 
 
 def _scale(walk, statement):
@@ -118,12 +114,12 @@ def _scale(walk, statement):
     local, value = place(statement[1])[0], statement[2]
     index, size = walk.now.values[local_of(value[2])].term, value[3][2]
     walk.sizes[size] = True
-    param = offset_base(walk)
-    if param:
-        room = f"(length {param.entry_list}) {index} ({param.room} .1)"
+    base = offset_base(walk)
+    if isinstance(base, Parameter):
+        room = f"(length {base.entry_list}) {index} ({base.room} .1)"
     else:
-        room = f"{ARRAY_COUNT} {index} (lit< tt)"
-    fits = f"(fits-{size} {room} {index_proof(walk, param)})"
+        room = f"{walk.now.values[base].type.count} {index} (lit< tt)"
+    fits = f"(fits-{size} {room} {index_proof(walk, base)})"
     product = f"(bin ! {walk.load(value[2])} (lit ! tt) (record {{ fits = {fits} }}))"
     walk.assigns(product, local, f"(tt, record {{ fits = {fits} }})")
     walk.now.values[local] = Scaled(index, size)

@@ -1,4 +1,4 @@
-"""The whole walk: locals are allotted, parameters stored, tokens and what parameters own taken apart; then the body."""
+"""The whole walk: locals are allotted, parameters stored, tokens and what is owned taken apart; then the body."""
 from .branches import cut_here, walk_body
 from .loops import enter_loop, walk_loop
 from .mir import Refusal

@@ -1,6 +1,4 @@
 """A way out: the locals are freed, every `&mut` says its last value, and the law shows what the contract says."""
-import re
-
 from .mir import Refusal
 from .text import after_blank
 
@@ -65,11 +63,10 @@ def _give_up(walk, param):
 
 def _law(walk):
     """The description's law for this way out, with `{PARAM}`, `{CALL.PARAM}` and `{r}` put in."""
+    if not walk.contract.ensures:
+        return "tt"
     if walk.ways_out >= len(walk.laws):
         raise Refusal("a way out with no law")
     law = walk.laws[walk.ways_out]
     walk.ways_out += 1
-    law = re.sub(r"\{([\w.]+)\}", lambda found: walk.now.lasts.get(found.group(1), found.group(0)), law)
-    if law != "?":
-        walk.names.cite(law)
-    return law
+    return walk.said(law) if law != "?" else law

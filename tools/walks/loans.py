@@ -7,10 +7,7 @@ from dataclasses import dataclass
 from .mir import Refusal
 from .parameters import Value
 from .text import address
-from .valuetypes import Array, Named
-
-LOCAL_COUNT = 64        # the length of a local array that can be lent
-
+from .valuetypes import Array
 
 @dataclass
 class Argument:
@@ -158,11 +155,9 @@ class ArrayLoan:
         self.machine = argument.machine
         if not isinstance(self.value, Value) or not isinstance(self.value.type, Array):
             raise Refusal("a local that is lent and is no array")
-        if not isinstance(self.value.type.of, Named) or self.value.type.count != LOCAL_COUNT:
-            raise Refusal("a local array that is lent and is not of 64 records")
         self.life = _new_lifetime(walk, call, number, name)
-        self.slice_name = f"δ-{call.label}"
-        walk.names.kit.add("Local")
+        self.slice_name = call.slice_name(name)
+        self.known = f"is-{call.label}-back" if call.loans == 1 else f"is-{call.label}-{name}-back"
 
     def reference(self, ghost):
         """The slice of the array."""
@@ -178,12 +173,14 @@ class ArrayLoan:
         """Lends it; gives the argument."""
         walk, at, value = self.walk, address(self.local), self.value
         walk.move([f"c{self.local}"])
+        row, count = value.type.of.row, value.type.count
         if self.shared:
-            law, kept = "array-shown", f"(Part 𝓤 H A W {at} {value.term})"
+            law, kept = "array-shown", f"(arr-parts (shares {row}) {count} .part fullShare {value.term} {at} 0)"
         else:
-            law, kept = "array-lent", f"(Held {value.type.of.row} {value.type.count} {at} 0 δ)"
+            law, kept = "array-lent", f"(Held {row} {count} {at} 0 δ)"
         lent = f"(later (some (λ (δ : GName). ‵ {self.own('δ')} ⊛ ‵ (flent {self.life} {kept}))))"
-        lends = f"({law} 𝓤 H A W {at} (named 0) {self.life} {value.term} {value.machine} {value.proof})"
+        lends = (f"({walk.array_law(law, value.type)} {at} (lit< tt, lit< tt) (named 0) {self.life} {value.term} "
+                 f"{value.machine} {value.proof})")
         walk.step(f"use1 W {lent} {lends} $ await ! tt $")
         walk.binds(f"pick ! (λ {self.slice_name}.")
         walk.step("split ! $")
@@ -198,18 +195,17 @@ class ArrayLoan:
         _end_lifetime(walk, self.number)
         held = value.term if self.shared else last
         machines = f"({value.type.vals} {held})"
-        cell = f"‵ (fat fullShare (tyArray {value.type.of.name}-l.mir {value.type.count}) {at} 0 (only {machines}))"
+        cell = f"‵ (fat fullShare {walk.types.cell(walk.function.locals[self.local])} {at} 0 (only {machines}))"
         back = f"(later (given (Is {value.type.row} {held} {machines}) ({cell})))"
-        known = f"is-{self.call.label}-back"
         things = [f"dead{self.number}", f"away{self.number}"]
         if self.shared:
-            law = f"(array-kept 𝓤 H A W {at} {self.life} {held} ({value.proof} .1 .0 .1))"
+            law = f"({walk.array_law('array-kept', value.type)} {at} {self.life} {held} ({value.proof} .1 .0 .1))"
         else:
             things.append(f"fin{self.number}")
             length = f"({same_length} ∙ {value.proof} .1 .0 .1)"
-            law = f"(array-back 𝓤 H A W {at} {self.life} {held} {length} {self.slice_name})"
+            law = f"({walk.array_law('array-back', value.type)} {at} {self.life} {held} {length} {self.slice_name})"
         walk.move(things)
         walk.step(f"use{len(things)} W {back} {law} $ await ! tt $")
-        walk.binds(f"learn ! (λ {known}.")
+        walk.binds(f"learn ! (λ {self.known}.")
         walk.becomes(len(things), [f"c{self.local}"])
-        walk.now.values[self.local] = Value(held, f"(only {machines})", value.type, known)
+        walk.now.values[self.local] = Value(held, f"(only {machines})", value.type, self.known)

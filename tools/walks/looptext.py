@@ -35,13 +35,16 @@ def _state(loop):
     bound = loop.bound
     after = f"(Wp 𝓤 H C Λ En mir.t-{loop.following} (atReturn 𝓤 H En Post))"
     outcome = f"(afterBlock 𝓤 H (afterSeq 𝓤 H {after} (atReturn 𝓤 H En Post)))"
+    fields = [f"  pub {name} : {kind}" for thing in loop.carried for name, kind in thing.fields()]
+    if loop.holds:
+        fields.append(f"  pub held : {loop.holds}")
     lines = [
-        "-- how many turns were made", "pub record St : Type 0 where", "  pub i : ℕ", f"  pub le : i ≤ {bound}", "",
+        "-- how many turns were made, and what they have changed", "pub record St : Type 0 where", "  pub i : ℕ",
+        f"  pub le : i ≤ {bound}", *fields, "",
         "abbrev Nearer : St → St → Type 0", f"Nearer u v = {bound} - u .i < {bound} - v .i", "",
         "Nearer-wf : WellFounded Nearer",
         f"Nearer-wf = InvImage·wf (λ (u : St). {bound} - u .i) (Nat·lt-wfRel .wf)", "",
         "abbrev At : St → List (Item 𝓤)", f"At u = {loop.at}", "",
         "abbrev Turned : St → Out → SProp 𝓤",
-        f"Turned u = afterTurn 𝓤 H (Below 𝓤 H A Nearer At u) {outcome}", "",
-        f"abbrev next : (u : St) → u .i < {bound} → St", "next u h = record { i = u .i + 1; le = add-one-le h }", ""]
+        f"Turned u = afterTurn 𝓤 H (Below 𝓤 H A Nearer At u) {outcome}", ""]
     return [STATE + line if line else "" for line in lines]

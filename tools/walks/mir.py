@@ -97,9 +97,77 @@ def names_local(body, local):
     return f"'place', '{local}'," in repr(body)
 
 
+def target(statement):
+    """The place that a statement stores to, or None."""
+    if is_statement(statement, "assign"):
+        return place(statement[1])
+    if is_statement(statement, "call"):
+        return place(statement[3])
+    return None
+
+
+def sources(statement):
+    """The locals that a statement reads, or through which it stores."""
+    if is_statement(statement, "call"):
+        read = repr(statement[2])
+    elif is_statement(statement, "assign"):
+        read = repr(statement[2])
+    else:
+        read = repr(statement)
+    found = {int(k) for k in re.findall(r"'place', '(\d+)'", read)}
+    stored = target(statement)
+    return found | ({stored[0]} if stored and stored[1] else set())
+
+
+def is_assigned(body, local):
+    """Whether the statements store to the local itself."""
+    return any(target(statement) == (local, []) for statement in body)
+
+
+def is_live(body, local):
+    """Whether the statements read what the local holds before they store to it."""
+    for statement in body:
+        if local in sources(statement):
+            return True
+        if target(statement) == (local, []):
+            return False
+    return False
+
+
+def lent_mutably(body, locals_, local):
+    """Whether the statements take a `&mut` of the local, or of what it refers to."""
+    for statement in body:
+        if is_statement(statement, "assign") and statement[2][0] == "addrOf" and place(statement[2][1])[0] == local:
+            kind = locals_[place(statement[1])[0]]
+            if kind[0] == "tyRef" and kind[2] == "mut":
+                return True
+    return False
+
+
 def element_bases(body):
-    """The locals of which an element's address is computed in the body."""
-    return {int(k) for k in re.findall(r"'offset', \['copy', \['place', '(\d+)'", repr(body))}
+    """The slices and arrays of which an element's address is computed (their locals): whether one is stored to."""
+    bases, pointers, stored = {}, {}, set()
+    for statement in flat(body):
+        if is_statement(statement, "assign") and statement[2][0] == "addrOf":
+            pointers[place(statement[1])[0]] = place(statement[2][1])[0]
+        elif is_operation(statement, "offset"):
+            base = local_of(statement[2][2])
+            base = pointers.get(base, base)
+            pointers[place(statement[1])[0]] = base
+            bases[base] = False
+        elif target(statement) and target(statement)[1] == ["deref"]:
+            stored.add(pointers.get(target(statement)[0]))
+    return {base: base in stored for base in bases}
+
+
+def flat(body):
+    """All statements of a body, those of its arms and loops too."""
+    for statement in body:
+        yield statement
+        if is_statement(statement, "if"):
+            yield from flat(statements(statement[2]) + statements(statement[3]))
+        elif is_statement(statement, "block") or is_statement(statement, "loop"):
+            yield from flat(statements(statement[1]))
 
 
 def place_text(term):
@@ -125,6 +193,8 @@ def value_text(value):
         return f"{operand_text(value[2])} {operator(value[1])} {operand_text(value[3])}"
     if value[0] == "addrOf":
         return f"& {place_text(value[1])}"
+    if value[0] == "repeat":
+        return f"[{operand_text(value[1])}; {value[2]}]"
     if value[0] == "aggregate":
         return "{" + ", ".join(operand_text(part) for part in elements(value[1])) + "}"
     return value[0]

@@ -8,11 +8,9 @@ from .text import bound_names, replaced, tokens
 
 # Names that a law may have and that are no import: of the walk's branches and loop, and of the language.
 LOCAL_NAMES = {
-    "LL", "EL", "Unit", "tt", "let", "in", "λ", "t", "t2", "in-slice", "on", "off", "on2", "off2", "×", "Said", "h",
-    "i", "u", "end"}
-LOCAL_PREFIX = re.compile(r"(r|e|z|w|is|len|ys|room|v|b|o|γ)-")
+    "LL", "EL", "Unit", "tt", "let", "in", "λ", "in-slice", "×", "Said", "h", "i", "u", "end", "held"}
+LOCAL_FORM = re.compile(r"(r|e|z|w|is|len|ys|room|v|b|o|γ|at|val)-|(t|on|off)\d*$")
 NO_NAME = re.compile(r"[(){},;.:=→λ]|\d")
-NO_FACT = "λ _. ⌜ Unit {0} ⌝"
 
 
 class Names:
@@ -80,7 +78,7 @@ class Names:
 
     def _known(self, name):
         """Whether a word of a law needs no import."""
-        if NO_NAME.match(name) or LOCAL_PREFIX.match(name):
+        if NO_NAME.match(name) or LOCAL_FORM.match(name):
             return True
         for known in (logic.MODULE_OF, self.origin, LOCAL_NAMES, self.types, self.declared):
             if name in known or f"_{name}_" in known:
@@ -106,7 +104,7 @@ class Names:
         arguments: for each parameter its name, its type, the argument, and the value it refers to (of a reference)
         lasts: the last value of each parameter that has one; answer: the term for the answer
         """
-        found = re.match(r"λ\s*(\S+)\.\s*⌜(.*)⌝\s*$", ensures or NO_FACT, re.S)
+        found = re.match(r"λ\s*(\S+)\.\s*⌜(.*)⌝\s*$", ensures, re.S)
         if not found:
             raise Refusal(f"an `ensures` of another form: {ensures[:60]}")
         binder, text = found.group(1), self.bring(" ".join(found.group(2).split()), uses)

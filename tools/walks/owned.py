@@ -15,10 +15,14 @@ def _item(walk, label):
         life = int(label[1:])
         return f"‵ (flft {lifetime(life)} {share(life)})"
     kind, name = label.split(":")
+    if name in walk.held_parts:
+        return f"‵ {walk.held_parts[name].own}"
     param = next(param for param in walk.params if param.name == name)
+    row, held = param.type.of.row, walk.now.lists.get(name, (None, None))[0]
     if kind == "own":
-        return f"‵ {param.own}"
-    row, held = param.type.of.row, walk.now.lists[name][0]
+        if not param.type.mutable or not param.type.slice or held == param.entry_list:
+            return f"‵ {param.own}"
+        return "‵ " + param.own_slice("MutSlice", param.lifetime, f"γ-{name}", held, param.value)
     if kind == "obs":
         return f"‵ (fobs γ-{name} (codedHoleys {row} .code (heres {row} {held})))"
     if param.type.mutable:

@@ -101,14 +101,15 @@ class Value:
 
 @dataclass(frozen=True)
 class Lent:
-    """A parameter's slice or reference, or its address."""
+    """A parameter's slice or reference, or the address of a slice's elements."""
 
     param: Parameter
+    is_address: bool = False
 
     @property
     def machine(self):
         """Its machine value."""
-        return self.param.value
+        return None if self.is_address else self.param.value
 
 
 @dataclass(frozen=True)
@@ -139,8 +140,13 @@ class ElementAddress:
 
 @dataclass(frozen=True)
 class PartOf:
-    """A part of a lent slice that a call answered."""
+    """A part of a lent slice that a call answered; its type has the lifetime of that slice."""
 
     term: str
     machine: str
     type: object
+
+    @property
+    def own(self):
+        """What it owns."""
+        return f"({self.type.row} .own {self.term} ({self.machine} ∷ []))"

@@ -41,7 +41,10 @@ class Proof:
         self._declare()
         arguments = [(param.name, param.type, param.name, f"{param.name} .now") for param in self.params]
         lasts = {param.name: f"w-{param.name}" for param in walk.mutables}
-        self.said = walk.names.fact(walk.contract.ensures, walk.contract.uses, arguments, lasts, "r")
+        if walk.contract.ensures:
+            self.said = walk.names.fact(walk.contract.ensures, walk.contract.uses, arguments, lasts, "r")
+        else:
+            self.said = "Unit {0}"
         self.lines = walk_function(walk)
         self.calls = list(walk.callees.items())
         body = self._laws() + self._contracts() + self._setting() + self._ending() + self._walk() + self._theorem()
@@ -187,6 +190,10 @@ class Proof:
         lasts = tuple_of([f"w-{param.name}" if param.type.mutable else "tt" for param in self.params])
         fits = tuple_of([f"l-{param.name}" if param in self.slices else "tt" for param in self.params])
         ends = f"(ends-at 𝓤 H A entry′.ended stayed {CLAUSES} W bound w r {lasts} {fits})"
+        says = "says ! e"
+        if not walk.contract.ensures:
+            walk.names.kit.add("Silent")
+            says = "says-nothing !"
         return [
             "  -- what the contract says of the answer and of the last values",
             f"  abbrev Said : {result.denotation} → {last_types}Type 0",
@@ -194,7 +201,7 @@ class Proof:
             f"  exits : (r : {result.denotation}) (w : Val){binders} → Said r{self.last_names}{lengths}",
             f"      → ent 𝓤 (⋆ 𝓤 H A ({items})) (Post w)",
             f"  exits r w{self.last_names} e{given} =", f"      qed W ({items}) ∵",
-            f"      suffices ! _ {ends} $ says ! e $ frame ! $",
+            f"      suffices ! _ {ends} $ {says} $ frame ! $",
             f"      {self._joined()} done !", ""]
 
     def _joined(self):

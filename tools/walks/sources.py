@@ -1,4 +1,4 @@
-"""What the sources say: a function's parameters and contract, `ghost use` lines, and where the specs declare a name."""
+"""What the sources say: a function's names and contract, `ghost use` lines, and where the specs declare a name."""
 import os
 import re
 from dataclasses import dataclass
@@ -11,9 +11,10 @@ DECLARED = re.compile(r"^\s*(?:abbrev |unfoldable )*pub (?:record |data |abbrev 
 
 @dataclass
 class Contract:
-    """The names of a function's parameters, the texts of its clauses, and what its file's `ghost use` lines bring."""
+    """The names of a function's parameters and `let`s, the texts of its clauses, and what `ghost use` lines bring."""
 
     names: list
+    lets: list
     ensures: str
     requires: str
     uses: dict      # a name -> the module it comes from, and its name there
@@ -48,6 +49,8 @@ class Sources:
         """The source files of a crate, without comments."""
         if crate not in self._files:
             folder = f"{self.root}/crates/{crate}/src"
+            if not os.path.isdir(folder):
+                raise Refusal(f"`{crate}` is no crate of the repository: call its functions in covered ones")
             names = sorted(name for name in os.listdir(folder) if name.endswith(".rt"))
             self._files[crate] = [re.sub(r"//[^\n]*", "", _read(f"{folder}/{name}")) for name in names]
         return self._files[crate]
@@ -104,8 +107,11 @@ def _contract(text, position):
     while clause:
         end = _closing(text, clause.end(), "{", "}")
         clauses[clause.group(1)] = text[clause.end():end - 1].strip()
+        behind = end
         clause = CLAUSE.match(text, end)
-    return Contract(names, clauses.get("ensures"), clauses.get("requires"), _ghost_uses(text))
+    start = text.index("{", behind) + 1
+    lets = re.findall(r"\blet\s+(?:mut\s+)?(\w+)", text[start:_closing(text, start, "{", "}")])
+    return Contract(names, lets, clauses.get("ensures"), clauses.get("requires"), _ghost_uses(text))
 
 
 def _ghost_uses(text):

@@ -1,18 +1,21 @@
 """The state of a walk: what is owned at a point, what each local holds, and the lines that were written so far.
 
-What is owned is kept as labels, in the order in which the logic lists it: `c3` the cell of local 3, `d3` the right to free
-it, `t0` a lifetime's token, `own:recs` what a parameter owns, `obs:recs` and `bor:recs` a slice's ghost value and its borrow
-(once it was split), `fin:recs` what says its last value. A step of the logic names what it takes by its place in that list.
+What is owned is kept as labels, in the order in which the logic lists it: `c3` the cell of local 3, `d3` the right to
+free it, `t0` a lifetime's token, `own:recs` what a parameter or a part of one owns, `obs:recs` and `bor:recs` a slice's
+ghost value and its borrow (once it was split), `fin:recs` what says its last value. A step of the logic names what it
+takes by its place in that list.
 """
+import re
 from dataclasses import dataclass, field
 
 from . import logic
 from .mir import Function, Refusal, callees, element_bases, is_int, names_local, place, statement_text
 from .parameters import Parameter
 from .text import cons, replaced
-from .valuetypes import Pointer, Types
+from .valuetypes import Array, Pointer, Types
 
 LINE = 230      # a line of a proof ends behind the step that reaches so far
+BIG = 1024      # the MIR writes a literal from here on as `intBig`
 
 
 @dataclass
@@ -22,7 +25,7 @@ class Moment:
     context: list = field(default_factory=list)     # the labels of what is owned
     stored: set = field(default_factory=set)        # the locals that hold something
     values: dict = field(default_factory=dict)      # what they hold
-    lists: dict = field(default_factory=dict)       # an opened slice's list now, and a proof of its length (None: the first)
+    lists: dict = field(default_factory=dict)       # an opened slice's list now, and its length's proof (None: the first)
     rows: dict = field(default_factory=dict)        # the same of local arrays that are held as a row of elements
     lasts: dict = field(default_factory=dict)       # last values, by the name that a law has for them
 
@@ -64,6 +67,7 @@ class Walk:
         self.sizes = {}             # sizes of elements that were looked at
         self.looks = 0              # how many elements were read
         self.branches = 0           # how many branches were walked
+        self.held_parts = {}        # parts of slices that calls answered, by their names
         self.parts = []             # the lemmas that a walk of several branches is cut into
         self.main = None            # and the lines of the walk itself, then
         self.index_terms = {"within": description.within, "inside": description.inside}
@@ -73,6 +77,7 @@ class Walk:
         self.in_arm = False
         self.in_turn = False
         self.loop = None
+        self.start = None           # what a body with a loop owns at first
 
     def _test_parameters(self):
         """Refuses what no walk handles."""
@@ -185,8 +190,11 @@ class Walk:
         """The step that loads an operand."""
         if operand in ("true", "false"):
             return f"({operand}-lit !)"
-        if is_int(operand):
+        if is_int(operand) and int(operand[2]) < BIG:
             return "(lit ! tt)"
+        if is_int(operand):
+            self.names.kit.add("Literals")
+            return "(big-lit ! (record { fits = lit< tt }))"
         if operand[0] not in ("copy", "move"):
             raise Refusal(f"the operand {operand}")
         local, path = place(operand[1])
@@ -218,9 +226,38 @@ class Walk:
         """Whether a statement behind this one names the parameter."""
         return names_local(self.rest, self.params.index(param) + 1)
 
-    def at_turn(self, term):
-        """A term of the description, at the turn that is walked."""
-        return replaced(term, {"i": "(u .i)"}) if self.in_turn else term
+    def said(self, term):
+        """A term of the description, said of this point: {NAME} is put in, and in a loop the count i and `held`."""
+        filled = re.sub(r"\{([\w.]+)\}", lambda found: self._value_named(found.group(1)) or found.group(0), term)
+        self.names.cite(filled)
+        return replaced(filled, {"i": "(u .i)", "held": "(u .held)"}) if self.in_turn else filled
+
+    def _value_named(self, name):
+        """What the name stands for in a term: a last value, a lent list as it is now, or what a local holds."""
+        now = self.now
+        if name in now.lasts:
+            return now.lasts[name]
+        if now.lists.get(name):
+            return now.lists[name][0]
+        for local in range(1, self.function.local_count):
+            if name in (self.local_name(local), f"_{local}") and local in now.stored:
+                return now.rows[local][0] if local in now.rows else now.values[local].term
+        return None
+
+    def local_name(self, local):
+        """The source's name of a local that has one: parameters come first, then each `let` in the order of the text."""
+        if local <= len(self.params):
+            return self.params[local - 1].name
+        # an array parameter that is looked into is copied to a local of its own first
+        number = local - len(self.params) - 1 - sum(isinstance(param.type, Array) for param in self.params)
+        lets = self.contract.lets
+        return lets[number] if 0 <= number < len(lets) and lets.count(lets[number]) == 1 else f"_{local}"
+
+    def array_law(self, name, kind):
+        """A law of lentkit/proofs/Arrays, at the type of a local array."""
+        self.names.kit.add("Arrays")
+        of = kind.of
+        return f"{name} {of.row} {kind.count} ({of.vals}) ({of.tells}) tt 𝓤 H A W {of.makes}"
 
     def hypotheses(self):
         """What is known of the parameters from the start."""

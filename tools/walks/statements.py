@@ -26,7 +26,7 @@ def walk_assignment(walk, statement):
     (local, path), value = place(statement[1]), statement[2]
     if path:
         raise Refusal(f"a store through {statement_text(statement)}")
-    kinds = {"rvOpd": _operand, "op2": _comparison, "addrOf": _address, "aggregate": _slice}
+    kinds = {"rvOpd": _operand, "op2": _comparison, "addrOf": _address, "aggregate": _slice, "repeat": _repeat}
     held = kinds[value[0]](walk, local, value) if value[0] in kinds else None
     if held is None:
         raise Refusal(f"the assignment {statement_text(statement)}")
@@ -43,7 +43,7 @@ def _operand(walk, local, value):
         walk.assigns(f"(of-opd ! ({operand}-lit !))", local, "(tt, tt)")
         return truth(operand)
     if is_int(operand):
-        walk.assigns("(of-opd ! (lit ! tt))", local, "(tt, record { fits = lit< tt })")
+        walk.assigns(f"(of-opd ! {walk.load(operand)})", local, "(tt, record { fits = lit< tt })")
         return literal(operand)
     if not is_read(operand):
         return None
@@ -75,6 +75,19 @@ def _comparison(walk, local, value):
     return truth(form.format(*sides))
 
 
+def _repeat(walk, local, value):
+    """x = [y; n]"""
+    operand, count = value[1], value[2]
+    one = literal(operand) if is_int(operand) else walk.now.values[local_of(operand)]
+    kind = walk.types.read(walk.function.locals[local])
+    term = f"(replicate {count} {one.term})"
+    machine = f"(vstruct (ofList (replicate {count} {one.machine})))"
+    walk.names.kit.add("Arrays")
+    proof = f"(repeat-is {kind.of.row} {one.term} {one.machine} {one.proof} {count})"
+    walk.assigns(f"(rep ! {count} {walk.load(operand)})", local, kind.typed(term, proof))
+    return Value(term, machine, kind, proof)
+
+
 def _address(walk, local, value):
     """x = & y, and x = & *y of a slice or a reference, which is y itself"""
     source, path = place(value[1])
@@ -86,7 +99,10 @@ def _address(walk, local, value):
     else:
         way = f"hop ! (look ! {cell} refl) (stop !)"
     walk.assigns(f"(addr ! (from ! ({way})))", local, "(tt, tt)")
-    return walk.now.values[source] if path else ArrayAddress(source)
+    if not path:
+        return ArrayAddress(source)
+    held = walk.now.values[source]
+    return Lent(held.param, is_address=True) if path[0] == 0 else held
 
 
 def _slice(walk, local, value):
@@ -99,7 +115,7 @@ def _slice(walk, local, value):
     if isinstance(held, ArrayAddress):
         fits, result = "lit< tt", ArrayAddress(held.local, f"(sliceVal ({address(held.local)}, 0) {length[2]})")
     else:
-        fits, result = f"{held.param.room} .0", held
+        fits, result = f"{held.param.room} .0", Lent(held.param)
     parts = f"(and-then ! {walk.load(base)} (and-then ! {walk.load(length)} (no-more !)))"
     walk.assigns(f"(agg ! {parts})", local, f"(tt, (tt, (record {{ fits = {fits} }}, tt)))")
     return result

@@ -250,11 +250,11 @@ class Types:
             return quoted(term[1][1]).split("::")[-1] + "-l.mir"
         if term[0] == "tyArray":
             return f"(tyArray {self.cell(term[1])} {term[2][1]})"
-        if term[0] == "tyStruct":
-            slice_type = self.read(term)
-            kind = "mut" if slice_type.mutable else "imm"
-            pointee = f"(pointee ({slice_type.of.row} .written))"
-            return f"(sliceTy (tyRef (named {slice_type.life}) {kind} {pointee}))"
+        if term[0] == "tyStruct" and term[1] == '"&[]"':
+            return f"(sliceTy {self.cell(term[2][1])})"
+        if term[0] == "tyRef":
+            life = "erased" if _life(term[1]) is None else f"(named {_life(term[1])})"
+            return f"(tyRef {life} {term[2]} (pointee ({self.read(term[3]).row} .written)))"
         raise Refusal(f"a local of the type {term[0]} where the cells are written out")
 
 

@@ -1,5 +1,5 @@
 // The caller's records, lent as a slice: written as a whole. Every function of the layers above that has a lent slice of records in hand
-// is proved by hand; `proofs/` has what those proofs share.
+// is proved by a walk (tools/walks); `proofs/` has what those proofs share.
 use session::Session;
 ghost use mathlib.Core.Path.{_≡_};
 ghost use lib.ListN.{replicate};

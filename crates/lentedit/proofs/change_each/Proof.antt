@@ -12,7 +12,7 @@ use Rattle.table.specs.declared.Change.{Change}
 use Rattle.table.proofs.Change as Change-t
 use Rattle.table.proofs.Change.Laws as Change-l
 use Rattle.lentedit.specs.Bound.{first-lesser, lesser, lesser-within}
-use Rattle.octets.specs.Places.{length-map-first, map-none, map-step, mapFirst}
+use Rattle.octets.specs.Places.{map-none, map-step, mapFirst}
 use Rattle.session.specs.Session.{blankAt}
 use Rattle.table.specs.Become.{changedBy}
 use Rattle.lentedit.proofs.lesser as c-lesser′
@@ -107,10 +107,13 @@ module _ {M : Type 1} (𝓤 : URA M) (H : Heap 𝓤) (A : Atoms 𝓤) (W : Given
     En = (tyUnit, l₀) ∷ ((sliceTy (tyRef (named 0) mut (pointee (Session-t.the-row .written)))), l₁) ∷ (Change-l.mir, l₂) ∷ ((tyInt w64), l₃) ∷ ((tyInt w64), l₄) ∷ ((tyInt w64), l₅) ∷ (Session-l.mir, l₆) ∷ (Session-l.mir, l₇) ∷ ((tyInt w64), l₈) ∷ (tyBool, l₉) ∷ ((tyInt w64), l₁₀) ∷ (tyPtr, l₁₁) ∷ (Session-l.mir, l₁₂) ∷ (tyPtr, l₁₃) ∷ []
 
     module _ (w-lesser : Val) (r-lesser : ℕ) (e-lesser : r-lesser ≡ lesser n (length (recs .now))) (is-lesser : Is usize r-lesser (w-lesser ∷ [])) where
-      -- how many turns were made
+      -- how many turns were made, and what they have changed
       pub record St : Type 0 where
         pub i : ℕ
         pub le : i ≤ r-lesser
+        pub at-recs : List Session
+        pub len-at-recs : length at-recs ≡ length ys-recs
+        pub held : at-recs ≡ mapFirst (changedBy c) i ys-recs
 
       abbrev Nearer : St → St → Type 0
       Nearer u v = r-lesser - u .i < r-lesser - v .i
@@ -119,13 +122,10 @@ module _ {M : Type 1} (𝓤 : URA M) (H : Heap 𝓤) (A : Atoms 𝓤) (W : Given
       Nearer-wf = InvImage·wf (λ (u : St). r-lesser - u .i) (Nat·lt-wfRel .wf)
 
       abbrev At : St → List (Item 𝓤)
-      At u = ‵ (froom tyPtr l₁₃ 0) ∷ ‵ (fdies tyPtr l₁₃) ∷ ‵ (froom Session-l.mir l₁₂ 0) ∷ ‵ (fdies Session-l.mir l₁₂) ∷ ‵ (froom tyPtr l₁₁ 0) ∷ ‵ (fdies tyPtr l₁₁) ∷ ‵ (froom (tyInt w64) l₁₀ 0) ∷ ‵ (fdies (tyInt w64) l₁₀) ∷ ‵ (froom tyBool l₉ 0) ∷ ‵ (fdies tyBool l₉) ∷ ‵ (fat fullShare (tyInt w64) l₈ 0 (vint w64 (length (recs .now)))) ∷ ‵ (fdies (tyInt w64) l₈) ∷ ‵ (froom Session-l.mir l₇ 0) ∷ ‵ (fdies Session-l.mir l₇) ∷ ‵ (froom Session-l.mir l₆ 0) ∷ ‵ (fdies Session-l.mir l₆) ∷ ‵ (fat fullShare (tyInt w64) l₅ 0 (vint w64 (u .i))) ∷ ‵ (fdies (tyInt w64) l₅) ∷ ‵ (fat fullShare (tyInt w64) l₄ 0 (vint w64 r-lesser)) ∷ ‵ (fdies (tyInt w64) l₄) ∷ ‵ (fat fullShare (tyInt w64) l₃ 0 v-n) ∷ ‵ (fdies (tyInt w64) l₃) ∷ ‵ (fat fullShare Change-l.mir l₂ 0 v-c) ∷ ‵ (fdies Change-l.mir l₂) ∷ ‵ (fat fullShare (sliceTy (tyRef (named 0) mut (pointee (Session-t.the-row .written)))) l₁ 0 v-recs) ∷ ‵ (fdies (sliceTy (tyRef (named 0) mut (pointee (Session-t.the-row .written)))) l₁) ∷ ‵ (froom tyUnit l₀ 0) ∷ ‵ (fdies tyUnit l₀) ∷ ‵ (fbor κ₀ (Held Session-t.the-row (length (mapFirst (changedBy c) (u .i) ys-recs)) b-recs o-recs γ-recs)) ∷ ‵ (fobs γ-recs (codedHoleys Session-t.the-row .code (heres Session-t.the-row (mapFirst (changedBy c) (u .i) ys-recs)))) ∷ ‵ (flft κ₀ q₀) ∷ []
+      At u = ‵ (froom tyPtr l₁₃ 0) ∷ ‵ (fdies tyPtr l₁₃) ∷ ‵ (froom Session-l.mir l₁₂ 0) ∷ ‵ (fdies Session-l.mir l₁₂) ∷ ‵ (froom tyPtr l₁₁ 0) ∷ ‵ (fdies tyPtr l₁₁) ∷ ‵ (froom (tyInt w64) l₁₀ 0) ∷ ‵ (fdies (tyInt w64) l₁₀) ∷ ‵ (froom tyBool l₉ 0) ∷ ‵ (fdies tyBool l₉) ∷ ‵ (fat fullShare (tyInt w64) l₈ 0 (vint w64 (length (recs .now)))) ∷ ‵ (fdies (tyInt w64) l₈) ∷ ‵ (froom Session-l.mir l₇ 0) ∷ ‵ (fdies Session-l.mir l₇) ∷ ‵ (froom Session-l.mir l₆ 0) ∷ ‵ (fdies Session-l.mir l₆) ∷ ‵ (fat fullShare (tyInt w64) l₅ 0 (vint w64 (u .i))) ∷ ‵ (fdies (tyInt w64) l₅) ∷ ‵ (fat fullShare (tyInt w64) l₄ 0 (vint w64 r-lesser)) ∷ ‵ (fdies (tyInt w64) l₄) ∷ ‵ (fat fullShare (tyInt w64) l₃ 0 v-n) ∷ ‵ (fdies (tyInt w64) l₃) ∷ ‵ (fat fullShare Change-l.mir l₂ 0 v-c) ∷ ‵ (fdies Change-l.mir l₂) ∷ ‵ (fat fullShare (sliceTy (tyRef (named 0) mut (pointee (Session-t.the-row .written)))) l₁ 0 v-recs) ∷ ‵ (fdies (sliceTy (tyRef (named 0) mut (pointee (Session-t.the-row .written)))) l₁) ∷ ‵ (froom tyUnit l₀ 0) ∷ ‵ (fdies tyUnit l₀) ∷ ‵ (fbor κ₀ (Held Session-t.the-row (length (u .at-recs)) b-recs o-recs γ-recs)) ∷ ‵ (fobs γ-recs (codedHoleys Session-t.the-row .code (heres Session-t.the-row (u .at-recs)))) ∷ ‵ (flft κ₀ q₀) ∷ []
 
       abbrev Turned : St → Out → SProp 𝓤
       Turned u = afterTurn 𝓤 H (Below 𝓤 H A Nearer At u) (afterBlock 𝓤 H (afterSeq 𝓤 H (Wp 𝓤 H C Λ En mir.t-5 (atReturn 𝓤 H En Post)) (atReturn 𝓤 H En Post)))
-
-      abbrev next : (u : St) → u .i < r-lesser → St
-      next u h = record { i = u .i + 1; le = add-one-le h }
 
       turns : (u : St) → Sq W (At u) (runs C Λ En mir.turn-1 (anyQ (Turned u)))
       unfolding afterTurn
@@ -141,22 +141,22 @@ module _ {M : Type 1} (𝓤 : URA M) (H : Heap 𝓤) (A : Atoms 𝓤) (W : Given
           assigns ! (bin ! (load ! (from ! (fld ! refl (stop !))) (look-in ! 24 (sub ! 0 refl (whole !)))) (load ! (from ! (stop !)) (look ! 6 refl)) tt) (from ! (stop !)) (init ! 4 refl (tt, tt)) $
           rewrite ! 4 (λ (n : ℕ). ‵ (fat fullShare tyPtr l₁₁ 0 (vptr b-recs n))) (sym (place-is 48 o-recs (u .i))) refl $
           -- _12 = _11.*
-          move ! (29 ∷ 28 ∷ 30 ∷ []) $ opens-slice ! tt Session-t.the-row (mapFirst (changedBy c) (u .i) ys-recs) b-recs o-recs $
-          elem-out ! Session-t.the-row (Is Session-t.the-row) (shows 𝓤 H A Session-t.the-row) (LL.vals Session-t.the-type Session-l.the-laws) (LL.tells Session-t.the-type Session-l.the-laws) fullShare (mapFirst (changedBy c) (u .i) ys-recs) (u .i) (blankAt 0) b-recs o-recs (subst (λ (n : ℕ). (u .i) < n) (sym (length-map-first (changedBy c) (u .i) ys-recs)) (lt-of-lt-of-le h (subst (λ (k : ℕ). k ≤ length ys-recs) (sym e-lesser) (lesser-within n (length ys-recs))))) (λ is-look1.
-          assigns ! (of-opd ! (load ! (from ! (hop ! (look ! 10 refl) (stop !))) (look-raw ! 0 refl))) (from ! (stop !)) (init ! 8 refl (LL.lawful Session-t.the-type Session-l.the-laws 𝓤 H A W .typed (getD (mapFirst (changedBy c) (u .i) ys-recs) (u .i) (blankAt 0)) _ is-look1 .0)) $
-          elem-back ! Session-t.the-row fullShare (mapFirst (changedBy c) (u .i) ys-recs) (u .i) (blankAt 0) ((LL.val Session-t.the-type Session-l.the-laws (getD (mapFirst (changedBy c) (u .i) ys-recs) (u .i) (blankAt 0))) ∷ []) b-recs o-recs (subst (λ (n : ℕ). (u .i) < n) (sym (length-map-first (changedBy c) (u .i) ys-recs)) (lt-of-lt-of-le h (subst (λ (k : ℕ). k ≤ length ys-recs) (sym e-lesser) (lesser-within n (length ys-recs))))) $
-          closes-slice ! tt Session-t.the-row (mapFirst (changedBy c) (u .i) ys-recs) (mapFirst (changedBy c) (u .i) ys-recs) refl b-recs o-recs $
+          move ! (29 ∷ 28 ∷ 30 ∷ []) $ opens-slice ! tt Session-t.the-row (u .at-recs) b-recs o-recs $
+          elem-out ! Session-t.the-row (Is Session-t.the-row) (shows 𝓤 H A Session-t.the-row) (LL.vals Session-t.the-type Session-l.the-laws) (LL.tells Session-t.the-type Session-l.the-laws) fullShare (u .at-recs) (u .i) (blankAt 0) b-recs o-recs (subst (λ (n : ℕ). (u .i) < n) (sym (u .len-at-recs)) (lt-of-lt-of-le h (subst (λ (k : ℕ). k ≤ length ys-recs) (sym e-lesser) (lesser-within n (length ys-recs))))) (λ is-look1.
+          assigns ! (of-opd ! (load ! (from ! (hop ! (look ! 10 refl) (stop !))) (look-raw ! 0 refl))) (from ! (stop !)) (init ! 8 refl (LL.lawful Session-t.the-type Session-l.the-laws 𝓤 H A W .typed (getD (u .at-recs) (u .i) (blankAt 0)) _ is-look1 .0)) $
+          elem-back ! Session-t.the-row fullShare (u .at-recs) (u .i) (blankAt 0) ((LL.val Session-t.the-type Session-l.the-laws (getD (u .at-recs) (u .i) (blankAt 0))) ∷ []) b-recs o-recs (subst (λ (n : ℕ). (u .i) < n) (sym (u .len-at-recs)) (lt-of-lt-of-le h (subst (λ (k : ℕ). k ≤ length ys-recs) (sym e-lesser) (lesser-within n (length ys-recs))))) $
+          closes-slice ! tt Session-t.the-row (u .at-recs) (u .at-recs) refl b-recs o-recs $
           -- _6 = _12
-          assigns ! (of-opd ! (load ! (from ! (stop !)) (look ! 5 refl))) (from ! (stop !)) (init ! 17 refl (LL.lawful Session-t.the-type Session-l.the-laws 𝓤 H A W .typed (getD (mapFirst (changedBy c) (u .i) ys-recs) (u .i) (blankAt 0)) _ is-look1 .0)) $
+          assigns ! (of-opd ! (load ! (from ! (stop !)) (look ! 5 refl))) (from ! (stop !)) (init ! 17 refl (LL.lawful Session-t.the-type Session-l.the-laws 𝓤 H A W .typed (getD (u .at-recs) (u .i) (blankAt 0)) _ is-look1 .0)) $
           -- _7 = changed(_6, _2)
           nothing ! $ nothing ! $ owned ! Change-t.the-row (Is Change-t.the-row) (EL.makes Change-t.the-type Change-l.the-plain 𝓤 H A) c _ is-c $ fjoin ! $
-          owned ! Session-t.the-row (Is Session-t.the-row) (LL.makes Session-t.the-type Session-l.the-plain 𝓤 H A) (getD (mapFirst (changedBy c) (u .i) ys-recs) (u .i) (blankAt 0)) _ is-look1 $ fjoin ! $ move ! (1 ∷ 0 ∷ []) $
-          use2 W (raw (c-changed 𝓤 H A mem run .pre ((tt, tt, tt, ((getD (mapFirst (changedBy c) (u .i) ys-recs) (u .i) (blankAt 0)), (c, tt)), ((LL.val Session-t.the-type Session-l.the-laws (getD (mapFirst (changedBy c) (u .i) ys-recs) (u .i) (blankAt 0))) ∷ [], (v-c ∷ [], tt))), tt))) (qed W ((‵ ftrue) ∷ ‵ (fsep (Session-t.the-row .own (getD (mapFirst (changedBy c) (u .i) ys-recs) (u .i) (blankAt 0)) ((LL.val Session-t.the-type Session-l.the-laws (getD (mapFirst (changedBy c) (u .i) ys-recs) (u .i) (blankAt 0))) ∷ [])) (fsep (Change-t.the-row .own c (v-c ∷ [])) ftrue)) ∷ []) ∵ join ! $ frame ! $ done !) $
-          calls-at ! fm (c-changed 𝓤 H A mem run) known-changed ((tt, tt, tt, ((getD (mapFirst (changedBy c) (u .i) ys-recs) (u .i) (blankAt 0)), (c, tt)), ((LL.val Session-t.the-type Session-l.the-laws (getD (mapFirst (changedBy c) (u .i) ys-recs) (u .i) (blankAt 0))) ∷ [], (v-c ∷ [], tt))), tt) (and-then ! (load ! (from ! (stop !)) (look ! 18 refl)) (and-then ! (load ! (from ! (stop !)) (look ! 26 refl)) (no-more !))) (λ w-changed.
-          use1 W (later (some (λ (r-changed : Session). ((‵ ftrue) ⊛ ‵ (Session-t.the-row .own r-changed (w-changed ∷ []))) ⊛ raw (ensured 𝓤 H A c-changed′.ended (c-changed′.clauses 𝓤 H A mem run) tt ((getD (mapFirst (changedBy c) (u .i) ys-recs) (u .i) (blankAt 0)), (c, tt)) tt r-changed)))) (id⊢ 𝓤 _) $ await ! tt $
+          owned ! Session-t.the-row (Is Session-t.the-row) (LL.makes Session-t.the-type Session-l.the-plain 𝓤 H A) (getD (u .at-recs) (u .i) (blankAt 0)) _ is-look1 $ fjoin ! $ move ! (1 ∷ 0 ∷ []) $
+          use2 W (raw (c-changed 𝓤 H A mem run .pre ((tt, tt, tt, ((getD (u .at-recs) (u .i) (blankAt 0)), (c, tt)), ((LL.val Session-t.the-type Session-l.the-laws (getD (u .at-recs) (u .i) (blankAt 0))) ∷ [], (v-c ∷ [], tt))), tt))) (qed W ((‵ ftrue) ∷ ‵ (fsep (Session-t.the-row .own (getD (u .at-recs) (u .i) (blankAt 0)) ((LL.val Session-t.the-type Session-l.the-laws (getD (u .at-recs) (u .i) (blankAt 0))) ∷ [])) (fsep (Change-t.the-row .own c (v-c ∷ [])) ftrue)) ∷ []) ∵ join ! $ frame ! $ done !) $
+          calls-at ! fm (c-changed 𝓤 H A mem run) known-changed ((tt, tt, tt, ((getD (u .at-recs) (u .i) (blankAt 0)), (c, tt)), ((LL.val Session-t.the-type Session-l.the-laws (getD (u .at-recs) (u .i) (blankAt 0))) ∷ [], (v-c ∷ [], tt))), tt) (and-then ! (load ! (from ! (stop !)) (look ! 18 refl)) (and-then ! (load ! (from ! (stop !)) (look ! 26 refl)) (no-more !))) (λ w-changed.
+          use1 W (later (some (λ (r-changed : Session). ((‵ ftrue) ⊛ ‵ (Session-t.the-row .own r-changed (w-changed ∷ []))) ⊛ raw (ensured 𝓤 H A c-changed′.ended (c-changed′.clauses 𝓤 H A mem run) tt ((getD (u .at-recs) (u .i) (blankAt 0)), (c, tt)) tt r-changed)))) (id⊢ 𝓤 _) $ await ! tt $
           pick ! (λ r-changed. split ! $ move ! (1 ∷ []) $
-          use1 W (some (λ (z-changed : (Unit {0}) × ((Unit {0}) × Unit {0})). ‵ (lasts c-changed′.ended tt ((getD (mapFirst (changedBy c) (u .i) ys-recs) (u .i) (blankAt 0)), (c, tt)) z-changed) ⊛ raw (fact 𝓤 (r-changed ≡ changedBy c (getD (mapFirst (changedBy c) (u .i) ys-recs) (u .i) (blankAt 0)))))) (id⊢ 𝓤 _) $
-          pick ! (λ z-changed. split ! $ move ! (1 ∷ []) $ heard ! (r-changed ≡ changedBy c (getD (mapFirst (changedBy c) (u .i) ys-recs) (u .i) (blankAt 0))) (λ e-changed. fsplit ! $ drop ! $ fsplit ! $ drop ! $ drop ! $ split ! $ drop ! $
+          use1 W (some (λ (z-changed : (Unit {0}) × ((Unit {0}) × Unit {0})). ‵ (lasts c-changed′.ended tt ((getD (u .at-recs) (u .i) (blankAt 0)), (c, tt)) z-changed) ⊛ raw (fact 𝓤 (r-changed ≡ changedBy c (getD (u .at-recs) (u .i) (blankAt 0)))))) (id⊢ 𝓤 _) $
+          pick ! (λ z-changed. split ! $ move ! (1 ∷ []) $ heard ! (r-changed ≡ changedBy c (getD (u .at-recs) (u .i) (blankAt 0))) (λ e-changed. fsplit ! $ drop ! $ fsplit ! $ drop ! $ drop ! $ split ! $ drop ! $
           peeks ! Session-t.the-row (Is Session-t.the-row) (shows 𝓤 H A Session-t.the-row) r-changed (w-changed ∷ []) (λ is-changed.
           land ! (from ! (stop !)) (init ! 16 refl (LL.lawful Session-t.the-type Session-l.the-laws 𝓤 H A W .typed r-changed _ is-changed .0)) $ drop ! $
           -- _10 = _5 mul 48
@@ -165,26 +165,24 @@ module _ {M : Type 1} (𝓤 : URA M) (H : Heap 𝓤) (A : Atoms 𝓤) (W : Given
           assigns ! (bin ! (load ! (from ! (fld ! refl (stop !))) (look-in ! 27 (sub ! 0 refl (whole !)))) (load ! (from ! (stop !)) (look ! 9 refl)) tt) (from ! (stop !)) (init ! 3 refl (tt, tt)) $
           rewrite ! 3 (λ (n : ℕ). ‵ (fat fullShare tyPtr l₁₃ 0 (vptr b-recs n))) (sym (place-is 48 o-recs (u .i))) refl $
           -- _13.* = _7
-          opens-slice ! tt Session-t.the-row (mapFirst (changedBy c) (u .i) ys-recs) b-recs o-recs $
-          elem-out ! Session-t.the-row (Is Session-t.the-row) (shows 𝓤 H A Session-t.the-row) (LL.vals Session-t.the-type Session-l.the-laws) (LL.tells Session-t.the-type Session-l.the-laws) fullShare (mapFirst (changedBy c) (u .i) ys-recs) (u .i) r-changed b-recs o-recs (subst (λ (n : ℕ). (u .i) < n) (sym (length-map-first (changedBy c) (u .i) ys-recs)) (lt-of-lt-of-le h (subst (λ (k : ℕ). k ≤ length ys-recs) (sym e-lesser) (lesser-within n (length ys-recs))))) (λ _.
+          opens-slice ! tt Session-t.the-row (u .at-recs) b-recs o-recs $
+          elem-out ! Session-t.the-row (Is Session-t.the-row) (shows 𝓤 H A Session-t.the-row) (LL.vals Session-t.the-type Session-l.the-laws) (LL.tells Session-t.the-type Session-l.the-laws) fullShare (u .at-recs) (u .i) r-changed b-recs o-recs (subst (λ (n : ℕ). (u .i) < n) (sym (u .len-at-recs)) (lt-of-lt-of-le h (subst (λ (k : ℕ). k ≤ length ys-recs) (sym e-lesser) (lesser-within n (length ys-recs))))) (λ _.
           assigns ! (of-opd ! (load ! (from ! (stop !)) (look ! 18 refl))) (from ! (hop ! (look ! 6 refl) (stop !))) (store-raw ! 0 refl (LL.lawful Session-t.the-type Session-l.the-laws 𝓤 H A W .typed r-changed _ is-changed .0)) $ move ! (1 ∷ []) $ drop ! $ owned ! Session-t.the-row (Is Session-t.the-row) (LL.makes Session-t.the-type Session-l.the-plain 𝓤 H A) r-changed _ is-changed $ move ! (1 ∷ 0 ∷ []) $
-          elem-put ! Session-t.the-row fullShare (mapFirst (changedBy c) (u .i) ys-recs) (u .i) r-changed (w-changed ∷ []) b-recs o-recs (subst (λ (n : ℕ). (u .i) < n) (sym (length-map-first (changedBy c) (u .i) ys-recs)) (lt-of-lt-of-le h (subst (λ (k : ℕ). k ≤ length ys-recs) (sym e-lesser) (lesser-within n (length ys-recs))))) $
-          closes-slice ! tt Session-t.the-row (mapFirst (changedBy c) (u .i) ys-recs) (set (mapFirst (changedBy c) (u .i) ys-recs) (u .i) r-changed) (length-set (mapFirst (changedBy c) (u .i) ys-recs) (u .i) r-changed) b-recs o-recs $
-          rewrite ! 0 (λ (zs : List Session). ‵ (fobs γ-recs (codedHoleys Session-t.the-row .code (heres Session-t.the-row zs)))) (ap (λ (z : Session). set (mapFirst (changedBy c) (u .i) ys-recs) (u .i) z) e-changed ∙ map-step (changedBy c) (u .i) ys-recs (blankAt 0)) refl $
-          rewrite ! 1 (λ (zs : List Session). ‵ (fbor κ₀ (Held Session-t.the-row (length zs) b-recs o-recs γ-recs))) (ap (λ (z : Session). set (mapFirst (changedBy c) (u .i) ys-recs) (u .i) z) e-changed ∙ map-step (changedBy c) (u .i) ys-recs (blankAt 0)) refl $
+          elem-put ! Session-t.the-row fullShare (u .at-recs) (u .i) r-changed (w-changed ∷ []) b-recs o-recs (subst (λ (n : ℕ). (u .i) < n) (sym (u .len-at-recs)) (lt-of-lt-of-le h (subst (λ (k : ℕ). k ≤ length ys-recs) (sym e-lesser) (lesser-within n (length ys-recs))))) $
+          closes-slice ! tt Session-t.the-row (u .at-recs) (set (u .at-recs) (u .i) r-changed) (length-set (u .at-recs) (u .i) r-changed) b-recs o-recs $
           -- _5 = _5 add 1
           assigns-last ! (bin ! (load ! (from ! (stop !)) (look ! 19 refl)) (lit ! tt) (record { fits = (next-word r-lesser (u .i) (is-lesser .1) h) })) (from ! (stop !)) (overwrite ! 19 refl (tt, record { fits = (next-word r-lesser (u .i) (is-lesser .1) h) })) $
           forget ! 3 refl $ forget ! 5 refl $ forget ! 7 refl $ forget ! 9 refl $ forget ! 11 refl $ forget ! 15 refl $ forget ! 17 refl $
-          move ! (3 ∷ 4 ∷ 5 ∷ 6 ∷ 7 ∷ 8 ∷ 9 ∷ 10 ∷ 11 ∷ 12 ∷ 13 ∷ 14 ∷ 15 ∷ 16 ∷ 17 ∷ 18 ∷ 19 ∷ 20 ∷ 21 ∷ 22 ∷ 23 ∷ 24 ∷ 25 ∷ 26 ∷ 27 ∷ 28 ∷ 29 ∷ 30 ∷ 1 ∷ 0 ∷ 2 ∷ []) $ again ! Nearer At u (next u h) (add-one-dec r-lesser (u .i) h)))))))))
+          move ! (3 ∷ 4 ∷ 5 ∷ 6 ∷ 7 ∷ 8 ∷ 9 ∷ 10 ∷ 11 ∷ 12 ∷ 13 ∷ 14 ∷ 15 ∷ 16 ∷ 17 ∷ 18 ∷ 19 ∷ 20 ∷ 21 ∷ 22 ∷ 23 ∷ 24 ∷ 25 ∷ 26 ∷ 27 ∷ 28 ∷ 29 ∷ 30 ∷ 1 ∷ 0 ∷ 2 ∷ []) $
+          again ! Nearer At u (record { i = u .i + 1; le = add-one-le h; at-recs = (set (u .at-recs) (u .i) r-changed); len-at-recs = ((length-set (u .at-recs) (u .i) r-changed) ∙ (u .len-at-recs)); held = ap (λ (z : Session). set (u .at-recs) (u .i) z) e-changed ∙ ap (λ (l : List Session). set l (u .i) (changedBy c (getD l (u .i) (blankAt 0)))) (u .held) ∙ map-step (changedBy c) (u .i) ys-recs (blankAt 0) }) (add-one-dec r-lesser (u .i) h)))))))))
           (λ over. let end = le-antisymm (u .le) (nltb→le (u .i) r-lesser over) in jumps ! $ exec ! C Λ En mir.t-5 (atRet En Post) $
           -- _0 = ()
           assigns ! (of-opd ! (unit-lit !)) (from ! (stop !)) (init ! 26 refl (tt, tt)) $
           -- return
           returns ! (look ! 26 refl) $ forget ! 8 refl $ forget ! 10 refl $ forget ! 16 refl $ forget ! 18 refl $ forget ! 20 refl $ forget ! 22 refl $ forget ! 24 refl $ forget ! 26 refl $
           move ! (26 ∷ 27 ∷ []) $ free1 ! $ move ! (24 ∷ 25 ∷ []) $ free1 ! $ move ! (22 ∷ 23 ∷ []) $ free1 ! $ move ! (20 ∷ 21 ∷ []) $ free1 ! $ move ! (18 ∷ 19 ∷ []) $ free1 ! $ move ! (16 ∷ 17 ∷ []) $ free1 ! $ move ! (14 ∷ 15 ∷ []) $ free1 ! $ move ! (12 ∷ 13 ∷ []) $ free1 ! $ move ! (10 ∷ 11 ∷ []) $ free1 ! $ move ! (8 ∷ 9 ∷ []) $ free1 ! $ move ! (6 ∷ 7 ∷ []) $ free1 ! $ move ! (4 ∷ 5 ∷ []) $ free1 ! $ move ! (2 ∷ 3 ∷ []) $ free1 ! $ free1 ! $ free0 ! $
-          drop ! $ use1 W (‵ (finally Session-t.the-row (recs .name) (mapFirst (changedBy c) (u .i) ys-recs))) (gives-up-obs 𝓤 H A W (named 0) κ₀ Session-t.the-row γ-recs (mapFirst (changedBy c) (u .i) ys-recs)) $
-          owned ! Nothing (Is Nothing) (nothing-makes 𝓤 H A W) tt _ refl $ nothing ! $ move ! (3 ∷ 0 ∷ []) $ join ! $ keep ! (0 ∷ 2 ∷ 1 ∷ []) $
-          by ! (exits tt vunit (mapFirst (changedBy c) (u .i) ys-recs) (ap (λ (k : ℕ). mapFirst (changedBy c) k ys-recs) (end ∙ e-lesser) ∙ first-lesser (changedBy c) n ys-recs) (length-map-first (changedBy c) (u .i) ys-recs)))
+          drop ! $ use1 W (‵ (finally Session-t.the-row (recs .name) (u .at-recs))) (gives-up-obs 𝓤 H A W (named 0) κ₀ Session-t.the-row γ-recs (u .at-recs)) $ owned ! Nothing (Is Nothing) (nothing-makes 𝓤 H A W) tt _ refl $ nothing ! $
+          move ! (3 ∷ 0 ∷ []) $ join ! $ keep ! (0 ∷ 2 ∷ 1 ∷ []) $ by ! (exits tt vunit (u .at-recs) ((u .held) ∙ ap (λ (k : ℕ). mapFirst (changedBy c) k ys-recs) (end ∙ e-lesser) ∙ first-lesser (changedBy c) n ys-recs) (u .len-at-recs)))
 
     abbrev Start : List (Item 𝓤)
     Start = ‵ (froom tyPtr l₁₃ 0) ∷ ‵ (fdies tyPtr l₁₃) ∷ ‵ (froom Session-l.mir l₁₂ 0) ∷ ‵ (fdies Session-l.mir l₁₂) ∷ ‵ (froom tyPtr l₁₁ 0) ∷ ‵ (fdies tyPtr l₁₁) ∷ ‵ (froom (tyInt w64) l₁₀ 0) ∷ ‵ (fdies (tyInt w64) l₁₀) ∷ ‵ (froom tyBool l₉ 0) ∷ ‵ (fdies tyBool l₉) ∷ ‵ (froom (tyInt w64) l₈ 0) ∷ ‵ (fdies (tyInt w64) l₈) ∷ ‵ (froom Session-l.mir l₇ 0) ∷ ‵ (fdies Session-l.mir l₇) ∷ ‵ (froom Session-l.mir l₆ 0) ∷ ‵ (fdies Session-l.mir l₆) ∷ ‵ (froom (tyInt w64) l₅ 0) ∷ ‵ (fdies (tyInt w64) l₅) ∷ ‵ (froom (tyInt w64) l₄ 0) ∷ ‵ (fdies (tyInt w64) l₄) ∷ ‵ (fat fullShare (tyInt w64) l₃ 0 v-n) ∷ ‵ (fdies (tyInt w64) l₃) ∷ ‵ (fat fullShare Change-l.mir l₂ 0 v-c) ∷ ‵ (fdies Change-l.mir l₂) ∷ ‵ (fat fullShare (sliceTy (tyRef (named 0) mut (pointee (Session-t.the-row .written)))) l₁ 0 v-recs) ∷ ‵ (fdies (sliceTy (tyRef (named 0) mut (pointee (Session-t.the-row .written)))) l₁) ∷ ‵ (froom tyUnit l₀ 0) ∷ ‵ (fdies tyUnit l₀) ∷ ‵ (fbor κ₀ (Held Session-t.the-row (length ys-recs) b-recs o-recs γ-recs)) ∷ ‵ (fobs γ-recs (codedHoleys Session-t.the-row .code (heres Session-t.the-row ys-recs))) ∷ ‵ (flft κ₀ q₀) ∷ []
@@ -207,9 +205,7 @@ module _ {M : Type 1} (𝓤 : URA M) (H : Heap 𝓤) (A : Atoms 𝓤) (W : Given
         assigns ! (of-opd ! (lit ! tt)) (from ! (stop !)) (init ! 16 refl (tt, record { fits = lit< tt })) $
         -- block
         rewrite ! 18 (λ (v : Val). ‵ (fat fullShare (tyInt w64) l₄ 0 v)) (ap only (uint-tells w64 r-lesser _ is-lesser)) refl $
-        rewrite ! 29 (λ (zs : List Session). ‵ (fobs γ-recs (codedHoleys Session-t.the-row .code (heres Session-t.the-row zs)))) (sym (map-none (changedBy c) ys-recs)) refl $
-        rewrite ! 28 (λ (zs : List Session). ‵ (fbor κ₀ (Held Session-t.the-row (length zs) b-recs o-recs γ-recs))) (sym (map-none (changedBy c) ys-recs)) refl $
-        first ! $ blocks ! $ loops ! 𝓣 (Nearer w-lesser r-lesser e-lesser is-lesser) (Nearer-wf w-lesser r-lesser e-lesser is-lesser) (At w-lesser r-lesser e-lesser is-lesser) (turns w-lesser r-lesser e-lesser is-lesser) (record { i = 0; le = zero-le }))))))
+        first ! $ blocks ! $ loops ! 𝓣 (Nearer w-lesser r-lesser e-lesser is-lesser) (Nearer-wf w-lesser r-lesser e-lesser is-lesser) (At w-lesser r-lesser e-lesser is-lesser) (turns w-lesser r-lesser e-lesser is-lesser) (record { i = 0; le = zero-le; at-recs = ys-recs; len-at-recs = refl; held = sym (map-none (changedBy c) ys-recs) }))))))
 
   walk : (𝓣 : Tables 𝓤 H) → Triple 𝓤 (𝓣 .C #lentedit·lesser) (c-lesser 𝓤 H A mem run) → Triple 𝓤 (𝓣 .C #table·changed) (c-changed 𝓤 H A mem run) → Room Session-t.the-row (length (recs .now)) → Is Change-t.the-row c (v-c ∷ []) → Is usize n (v-n ∷ []) → ent 𝓤 (onEntry 𝓤 H A entry′.signature (κ₀, tt) (q₀, tt) a at) (WpFn 𝓤 H (𝓣 .C) (𝓣 .Λ) code.function (v-recs ∷ v-c ∷ v-n ∷ []) Post)
   walk 𝓣 known-lesser known-changed room-recs is-c is-n =
