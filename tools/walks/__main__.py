@@ -66,13 +66,16 @@ class Repository:
         return found
 
     def program(self, crate):
-        """The MIR of a crate."""
+        """The MIR of a crate, which is asked for once, also where `rt` refuses it."""
         if crate not in self._programs:
-            self._programs[crate] = Program(self._mir(crate))
+            text = self._mir(crate)
+            self._programs[crate] = Program(text) if text else None
+        if self._programs[crate] is None:
+            raise Refusal(f"rt mir {crate} failed")
         return self._programs[crate]
 
     def _mir(self, crate):
-        """What `rt mir` prints of a crate, now or when its sources were last the same."""
+        """What `rt mir` prints of a crate, now or when its sources were last the same; None where it fails."""
         kept = f"{self.mir_folder}/{crate}.mir" if self.mir_folder else None
         digest = self._digest(crate)
         if kept and os.path.exists(kept):
@@ -82,7 +85,7 @@ class Repository:
         ran = subprocess.run(["rt", "mir", crate], capture_output=True, encoding="utf-8", cwd=self.root)
         if ran.returncode:
             print(ran.stdout + ran.stderr)
-            raise Refusal(f"rt mir {crate} failed")
+            return None
         if kept:
             os.makedirs(self.mir_folder, exist_ok=True)
             write(kept, f"{digest}\n{ran.stdout}")
@@ -146,6 +149,7 @@ def tell_facts(walk):
 
 def handle(repository, mode, crate, function):
     """Does what was asked for one walk; gives whether it stands."""
+    walk = None
     try:
         walk = repository.walk(crate, function)
         if mode == "--facts":
@@ -155,7 +159,11 @@ def handle(repository, mode, crate, function):
         return hold(path, Proof(walk).text(), mode, f"{crate}/{function}")
     except Refusal as refusal:
         print(f"{crate}/{function}: {refusal}")
-        return False
+    except (LookupError, TypeError, AttributeError, ValueError) as error:
+        # a term of the MIR that is built otherwise than any that was met so far
+        noted = [line for line in walk.lines if line.startswith("-- ")] if walk else []
+        print(f"{crate}/{function}: a form that is not covered, at `{''.join(noted[-1:])[3:]}` ({error!r})")
+    return False
 
 
 def main(arguments):

@@ -4,10 +4,8 @@ from .elements import index_proof, offset_base
 from .exits import walk_return
 from .mir import Refusal, is_operation, is_statement, local_of, place, statement_text, statements
 from .owned import items
-from .parameters import Value
-from .statements import truth, walk_assignment
-from .text import address, addresses, after_blank
-from .valuetypes import Boolean
+from .statements import spell, walk_assignment
+from .text import addresses, after_blank
 
 
 def walk_body(walk, body, walk_loop):
@@ -38,14 +36,11 @@ def walk_statement(walk, statement):
 def walk_test(walk, operand):
     """Writes a branch's test, spelled out; gives its term."""
     local, path = place(operand[1])
-    held = walk.now.values[local]
-    spelled = held.machine.startswith("(vbool")
-    if isinstance(held, Value) and isinstance(held.type, Boolean) and not path and not spelled:
-        cell = f"(λ (u : Val). ‵ (fat fullShare tyBool {address(local)} 0 u))"
-        walk.step(f"rewrite ! {walk.position(f'c{local}')} {cell} (ap only {held.proof}) refl $")
-        walk.now.values[local] = truth(held.term)
+    if path:
+        raise Refusal(f"a branch on {operand}")
+    spell(walk, local)
     walk.step(f"first ! $ branches ! {walk.load(operand)}")
-    return held.term
+    return walk.now.values[local].term
 
 
 def environment(walk):

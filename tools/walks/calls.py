@@ -21,6 +21,8 @@ class CallWalk:
         self.target, target_path = place(statement[3])
         if target_path:
             raise Refusal(statement_text(statement))
+        if self.path == walk.function.path:
+            raise Refusal("a call of itself")
         if walk.calls.setdefault(self.base, self.path) != self.path:
             raise Refusal(f"two callees named {self.base}")
         walk.names.called_uses.update(self.contract.uses)
@@ -225,15 +227,18 @@ class CallWalk:
         walk, label = self.walk, self.label
         walk.facts += [f"r-{label} : {self.result.denotation}"] + ([f"e-{label} : {fact}"] if fact else [])
         walk.facts += [f"{{{spoken}.{name}}} : {kind.last}" for _, name, kind in self.parameters if kind.mutable]
-        if walk.loop is None and not walk.in_arm:
-            is_answer = f"Is {self.result.row} r-{label} (w-{label} ∷ [])"
-            walk.binders += [(f"w-{label}", "Val"), (f"r-{label}", self.result.denotation)]
-            if self.lasts:
-                walk.binders.append((f"z-{label}", last_types))
-            walk.binders += ([(f"e-{label}", fact)] if fact else []) + [(f"is-{label}", is_answer)]
-            walk.binders += [(f"len-{label}-{name}", f"length {self.lasts[name]} ≡ length ({argument.referred})")
-                             for (_, name, kind), argument in zip(self.parameters, self.arguments)
-                             if kind.mutable and kind.slice]
+        walk.bind_later(f"w-{label}", "Val")
+        walk.bind_later(f"r-{label}", self.result.denotation)
+        if self.lasts:
+            walk.bind_later(f"z-{label}", last_types)
+        if fact:
+            walk.bind_later(f"e-{label}", fact)
+        walk.bind_later(f"is-{label}", f"Is {self.result.row} r-{label} (w-{label} ∷ [])")
+        for (_, name, kind), argument in zip(self.parameters, self.arguments):
+            if kind.mutable and kind.slice:
+                same = f"length {self.lasts[name]} ≡ length ({argument.referred})"
+                walk.bind_later(f"len-{label}-{name}", same)
+                walk.facts.append(f"len-{label}-{name} : {same}")
 
     def _land(self):
         """Takes the last values and the tokens apart, and stores the answer."""

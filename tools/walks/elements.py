@@ -128,7 +128,10 @@ def _scale(walk, statement):
 def _point(walk, statement):
     """x = address + index * size"""
     local, value = place(statement[1])[0], statement[2]
-    held, scaled = walk.now.values[local_of(value[2])], walk.now.values[local_of(value[3])]
+    held = walk.now.values[local_of(value[2])]
+    scaled = walk.now.values[local_of(value[3])] if is_read(value[3]) else None
+    if not isinstance(scaled, Scaled):
+        raise Refusal("a part of a slice that is no call's answer")
     row = row_of(walk, held.param if isinstance(held, Lent) else held.local)
     walk.assigns(f"(bin ! {walk.load(value[2])} {walk.load(value[3])} tt)", local, "(tt, tt)")
     cell = f"(λ (n : ℕ). ‵ (fat fullShare tyPtr {address(local)} 0 (vptr {row.block} n)))"
@@ -212,8 +215,7 @@ def _read(walk, statement):
     walk.becomes(taken, opened)
     loaded = f"(load ! (from ! (hop ! (look ! {walk.position(f'c{pointer}')} refl) (stop !))) (look-raw ! 0 refl))"
     walk.assigns(f"(of-opd ! {loaded})", local, row.of.typed(term, known))
-    if not walk.function.has_loop and not walk.in_arm:
-        walk.binders.append((known, f"Is {row.of.row} {term} ({machine} ∷ [])"))
+    walk.bind_later(known, f"Is {row.of.row} {term} ({machine} ∷ [])")
     back = f"{row.list} {index} {default} ({machine} ∷ []) {row.memory} {within}"
     walk.step(f"elem-back ! {row.of.row} {share} {back} $")
     walk.now.values[local] = Value(term, machine, row.of, known)

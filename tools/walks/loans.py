@@ -209,3 +209,4 @@ class ArrayLoan:
         walk.binds(f"learn ! (λ {self.known}.")
         walk.becomes(len(things), [f"c{self.local}"])
         walk.now.values[self.local] = Value(held, f"(only {machines})", value.type, self.known)
+        walk.bind_later(self.known, f"Is {value.type.row} {held} {machines}")

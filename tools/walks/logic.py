@@ -58,7 +58,7 @@ PRELUDE = {
     "denote.Triple.Clauses": "ensured lasts",
     "denote.Triple.Table": "entered cited",
     "denote.Triple.Walked": (
-        "says Stays stay-dropped gave-slice gave-ref walkOf goes-dropped goes-gave-slice goes-gave-ref "
+        "says needs Stays stay-dropped gave-slice gave-ref walkOf goes-dropped goes-gave-slice goes-gave-ref "
         "Walks ends-at walked walk-meets"),
     "denote.Index": (
         "row place-is elem-out elem-back elem-put opens-slice closes-slice looks-slice shuts-slice"),

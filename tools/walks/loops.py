@@ -1,4 +1,4 @@
-"""A loop `while i < n { .. i += 1; }`: a turn is a lemma over a state, the count of turns made and what they have changed.
+"""A loop `while i < n { .. i += 1; }`: a turn is a lemma over a state, the count of turns and what they have changed.
 
 What a turn changes is read off the MIR: plain locals that are stored to and read again, lists of lent slices, local
 arrays (lent, or held as a row of elements). The state has a value for each, with what has to be known of it; the
@@ -8,10 +8,11 @@ from dataclasses import dataclass
 
 from .branches import walk_branch, walk_statement
 from .elements import split_own
-from .mir import (Refusal, element_bases, is_assigned, is_int, is_live, is_operation, is_statement, lent_mutably,
-                  local_of, statements)
+from .mir import (Refusal, element_bases, flat, is_assigned, is_int, is_live, is_operation, is_statement, lent_mutably,
+                  local_of, operand_text, sources, statements)
 from .owned import items
 from .parameters import Parameter, Value
+from .statements import spell
 from .text import address, after_blank
 from .valuetypes import Array, Number
 
@@ -20,7 +21,7 @@ COUNT = "(u .i)"        # how many turns were made, in the lemma of a turn
 
 @dataclass
 class Carried:
-    """A thing that turns change: a plain local (its number), or the list of a slice (its parameter) or row (its local)."""
+    """A thing that turns change: a plain local (its number), the list of a slice (its parameter) or row (its local)."""
 
     name: str
     of: object
@@ -48,9 +49,11 @@ class Loop:
         self.body = statements(statement[1][1])
         test, branch, step = self.body[0], self.body[1], self.body[-1]
         if not is_operation(test, "lt") or not is_statement(branch, "if") or branch[2] != "skip" \
-                or not is_operation(step, "add"):
+                or not is_operation(step, "add") or operand_text(step[2][3]) != "1":
             raise Refusal("a loop of another form than `while i < n { .. i += 1; }`")
         self.counter, self.limit = local_of(test[2][2]), test[2][3]
+        if local_of(step[2][2]) != self.counter or walk.now.values[self.counter].term != "0":
+            raise Refusal("a loop that does not count from 0")
         self.bases = element_bases(self.body)
 
     def run(self):
@@ -58,6 +61,7 @@ class Loop:
         walk = self.walk
         self._spell_limit()
         self._forget_unread()
+        self._spell_compared()
         self._rows_in()
         self._find_carried()
         self.order = walk.in_order()
@@ -81,20 +85,22 @@ class Loop:
             self.bound, self.fits = self.limit[2], "(lit< tt)"
             return
         local = local_of(self.limit)
-        value = walk.now.values[local]
         if is_assigned(self.body, local):
             raise Refusal("a loop whose limit changes")
-        if value.machine.startswith("(vint"):
-            # the proof is a pair, of which the second says that the number fits
-            self.fits = f"({value.proof.removeprefix('(refl, ').removesuffix(')')})"
-        else:
-            self.fits = f"({value.proof} .1)"
-            cell = f"(λ (v : Val). ‵ (fat fullShare (tyInt w{value.type.bits}) {address(local)} 0 v))"
-            spelled = f"(ap only ({value.type.tells} {value.term} _ {value.proof}))"
-            walk.step(f"rewrite ! {walk.position(f'c{local}')} {cell} {spelled} refl $")
-            machine = f"(vint w{value.type.bits} {value.term})"
-            walk.now.values[local] = Value(value.term, machine, value.type, f"(refl, {value.proof} .1)")
+        spell(walk, local)
+        value = walk.now.values[local]
+        # the proof of `Is` is a pair, of which the second says that the number fits
+        pair = value.proof.startswith("(refl, ")
+        self.fits = f"({value.proof.removeprefix('(refl, ').removesuffix(')')})" if pair else f"({value.proof} .1)"
         self.bound = value.term
+
+    def _spell_compared(self):
+        """Spells out what a turn compares or tests, so that it leaves these cells as they are."""
+        walk = self.walk
+        for statement in flat(self.body):
+            if is_statement(statement, "if") or is_statement(statement, "assign") and statement[2][0] == "op2":
+                for local in sources(statement) & walk.now.stored:
+                    spell(walk, local)
 
     def _forget_unread(self):
         """Makes locals hold nothing that are stored to before they are read, and those that hold an address."""

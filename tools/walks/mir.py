@@ -108,10 +108,10 @@ def target(statement):
 
 def sources(statement):
     """The locals that a statement reads, or through which it stores."""
-    if is_statement(statement, "call"):
+    if is_statement(statement, "call") or is_statement(statement, "assign"):
         read = repr(statement[2])
-    elif is_statement(statement, "assign"):
-        read = repr(statement[2])
+    elif is_statement(statement, "if"):
+        read = repr(statement[1])
     else:
         read = repr(statement)
     found = {int(k) for k in re.findall(r"'place', '(\d+)'", read)}

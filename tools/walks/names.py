@@ -8,7 +8,8 @@ from .text import bound_names, replaced, tokens
 
 # Names that a law may have and that are no import: of the walk's branches and loop, and of the language.
 LOCAL_NAMES = {
-    "LL", "EL", "Unit", "tt", "let", "in", "λ", "in-slice", "×", "Said", "h", "i", "u", "end", "held"}
+    "LL", "EL", "Unit", "tt", "let", "in", "λ", "in-slice", "×", "Said", "h", "i", "u", "end", "held",
+    "required"}
 LOCAL_FORM = re.compile(r"(r|e|z|w|is|len|ys|room|v|b|o|γ|at|val)-|(t|on|off)\d*$")
 NO_NAME = re.compile(r"[(){},;.:=→λ]|\d")
 

@@ -274,6 +274,10 @@ class Proof:
         lemma = f"(WpFn 𝓤 H {wrapped(calls)} {wrapped(loops)} code.function)"
         name = f"{self.fact_name}-walks"
         arguments, known = self._applied()
+        entered, closed = "via 𝓤 _ (fst∗ 𝓤 _ (emp 𝓤))", ")"
+        if self.walk.required:
+            known.append("required")
+            entered, closed = "needs 𝓤 _ _ (λ required.", "))"
         vals = tuple_of([param.type.vals for param in self.params])
         tells = tuple_of([param.type.tells for param in self.params])
         return [
@@ -282,8 +286,9 @@ class Proof:
             f"      → Walks 𝓤 H A entry′.ended stayed {lemma} {CLAUSES}",
             f"  {name} {given}{self.known_names()} = walked 𝓤 H A entry′.ended stayed {CLAUSES} {lemma}",
             f"      (λ κs. {vals}) (λ κs. {tells})",
-            "      (λ κs qs bounds a g are. via 𝓤 _ (fst∗ 𝓤 _ (emp 𝓤))",
-            f"      (walk 𝓤 H A W mem run {' '.join(arguments)} {given}{self.known_names()} {' '.join(known)}))", ""]
+            f"      (λ κs qs bounds a g are. {entered}",
+            f"      (walk 𝓤 H A W mem run {' '.join(arguments)} {given}{self.known_names()} {' '.join(known)}){closed}",
+            ""]
 
     def _applied(self):
         """What the walk is applied to: lifetimes, shares and parameters, and what is known of these."""

@@ -1,9 +1,9 @@
 """The state of a walk: what is owned at a point, what each local holds, and the lines that were written so far.
 
 What is owned is kept as labels, in the order in which the logic lists it: `c3` the cell of local 3, `d3` the right to
-free it, `t0` a lifetime's token, `own:recs` what a parameter or a part of one owns, `obs:recs` and `bor:recs` a slice's
-ghost value and its borrow (once it was split), `fin:recs` what says its last value. A step of the logic names what it
-takes by its place in that list.
+free it, `t0` a lifetime's token, `own:recs` what a parameter or a part of one owns, `obs:recs` and `bor:recs` the ghost
+value and the borrow of a slice (once it was split), `fin:recs` what says its last value. A step of the logic names what
+it takes by its place in that list.
 """
 import re
 from dataclasses import dataclass, field
@@ -25,7 +25,7 @@ class Moment:
     context: list = field(default_factory=list)     # the labels of what is owned
     stored: set = field(default_factory=set)        # the locals that hold something
     values: dict = field(default_factory=dict)      # what they hold
-    lists: dict = field(default_factory=dict)       # an opened slice's list now, and its length's proof (None: the first)
+    lists: dict = field(default_factory=dict)       # an opened slice's list, and its length's proof (None: the first)
     rows: dict = field(default_factory=dict)        # the same of local arrays that are held as a row of elements
     lasts: dict = field(default_factory=dict)       # last values, by the name that a law has for them
 
@@ -50,13 +50,12 @@ class Walk:
         self.contract = sources.contract(self.function.path)
         names.types = self.types.used
         names.own_uses = self.contract.uses
-        if self.contract.requires:
-            raise Refusal("a `requires` of its own")
         bases = element_bases(self.function.body)
         self.params = [Parameter(named, kind, number in bases) for number, (named, kind)
                        in enumerate(zip(self.contract.names, self.function.parameters), 1)]
         self._test_parameters()
         self.mutables = [param for param in self.params if param.type.mutable]
+        self.required = self._required()
         self.now = Moment()
         self.lines, self.depth = [], 0
         self.rest = []              # the statements behind the one that is walked
@@ -88,6 +87,15 @@ class Walk:
                 raise Refusal(f"the parameter `{param.name}` is a word of the walk or of the logic: name it otherwise")
         self.names.declared |= {param.name for param in self.params}
 
+    def _required(self):
+        """The fact that the function itself asks of its caller, or None."""
+        if not self.contract.requires:
+            return None
+        found = re.fullmatch(r"⌜(.*)⌝", self.contract.requires, re.S)
+        if not found:
+            raise Refusal("a `requires` of another form")
+        return self.names.bring(" ".join(found.group(1).split()), self.contract.uses)
+
     @property
     def callees(self):
         """The callees: their names in the logic, and their paths."""
@@ -103,6 +111,11 @@ class Walk:
         """Writes a step that opens a bracket, which stays open to the end."""
         self.lines.append(text)
         self.depth += 1
+
+    def bind_later(self, name, kind):
+        """Keeps a name that lemmas further on take; a name of an arm, or of a turn, is none."""
+        if self.loop is None and not self.in_arm:
+            self.binders.append((name, kind))
 
     def note(self, statement):
         """Writes the statement of the MIR that the next steps walk."""
@@ -245,7 +258,7 @@ class Walk:
         return None
 
     def local_name(self, local):
-        """The source's name of a local that has one: parameters come first, then each `let` in the order of the text."""
+        """The source's name of a local that has one: parameters first, then each `let` in the order of the text."""
         if local <= len(self.params):
             return self.params[local - 1].name
         # an array parameter that is looked into is copied to a local of its own first
@@ -261,4 +274,5 @@ class Walk:
 
     def hypotheses(self):
         """What is known of the parameters from the start."""
-        return [param.hypothesis for param in self.params if param.type.plain or param.type.slice]
+        known = [param.hypothesis for param in self.params if param.type.plain or param.type.slice]
+        return known + ([("required", self.required)] if self.required else [])

@@ -13,6 +13,24 @@ def truth(term):
     return Value(term, f"(vbool {term})", Boolean(), "refl")
 
 
+def spell(walk, local):
+    """Spells the machine value of a number or a bool out in the local's cell, as a comparison and a branch need it."""
+    value = walk.now.values[local]
+    if not isinstance(value, Value) or value.machine.startswith(("(vint", "(vbool")):
+        return
+    if isinstance(value.type, Boolean):
+        spelled, cell, proof = truth(value.term), "tyBool", f"(ap only {value.proof})"
+    elif isinstance(value.type, Number) and not value.machine.startswith("v-"):
+        machine = f"(vint w{value.type.bits} {value.term})"
+        spelled = Value(value.term, machine, value.type, f"(refl, {value.proof} .1)")
+        cell, proof = f"(tyInt w{value.type.bits})", f"(ap only ({value.type.tells} {value.term} _ {value.proof}))"
+    else:
+        return
+    cells = f"(λ (v : Val). ‵ (fat fullShare {cell} {address(local)} 0 v))"
+    walk.step(f"rewrite ! {walk.position(f'c{local}')} {cells} {proof} refl $")
+    walk.now.values[local] = spelled
+
+
 def literal(operand):
     """The value of a literal number."""
     bits, term = operand[1], operand[2]
@@ -70,6 +88,9 @@ def _comparison(walk, local, value):
     form = COMPARISONS.get(operator(value[1]))
     if form is None:
         return None
+    for side in value[2:4]:
+        if is_read(side) and not place(side[1])[1]:
+            spell(walk, local_of(side))
     sides = [side[2] if is_int(side) else walk.now.values[local_of(side)].term for side in value[2:4]]
     walk.assigns(f"(bin ! {walk.load(value[2])} {walk.load(value[3])} tt)", local, "(tt, tt)")
     return truth(form.format(*sides))
@@ -80,7 +101,7 @@ def _repeat(walk, local, value):
     operand, count = value[1], value[2]
     one = literal(operand) if is_int(operand) else walk.now.values[local_of(operand)]
     kind = walk.types.read(walk.function.locals[local])
-    term = f"(replicate {count} {one.term})"
+    term = f"(replicate {{A = {kind.of.denotation}}} {count} {one.term})"
     machine = f"(vstruct (ofList (replicate {count} {one.machine})))"
     walk.names.kit.add("Arrays")
     proof = f"(repeat-is {kind.of.row} {one.term} {one.machine} {one.proof} {count})"
@@ -114,8 +135,10 @@ def _slice(walk, local, value):
     held = walk.now.values[local_of(base)]
     if isinstance(held, ArrayAddress):
         fits, result = "lit< tt", ArrayAddress(held.local, f"(sliceVal ({address(held.local)}, 0) {length[2]})")
-    else:
+    elif held.param.type.slice:
         fits, result = f"{held.param.room} .0", Lent(held.param)
+    else:
+        return None
     parts = f"(and-then ! {walk.load(base)} (and-then ! {walk.load(length)} (no-more !)))"
     walk.assigns(f"(agg ! {parts})", local, f"(tt, (tt, (record {{ fits = {fits} }}, tt)))")
     return result

@@ -152,7 +152,7 @@ module _ {M : Type 1} (𝓤 : URA M) (H : Heap 𝓤) (A : Atoms 𝓤) (W : Given
           -- _6 = _4
           assigns ! (of-opd ! (load ! (from ! (stop !)) (look ! 18 refl))) (from ! (stop !)) (overwrite ! 14 refl (bool-lawful 𝓤 H A W .typed r-is-free _ is-is-free .0)) $
           -- if _6
-          rewrite ! 14 (λ (u : Val). ‵ (fat fullShare tyBool l₆ 0 u)) (ap only is-is-free) refl $ first ! $ branches ! (load ! (from ! (stop !)) (look ! 14 refl)) (λ on2. let t2 = on-true r-is-free on2 in
+          rewrite ! 14 (λ (v : Val). ‵ (fat fullShare tyBool l₆ 0 v)) (ap only is-is-free) refl $ first ! $ branches ! (load ! (from ! (stop !)) (look ! 14 refl)) (λ on2. let t2 = on-true r-is-free on2 in
           -- _9 = _2 mul 48
           assigns ! (bin ! (load ! (from ! (stop !)) (look ! 22 refl)) (lit ! tt) (record { fits = (fits-48 (length ys-recs) i (room-recs .1) (in-slice)) })) (from ! (stop !)) (init ! 8 refl (tt, record { fits = (fits-48 (length ys-recs) i (room-recs .1) (in-slice)) })) $
           -- _10 = _1.0 offset _9

@@ -179,7 +179,7 @@ module _ {M : Type 1} (𝓤 : URA M) (H : Heap 𝓤) (A : Atoms 𝓤) (W : Given
         -- _10 = _8
         assigns ! (of-opd ! (load ! (from ! (stop !)) (look ! 6 refl))) (from ! (stop !)) (init ! 2 refl (bool-lawful 𝓤 H A W .typed r-waiting _ is-waiting .0)) $
         -- if _10
-        rewrite ! 2 (λ (u : Val). ‵ (fat fullShare tyBool l₁₀ 0 u)) (ap only is-waiting) refl $ first ! $ branches ! (load ! (from ! (stop !)) (look ! 2 refl)) (λ on. let t = on-true r-waiting on in
+        rewrite ! 2 (λ (v : Val). ‵ (fat fullShare tyBool l₁₀ 0 v)) (ap only is-waiting) refl $ first ! $ branches ! (load ! (from ! (stop !)) (look ! 2 refl)) (λ on. let t = on-true r-waiting on in
         -- _9 = awaited(_2, _8)
         move ! (1 ∷ []) $ use1 W (‵ Own-recs ⊛ ‵ Own-recs) (shr-slice-copy 𝓤 H A W (named 0) κ₀ Session-t.the-row .twice recs (v-recs ∷ [])) $ split ! $ nothing ! $ move ! (3 ∷ 0 ∷ []) $ join ! $ nothing ! $
         owned ! bool (Is bool) (bool-makes 𝓤 H A W) r-waiting _ is-waiting $ fjoin ! $ move ! (3 ∷ 0 ∷ []) $ fjoin ! $ move ! (1 ∷ 0 ∷ []) $
