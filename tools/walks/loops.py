@@ -21,7 +21,7 @@ COUNT = "(u .i)"        # how many turns were made, in the lemma of a turn
 
 @dataclass
 class Carried:
-    """A thing that turns change: a plain local (its number), the list of a slice (its parameter) or row (its local)."""
+    """A thing that turns change: a plain local (its number), the list of a slice (parameter) or row (local)."""
 
     name: str
     of: object

@@ -278,6 +278,7 @@ class Proof:
         if self.walk.required:
             known.append("required")
             entered, closed = "needs 𝓤 _ _ (λ required.", "))"
+        known = " ".join(known)
         vals = tuple_of([param.type.vals for param in self.params])
         tells = tuple_of([param.type.tells for param in self.params])
         return [
@@ -287,8 +288,7 @@ class Proof:
             f"  {name} {given}{self.known_names()} = walked 𝓤 H A entry′.ended stayed {CLAUSES} {lemma}",
             f"      (λ κs. {vals}) (λ κs. {tells})",
             f"      (λ κs qs bounds a g are. {entered}",
-            f"      (walk 𝓤 H A W mem run {' '.join(arguments)} {given}{self.known_names()} {' '.join(known)}){closed}",
-            ""]
+            f"      (walk 𝓤 H A W mem run {' '.join(arguments)} {given}{self.known_names()} {known}){closed}", ""]
 
     def _applied(self):
         """What the walk is applied to: lifetimes, shares and parameters, and what is known of these."""

@@ -1,9 +1,9 @@
 """The state of a walk: what is owned at a point, what each local holds, and the lines that were written so far.
 
-What is owned is kept as labels, in the order in which the logic lists it: `c3` the cell of local 3, `d3` the right to
-free it, `t0` a lifetime's token, `own:recs` what a parameter or a part of one owns, `obs:recs` and `bor:recs` the ghost
-value and the borrow of a slice (once it was split), `fin:recs` what says its last value. A step of the logic names what
-it takes by its place in that list.
+What is owned is kept as labels, in the order in which the logic lists it: `c3` the cell of local 3, `d3` the right
+to free it, `t0` a lifetime's token, `own:recs` what a parameter or a part of one owns, `obs:recs` and `bor:recs` the
+ghost value and the borrow of a slice (once it was split), `fin:recs` what says its last value. A step of the logic
+names what it takes by its place in that list.
 """
 import re
 from dataclasses import dataclass, field
