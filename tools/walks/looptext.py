@@ -1,5 +1,5 @@
 """The lemmas of a walk with a loop: its state, one turn, what comes before it, and the walk that enters them."""
-from .text import addresses
+from .text import addresses, spaced
 
 STATE = "      "
 
@@ -12,9 +12,9 @@ def loop_lemmas(proof, turn):
     cells = f"({addresses(proof.function.local_count)} : ℕ)"
     binders = " ".join(f"({name} : {kind})" for name, kind in walk.binders)
     lines = [
-        f"  module _ (𝓣 : Tables 𝓤 H) {proof.known('𝓣 .C')} {premises} {cells} where",
+        "  " + spaced("module _ (𝓣 : Tables 𝓤 H)", proof.known("𝓣 .C"), premises, cells, "where"),
         "    abbrev C : Calls 𝓤 H", "    C = 𝓣 .C", "", "    abbrev Λ : Loops 𝓤 H", "    Λ = 𝓣 .Λ", "",
-        "    abbrev En : Env 𝓤 H", f"    En = {proof.environment()}", "", f"    module _ {binders} where"]
+        "    abbrev En : Env 𝓤 H", f"    En = {proof.environment()}", "", "    " + spaced("module _", binders, "where")]
     lines += _state(loop)
     lines += [
         "      turns : (u : St) → Sq W (At u) (runs C Λ En mir.turn-1 (anyQ (Turned u)))", "      unfolding afterTurn",

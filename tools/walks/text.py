@@ -68,6 +68,11 @@ def dashed(name):
     return name.replace("_", "-")
 
 
+def spaced(*parts):
+    """The parts that are not empty, parted by blanks."""
+    return " ".join(part for part in parts if part)
+
+
 def after_blank(items):
     """The items, a blank before each."""
     return "".join(f" {item}" for item in items)
