@@ -14,7 +14,8 @@ def loop_lemmas(proof, turn):
     lines = [
         "  " + spaced("module _ (𝓣 : Tables 𝓤 H)", proof.known("𝓣 .C"), premises, cells, "where"),
         "    abbrev C : Calls 𝓤 H", "    C = 𝓣 .C", "", "    abbrev Λ : Loops 𝓤 H", "    Λ = 𝓣 .Λ", "",
-        "    abbrev En : Env 𝓤 H", f"    En = {proof.environment()}", "", "    " + spaced("module _", binders, "where")]
+        "    abbrev En : Env 𝓤 H", f"    En = {proof.environment()}", "",
+        "    " + spaced("module _", binders, "where")]
     lines += _state(loop)
     lines += [
         "      turns : (u : St) → Sq W (At u) (runs C Λ En mir.turn-1 (anyQ (Turned u)))", "      unfolding afterTurn",
