@@ -1,0 +1,1 @@
+"""The generator of walks: see README.md beside this file."""
