@@ -2,6 +2,7 @@
 -- Assumes nothing.
 use Prim.Native.Nat.{ℕ, _+_, _%_}
 use mathlib.Core.List.{List, []}
+use mathlib.Core.Path.{_≡_, ap}
 use lib.ListN.{length, set, replicate}
 use lib.Dec.{eqb, ltb, leb}
 use Rattle.octets.specs.Choice.{pick}
@@ -9,13 +10,16 @@ use Rattle.octets.specs.Overlay.{overlay}
 use Rattle.plan.specs.declared.AccessPoint.{AccessPoint}
 use Rattle.plan.specs.declared.Plan.{Plan}
 use Rattle.plan.specs.Limits.{noPoint}
+use Rattle.session.specs.declared.Session.{Session}
 use Rattle.table.specs.declared.Node.{Node}
 use Rattle.table.specs.Own.{freshNode}
+use Rattle.timing.specs.declared.Answer.{Answer}
+use Rattle.timing.specs.Outcome.{outcome, back}
 use Rattle.timing.specs.Timing.{freshOf}
 use Rattle.benchtext.specs.declared.Line.{Line}
 use Rattle.benchtext.specs.declared.Line.the-variants as L
 use Rattle.benchplan.specs.declared.Bench.{Bench}
-use Rattle.benchplan.specs.State.{Ran, ran, plans, runs, over, keptIn, endBad, answered}
+use Rattle.benchplan.specs.State.{Shown, shown, Ran, ran, beside, plans, runs, over, keptIn, phased, endBad, answered}
 
 -- N: the plan without access points
 unfoldable pub firstLine : Bench → ℕ → ℕ → ℕ → ℕ → ℕ → ℕ → ℕ → Bench
@@ -34,7 +38,6 @@ firstLine b control user pool recovery resend sends interval = record {
     count = 0;
     points = replicate 4 noPoint;
   });
-  table = b .table;
 }
 
 -- A: a name of at most 63 octets, the rest of its 63 zero
@@ -63,29 +66,34 @@ unfoldable pub withPlan : Plan → Node → Node
 withPlan p node = record { plan = p; echo = node .echo; next = node .next; heard = node .heard; recovery = node .recovery }
 
 -- a fifth is a bad line
-unfoldable pub oneMore : Bench → ℕ → ℕ → List ℕ → List ℕ → Ran
+unfoldable pub oneMore : Bench → ℕ → ℕ → List ℕ → List ℕ → Shown
 oneMore b guarantee ceiling octets out =
     pick (leb 4 (b .node .plan .count)) (endBad b out)
-    (ran
+    (shown
     (record {
       phase = b .phase;
       lines = b .lines;
       made = b .made;
       node = withPlan (withPoint (b .node .plan) (pointFrom guarantee ceiling octets)) (b .node);
-      table = b .table;
     })
     out)
 
 -- the plan taken; a refused one prints its number and -, and ends
-unfoldable pub planTaken : Bench → List ℕ → Ran
-planTaken b out =
-    pick (eqb (freshOf (b .node .plan) (b .table .recs) .answer .number) 0)
-    (ran (keptIn (freshOf (b .node .plan) (b .table .recs) .answer .node) (freshOf (b .node .plan) (b .table .recs) .table) runs (b .made) b) out)
-    (answered over (freshOf (b .node .plan) (b .table .recs)) b out)
+unfoldable pub planShown : Answer → Bench → List ℕ → Shown
+planShown a b out =
+    pick (eqb (a .number) 0) (shown (keptIn (a .node) (b .made) (phased runs b)) out) (answered (back a []) (phased over b) out)
+
+unfoldable pub planTaken : Bench → List Session → List ℕ → Ran
+planTaken b t out = beside (freshOf (b .node .plan) t .table) (planShown (freshOf (b .node .plan) t .answer) b out)
+
+pub plan-taken : (b r : Bench) (t t′ : List Session) (out o : List ℕ) (p : Plan) (a : Answer) → p ≡ b .node .plan → outcome a t′ [] ≡ freshOf p t
+    → shown r o ≡ planShown a b out → ran r t′ o ≡ planTaken b t out
+unfolding planTaken
+plan-taken b r t t′ out o p a e f g = rw (← rw e at f) (ap (beside t′) g)
 
 -- the first line has to be N
-unfoldable pub startLine : Line → Bench → List ℕ → Ran
-startLine (L.Node control user pool recovery resend sends interval) b out = ran (firstLine b control user pool recovery resend sends interval) out
+unfoldable pub startLine : Line → Bench → List ℕ → Shown
+startLine (L.Node control user pool recovery resend sends interval) b out = shown (firstLine b control user pool recovery resend sends interval) out
 startLine (L.Point guarantee ceiling size) b out = endBad b out
 startLine (L.Control size) b out = endBad b out
 startLine (L.User size) b out = endBad b out

@@ -1,4 +1,5 @@
 -- Where the bench's run stands, and what is printed for what the unit answers: number and reply in hex, or -. A bad line prints E and ends.
+-- The unit's records stand beside the run.
 -- Assumes nothing.
 use Prim.Native.Nat.{ℕ, _+_}
 use mathlib.Core.List.{List}
@@ -7,24 +8,34 @@ use lib.ListN.{length, take, replicate}
 use lib.Dec.{ltb}
 use Rattle.octets.specs.Choice.{pick}
 use Rattle.numerals.specs.Laid.{laid, written, Written, laid-length}
-use Rattle.tunnel.specs.Numbering.{places}
 use Rattle.plan.specs.Limits.{noPlan}
 use Rattle.session.specs.declared.Session.{Session}
 use Rattle.table.specs.declared.Node.{Node}
-use Rattle.table.specs.declared.Table.{Table}
-use Rattle.table.specs.Change.{nobody}
 use Rattle.table.specs.Own.{freshNode}
-use Rattle.timing.specs.Outcome.{Outcome}
+use Rattle.timing.specs.Outcome.{Outcome, outcome, Back, back}
+use Rattle.timing.specs.declared.Answer.{Answer}
 use Rattle.benchtext.specs.Prints.{answerText, badText}
 use Rattle.benchplan.specs.declared.Bench.{Bench}
 
 -- the run, and the output buffer
-pub record Ran : Type 0 where
+pub record Shown : Type 0 where
   pub bench : Bench
   pub out : List ℕ
 
-abbrev pub ran : Bench → List ℕ → Ran
-ran b out = record { bench = b; out = out }
+abbrev pub shown : Bench → List ℕ → Shown
+shown b out = record { bench = b; out = out }
+
+-- with the unit's records
+pub record Ran : Type 0 where
+  pub bench : Bench
+  pub table : List Session
+  pub out : List ℕ
+
+abbrev pub ran : Bench → List Session → List ℕ → Ran
+ran b t out = record { bench = b; table = t; out = out }
+
+abbrev pub beside : List Session → Shown → Ran
+beside t x = ran (x .bench) t (x .out)
 
 -- phases: nothing read, the lines of the plan, the plan taken, ended
 unfoldable pub first : ℕ
@@ -40,7 +51,7 @@ unfoldable pub over : ℕ
 over = 3
 
 unfoldable pub emptyRun : Bench
-emptyRun = record { phase = first; lines = 0; made = 0; node = freshNode noPlan; table = record { recs = replicate places nobody } }
+emptyRun = record { phase = first; lines = 0; made = 0; node = freshNode noPlan }
 
 -- what a call gets as its reply buffer
 unfoldable pub lentReply : List ℕ
@@ -51,39 +62,47 @@ unfoldable pub counted : ℕ → ℕ
 counted n = pick {A = ℕ} (ltb n 18446744073709551615) (n + 1) n
 
 unfoldable pub withLine : Bench → Bench
-withLine b = record { phase = b .phase; lines = counted (b .lines); made = b .made; node = b .node; table = b .table }
+withLine b = record { phase = b .phase; lines = counted (b .lines); made = b .made; node = b .node }
 
 unfoldable pub withMade : ℕ → Bench → Bench
-withMade made b = record { phase = b .phase; lines = b .lines; made = made; node = b .node; table = b .table }
+withMade made b = record { phase = b .phase; lines = b .lines; made = made; node = b .node }
 
-unfoldable pub keptIn : Node → List Session → ℕ → ℕ → Bench → Bench
-keptIn node t phase made b = record { phase = phase; lines = b .lines; made = made; node = node; table = record { recs = t } }
+unfoldable pub keptIn : Node → ℕ → Bench → Bench
+keptIn node made b = record { phase = b .phase; lines = b .lines; made = made; node = node }
+
+unfoldable pub phased : ℕ → Bench → Bench
+phased phase b = record { phase = phase; lines = b .lines; made = b .made; node = b .node }
 
 -- ---- printing
 -- text behind what was printed before, and the run that is the outcome, by the place behind the text
-unfoldable pub printed : List ℕ → (ℕ → Bench) → ℕ → List ℕ → Ran
-printed text next made out = ran (next (laid made text out .at)) (laid made text out .out)
+unfoldable pub printed : List ℕ → (ℕ → Bench) → ℕ → List ℕ → Shown
+printed text next made out = shown (next (laid made text out .at)) (laid made text out .out)
 
 -- a bad line prints E and its number, and ends
 unfoldable pub badAt : Bench → ℕ → Bench
-badAt b made = record { phase = over; lines = b .lines; made = made; node = b .node; table = b .table }
+badAt b made = record { phase = over; lines = b .lines; made = made; node = b .node }
 
-unfoldable pub endBad : Bench → List ℕ → Ran
+unfoldable pub endBad : Bench → List ℕ → Shown
 endBad b out = printed (badText (b .lines)) (badAt b) (b .made) out
 
 -- number and reply
-unfoldable pub answered : ℕ → Outcome → Bench → List ℕ → Ran
-answered phase x b out =
-    printed (answerText (x .answer .number) (take (x .answer .size) (x .reply))) (λ made. keptIn (x .answer .node) (x .table) phase made b) (b .made) out
+unfoldable pub answered : Back → Bench → List ℕ → Shown
+answered x b out =
+    printed (answerText (x .answer .number) (take (x .answer .size) (x .reply))) (λ made. keptIn (x .answer .node) made b) (b .made) out
 
--- a table by value is its records
-pub table-is : (t : Table) (l : List Session) → t .recs ≡ l → t ≡ record { recs = l }
-table-is t l e = rw (← e)
+-- what a call came to: that printed, and the records as it left them
+unfoldable pub unitShown : Outcome → Bench → List ℕ → Ran
+unitShown x b out = beside (x .table) (answered (back (x .answer) (x .reply)) b out)
+
+pub unit-shown : (x : Outcome) (a : Answer) (t : List Session) (reply : List ℕ) (b r : Bench) (out o : List ℕ)
+    → outcome a t reply ≡ x → shown r o ≡ answered (back a reply) b out → ran r t o ≡ unitShown x b out
+unfolding unitShown
+unit-shown x a t reply b r out o e f = rw (← e) (ap (beside t) f)
 
 -- ---- laws of the printing
-pub printed-by : (text : List ℕ) (next : ℕ → Bench) (made r : ℕ) (out o : List ℕ) → written r o ≡ laid made text out → ran (next r) o ≡ printed text next made out
+pub printed-by : (text : List ℕ) (next : ℕ → Bench) (made r : ℕ) (out o : List ℕ) → written r o ≡ laid made text out → shown (next r) o ≡ printed text next made out
 unfolding printed
-printed-by text next made r out o e = ap (λ (w : Written). ran (next (w .at)) (w .out)) e
+printed-by text next made r out o e = ap (λ (w : Written). shown (next (w .at)) (w .out)) e
 
 pub printed-length : (text : List ℕ) (next : ℕ → Bench) (made : ℕ) (out : List ℕ) → length (printed text next made out .out) ≡ length out
 unfolding printed

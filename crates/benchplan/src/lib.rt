@@ -1,26 +1,30 @@
 // The two ends of the bench's run: where a run stands, what is printed for an answer, the lines of the plan; and at the end of the input the
-// live count and a line for each place that was ever used. Output goes into a lent buffer from a place on; the programs write it out.
+// live count and a line for each place that was ever used. The unit's records are lent, and the calls work on them where they lie. Output
+// goes into a lent buffer from a place on; the programs write it out.
 use benchtext::Line;
-use lentcore::Whole;
 use plan::AccessPoint;
 use plan::Plan;
+use session::Session;
 use table::Node;
-use table::Table;
+use timing::Answer;
+ghost use mathlib.Core.List.{[]};
 ghost use mathlib.Core.Path.{_≡_};
+ghost use lib.Dec.{eqb};
 ghost use lib.ListN.{take};
-ghost use Rattle.lentcore.specs.Lent.{outcomeOf};
-ghost use Rattle.benchplan.specs.State.{ran, emptyRun, counted, withLine, withMade, endBad, keptIn, answered};
-ghost use Rattle.benchplan.specs.Ended.{placePrinted, placesPrinted, endPlan, ended};
-ghost use Rattle.benchplan.specs.Plans.{firstLine, pointFrom, withPoint, oneMore, planTaken, startLine};
+ghost use Rattle.tunnel.specs.Numbering.{places};
+ghost use Rattle.table.specs.Room.{sessions};
+ghost use Rattle.timing.specs.Outcome.{back};
+ghost use Rattle.benchplan.specs.State.{shown, ran, emptyRun, counted, withLine, withMade, endBad, keptIn, answered};
+ghost use Rattle.benchplan.specs.Ended.{oneMoreOf, liveShown, lineShown, placePrinted, placesPrinted, endPlan, endFirst, ended};
+ghost use Rattle.benchplan.specs.Plans.{firstLine, pointFrom, withPoint, oneMore, planShown, planTaken, startLine};
 
-// How far the run is, how many lines were taken, how much of the output buffer is in use, and the unit. Before the plan is taken, the
-// unit's plan is the one that is being read.
+// How far the run is, how many lines were taken, how much of the output buffer is in use, and what goes with the unit's records. Before the
+// plan is taken, the unit's plan is the one that is being read.
 pub struct Bench {
     pub phase: u8,
     pub lines: u64,
     pub made: usize,
     pub node: Node,
-    pub table: Table,
 }
 
 impl Bench {
@@ -38,15 +42,32 @@ impl Bench {
     {
         let plan = Plan::none();
         let node = Node::fresh(plan);
-        let table = Table::fresh();
         Bench {
             phase: Self::FIRST,
             lines: 0,
             made: 0,
             node,
-            table,
         }
     }
+}
+
+pub fn phase_of(b: Bench) -> u8
+    ensures { λ r. ⌜ r ≡ b .phase ⌝ }
+{
+    b.phase
+}
+
+pub fn node_of(b: Bench) -> Node
+    ensures { λ r. ⌜ r ≡ b .node ⌝ }
+{
+    b.node
+}
+
+fn plan_of(b: Bench) -> Plan
+    ensures { λ r. ⌜ r ≡ b .node .plan ⌝ }
+{
+    let node = b.node;
+    node.plan
 }
 
 // The part of a buffer that is in use.
@@ -71,7 +92,7 @@ fn counted(n: u64) -> u64
 
 // A bad line ends the run.
 pub fn end_bad(mut b: Bench, out: &mut [u8]) -> Bench
-    ensures { λ r. ⌜ ran r (now (out .exit)) ≡ endBad b (now (out .entry)) ⌝ }
+    ensures { λ r. ⌜ shown r (now (out .exit)) ≡ endBad b (now (out .entry)) ⌝ }
 {
     b.made = benchtext::put_bad(out, b.made, b.lines);
     b.phase = Bench::OVER;
@@ -134,7 +155,7 @@ fn with_point(mut plan: Plan, point: AccessPoint) -> Plan
 
 // A: a further access point. The fifth is a bad line.
 pub fn one_more(mut b: Bench, guarantee: u8, ceiling: u8, octets: &[u8], out: &mut [u8]) -> Bench
-    ensures { λ r. ⌜ ran r (now (out .exit)) ≡ oneMore b guarantee ceiling (now (octets .entry)) (now (out .entry)) ⌝ }
+    ensures { λ r. ⌜ shown r (now (out .exit)) ≡ oneMore b guarantee ceiling (now (octets .entry)) (now (out .entry)) ⌝ }
 {
     let mut node = b.node;
     let plan = node.plan;
@@ -148,26 +169,31 @@ pub fn one_more(mut b: Bench, guarantee: u8, ceiling: u8, octets: &[u8], out: &m
     b
 }
 
-// What a call answered is kept, and so much is printed.
-pub fn kept_in(mut b: Bench, a: Whole, phase: u8, made: usize) -> Bench
-    ensures { λ r. ⌜ r ≡ keptIn (a .node) (a .table .recs) phase made b ⌝ }
+// What a call answered goes with the records, and so much is printed.
+pub fn kept_in(mut b: Bench, a: Answer, made: usize) -> Bench
+    ensures { λ r. ⌜ r ≡ keptIn (a .node) made b ⌝ }
 {
     let node = a.node;
-    let table = a.table;
-    b.phase = phase;
     b.made = made;
     b.node = node;
-    b.table = table;
     b
 }
 
-// What a call answered: number and reply printed, the table kept.
-pub fn answered(b: Bench, a: Whole, reply: &[u8], phase: u8, out: &mut [u8]) -> Bench
-    ensures { λ r. ⌜ ran r (now (out .exit)) ≡ answered phase (outcomeOf a (now (reply .entry))) b (now (out .entry)) ⌝ }
+// What a call answered: number and reply printed, the node kept.
+pub fn answered(b: Bench, a: Answer, reply: &[u8], out: &mut [u8]) -> Bench
+    ensures { λ r. ⌜ shown r (now (out .exit)) ≡ answered (back a (now (reply .entry))) b (now (out .entry)) ⌝ }
 {
-    let shown = front(reply, a.size);
-    let made = benchtext::put_answer(out, b.made, a.number, shown);
-    kept_in(b, a, phase, made)
+    let part = front(reply, a.size);
+    let made = benchtext::put_answer(out, b.made, a.number, part);
+    kept_in(b, a, made)
+}
+
+// The same of a call that has no reply buffer.
+pub fn answered_bare(b: Bench, a: Answer, out: &mut [u8]) -> Bench
+    ensures { λ r. ⌜ shown r (now (out .exit)) ≡ answered (back a []) b (now (out .entry)) ⌝ }
+{
+    let none = [0; 0];
+    answered(b, a, &none, out)
 }
 
 pub fn with_made(mut b: Bench, made: usize) -> Bench
@@ -184,22 +210,30 @@ pub fn with_line(mut b: Bench) -> Bench
     b
 }
 
-// The plan is taken. A refused one is printed and ends the run.
-pub fn take_plan(b: Bench, out: &mut [u8]) -> Bench
-    ensures { λ r. ⌜ ran r (now (out .exit)) ≡ planTaken b (now (out .entry)) ⌝ }
+// What became of the plan. A refused one is printed and ends the run.
+fn plan_shown(mut b: Bench, a: Answer, out: &mut [u8]) -> Bench
+    ensures { λ r. ⌜ shown r (now (out .exit)) ≡ planShown a b (now (out .entry)) ⌝ }
 {
-    let node = b.node;
-    let a = lend::fresh(node.plan, b.table);
     if a.number == 0 {
-        return kept_in(b, a, Bench::RUNS, b.made);
+        b.phase = Bench::RUNS;
+        return kept_in(b, a, b.made);
     }
-    let none = [0; 0];
-    answered(b, a, &none, Bench::OVER, out)
+    b.phase = Bench::OVER;
+    answered_bare(b, a, out)
+}
+
+// The plan is taken.
+pub fn take_plan(b: Bench, recs: &mut [Session], out: &mut [u8]) -> Bench
+    ensures { λ r. ⌜ ran r (now (recs .exit)) (now (out .exit)) ≡ planTaken b (now (recs .entry)) (now (out .entry)) ⌝ }
+{
+    let plan = plan_of(b);
+    let a = lentstart::grugavorn_fresh(plan, recs);
+    plan_shown(b, a, out)
 }
 
 // The first line has to be N.
 pub fn start_line(b: Bench, line: Line, out: &mut [u8]) -> Bench
-    ensures { λ r. ⌜ ran r (now (out .exit)) ≡ startLine line b (now (out .entry)) ⌝ }
+    ensures { λ r. ⌜ shown r (now (out .exit)) ≡ startLine line b (now (out .entry)) ⌝ }
 {
     match line {
         Line::Node {
@@ -215,65 +249,115 @@ pub fn start_line(b: Bench, line: Line, out: &mut [u8]) -> Bench
     }
 }
 
-// The line of a place that was ever used.
-fn print_place(b: Bench, place: usize, out: &mut [u8]) -> Bench
-    ensures { λ r. ⌜ ran r (now (out .exit)) ≡ placePrinted place b (now (out .entry)) ⌝ }
+// A session more, if the record is one.
+fn one_more_of(n: u64, s: Session) -> u64
+    ensures { λ r. ⌜ r ≡ oneMoreOf n s ⌝ }
 {
-    let t = b.table;
-    if Table::PLACES <= place {
-        return b;
+    let free = s.is_free();
+    if free {
+        return n;
     }
-    let s = t.recs[place];
-    if s.usage == 0 {
-        return b;
+    counted(n)
+}
+
+// How many sessions there are at the places.
+fn sessions_in(recs: &[Session]) -> u64
+    ensures { λ r. ⌜ r ≡ sessions (take places (now (recs .entry))) ⌝ }
+{
+    let mut n: u64 = 0;
+    let mut i: usize = 0;
+    while i < 64 {
+        let s = lentedit::read(recs, i);
+        n = one_more_of(n, s);
+        i += 1;
     }
-    let mut text = [0; 128];
-    let a = lend::line(b.node, t, place, &mut text);
-    let shown = front(&text, a.size);
-    let p = numerals::put_text(out, b.made, shown);
+    n
+}
+
+fn put_live(b: Bench, n: u64, out: &mut [u8]) -> Bench
+    ensures { λ r. ⌜ shown r (now (out .exit)) ≡ liveShown n b (now (out .entry)) ⌝ }
+{
+    let made = benchtext::put_live(out, b.made, n);
+    with_made(b, made)
+}
+
+fn never_used(s: Session) -> bool
+    ensures { λ r. ⌜ r ≡ eqb (s .usage) 0 ⌝ }
+{
+    s.usage == 0
+}
+
+fn put_line(b: Bench, a: Answer, text: &[u8], out: &mut [u8]) -> Bench
+    ensures { λ r. ⌜ shown r (now (out .exit)) ≡ lineShown (back a (now (text .entry))) b (now (out .entry)) ⌝ }
+{
+    let part = front(text, a.size);
+    let p = numerals::put_text(out, b.made, part);
     let made = numerals::put(out, p, 10);
     with_made(b, made)
 }
 
-// The live count, then a line for each place that was ever used.
-fn print_places(b: Bench, out: &mut [u8]) -> Bench
-    ensures { λ r. ⌜ ran r (now (out .exit)) ≡ placesPrinted b (now (out .entry)) ⌝ }
+// The line of a place that was ever used.
+fn print_place(b: Bench, recs: &[Session], place: usize, out: &mut [u8]) -> Bench
+    ensures { λ r. ⌜ shown r (now (out .exit)) ≡ placePrinted (now (recs .entry)) place b (now (out .entry)) ⌝ }
 {
-    let n = tally::sessions(b.table);
-    let made = benchtext::put_live(out, b.made, n as u64);
-    let mut c = with_made(b, made);
+    let s = lentedit::read(recs, place);
+    let never = never_used(s);
+    if never {
+        return b;
+    }
+    let mut text = [0; 128];
+    let node = node_of(b);
+    let a = lentline::grugavorn_line(node, recs, place, &mut text);
+    put_line(b, a, &text, out)
+}
+
+// The live count, then a line for each place that was ever used.
+fn print_places(b: Bench, recs: &[Session], out: &mut [u8]) -> Bench
+    ensures { λ r. ⌜ shown r (now (out .exit)) ≡ placesPrinted (now (recs .entry)) b (now (out .entry)) ⌝ }
+{
+    let n = sessions_in(recs);
+    let mut y = put_live(b, n, out);
     let mut i: usize = 0;
-    while i < Table::PLACES {
-        c = print_place(c, i, out);
+    while i < 64 {
+        y = print_place(y, recs, i, out);
         i += 1;
     }
-    c
+    y
 }
 
 // At the end of a plan that is not taken yet it is taken.
-fn end_plan(b: Bench, out: &mut [u8]) -> Bench
-    ensures { λ r. ⌜ ran r (now (out .exit)) ≡ endPlan b (now (out .entry)) ⌝ }
+fn end_plan(b: Bench, recs: &mut [Session], out: &mut [u8]) -> Bench
+    ensures { λ r. ⌜ ran r (now (recs .exit)) (now (out .exit)) ≡ endPlan b (now (recs .entry)) (now (out .entry)) ⌝ }
 {
-    let next = take_plan(b, out);
-    if next.phase == Bench::OVER {
+    let next = take_plan(b, recs, out);
+    let phase = phase_of(next);
+    if phase == Bench::OVER {
         return next;
     }
-    print_places(next, out)
+    print_places(next, recs, out)
 }
 
-// The end of the input. Without any line it is a bad first line.
-pub fn end_of_input(b: Bench, out: &mut [u8]) -> Bench
-    ensures { λ r. ⌜ ran r (now (out .exit)) ≡ ended b (now (out .entry)) ⌝ }
+// Without any line it is a bad first line.
+fn end_first(b: Bench, out: &mut [u8]) -> Bench
+    ensures { λ r. ⌜ shown r (now (out .exit)) ≡ endFirst b (now (out .entry)) ⌝ }
 {
-    if b.phase == Bench::OVER {
-        return b;
-    }
-    if b.phase == Bench::RUNS {
-        return print_places(b, out);
-    }
-    if b.phase == Bench::PLAN {
-        return end_plan(b, out);
-    }
     let first = with_line(b);
     end_bad(first, out)
+}
+
+// The end of the input.
+pub fn end_of_input(b: Bench, recs: &mut [Session], out: &mut [u8]) -> Bench
+    ensures { λ r. ⌜ ran r (now (recs .exit)) (now (out .exit)) ≡ ended b (now (recs .entry)) (now (out .entry)) ⌝ }
+{
+    let phase = phase_of(b);
+    if phase == Bench::OVER {
+        return b;
+    }
+    if phase == Bench::RUNS {
+        return print_places(b, recs, out);
+    }
+    if phase == Bench::PLAN {
+        return end_plan(b, recs, out);
+    }
+    end_first(b, out)
 }

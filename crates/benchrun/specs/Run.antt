@@ -1,83 +1,132 @@
 -- What the bench prints for a datagram that is due, and for a user datagram: a payload is a third field; after T and X all due follow, each a
 -- line of D and the datagram.
 -- Assumes nothing.
-use Prim.Native.Nat.{ℕ, zero, suc, _<_, _-_}
-use mathlib.Core.Bool.{Bool, true, false, _&&_}
-use mathlib.Core.List.{List}
-use mathlib.Core.Path.{_≡_, refl, sym}
+use Prim.Native.Nat.{ℕ, zero, suc, _+_, _<_, _-_}
+use mathlib.Core.Bool.{Bool, true, false, not, _&&_}
+use mathlib.Core.List.{List, []}
+use mathlib.Core.Path.{_≡_, refl, sym, ap, _∙_}
 use native.Mathlib.Omega.{arith}
-use lib.ListN.{length, take, drop}
+use lib.ListN.{length, take, drop, replicate}
 use lib.Dec.{eqb}
 use Rattle.octets.specs.Choice.{pick, split}
-use Rattle.numerals.specs.Laid.{laid, written}
-use Rattle.timing.specs.Outcome.{Outcome}
-use Rattle.timing.specs.Timing.{sendOf}
-use Rattle.userside.specs.UserSide.{Took, took, userTaken}
+use Rattle.session.specs.declared.Session.{Session}
+use Rattle.table.specs.declared.Node.{Node}
+use Rattle.timing.specs.declared.Answer.{Answer}
+use Rattle.timing.specs.Outcome.{Outcome, outcome, Back, back}
+use Rattle.timing.specs.Timing.{tickOf, closeOf, sendOf}
+use Rattle.control.specs.Control.{controlTaken}
+use Rattle.userside.specs.UserSide.{Took, userTaken}
+use Rattle.lentuser.specs.declared.Handed.{Handed}
+use Rattle.lentuser.specs.Lent.{Parcel, parcel, parcelOf}
 use Rattle.benchtext.specs.Prints.{answerText, packetText, dueText}
 use Rattle.benchplan.specs.declared.Bench.{Bench}
-use Rattle.benchplan.specs.State.{Ran, ran, lentReply, withMade, keptIn, printed, printed-by, printed-length}
+use Rattle.benchplan.specs.State.{Shown, shown, Ran, ran, beside, lentReply, withMade, keptIn, printed, answered, unitShown, unit-shown}
+use Rattle.benchrun.specs.declared.Sent.{Sent}
 
 -- ---- all that is due
-unfoldable pub sendTry : Bench → Outcome
-sendTry b = sendOf (b .node) (b .table .recs) lentReply
+unfoldable pub sendTry : Bench → List Session → Outcome
+sendTry b t = sendOf (b .node) t lentReply
 
-unfoldable pub isDue : Bench → Bool
-isDue b = eqb (sendTry b .answer .number) 0
+unfoldable pub isDue : Bench → List Session → Bool
+isDue b t = eqb (sendTry b t .answer .number) 0
 
-unfoldable pub sentOne : Bench → List ℕ → Ran
-sentOne b out =
-    pick (isDue b)
-    (printed (dueText (take (sendTry b .answer .size) (sendTry b .reply))) (λ made. keptIn (sendTry b .answer .node) (sendTry b .table) (b .phase) made b) (b .made) out)
-    (ran b out)
+unfoldable pub sentShown : Back → Bench → List ℕ → Shown
+sentShown x b out =
+    pick (eqb (x .answer .number) 0)
+    (printed (dueText (take (x .answer .size) (x .reply))) (λ made. keptIn (x .answer .node) made b) (b .made) out)
+    (shown b out)
+
+-- one is tried: the records as the call leaves them
+unfoldable pub sentOne : Bench → List Session → List ℕ → Ran
+sentOne b t out = beside (sendTry b t .table) (sentShown (back (sendTry b t .answer) (sendTry b t .reply)) b out)
 
 unfoldable pub dueSent : ℕ → Ran → Ran
 dueSent zero x = x
-dueSent (suc k) x = pick (isDue (x .bench)) (dueSent k (sentOne (x .bench) (x .out))) x
+dueSent (suc k) x =
+    pick (isDue (x .bench) (x .table)) (dueSent k (sentOne (x .bench) (x .table) (x .out))) (sentOne (x .bench) (x .table) (x .out))
 
 -- the echo and 64 places are the most
-unfoldable pub allSent : Bench → List ℕ → Ran
-allSent b out = dueSent 65 (ran b out)
+unfoldable pub allSent : Bench → List Session → List ℕ → Ran
+allSent b t out = dueSent 65 (ran b t out)
 
 unfoldable pub thenSent : Ran → Ran
-thenSent x = allSent (x .bench) (x .out)
+thenSent x = allSent (x .bench) (x .table) (x .out)
 
 -- ---- a user datagram: only a packet that is handed up has a third field
-unfoldable pub userShown : Took → List ℕ → List ℕ
-userShown x d =
-    pick (eqb (x .number) 0 && eqb (x .size) 0)
-    (packetText (x .number) (take (x .size) (x .reply)) (drop (x .start) d))
-    (answerText (x .number) (take (x .size) (x .reply)))
+unfoldable pub userText : ℕ → ℕ → List ℕ → List ℕ → List ℕ
+userText number size reply payload =
+    pick (eqb number 0 && eqb size 0) (packetText number (take size reply) payload) (answerText number (take size reply))
 
-unfoldable pub userRun : List ℕ → Bench → List ℕ → Ran
-userRun d b out =
-    printed (userShown (userTaken (b .node) (b .table .recs) d lentReply) d) (λ made. withMade made b) (b .made) out
+unfoldable pub userShown : Took → List ℕ → Bench → List ℕ → Shown
+userShown x d b out = printed (userText (x .number) (x .size) (x .reply) (drop (x .start) d)) (λ made. withMade made b) (b .made) out
 
--- ---- laws of the sending loop, with k tries left
-pub sent-length : (b : Bench) (out : List ℕ) → length (sentOne b out .out) ≡ length out
-unfolding sentOne
-sent-length b out = split (isDue b) (λ e. rw e (printed-length _ _ _ _)) (λ e. rw e)
+unfoldable pub userRun : List ℕ → Bench → List Session → List ℕ → Ran
+userRun d b t out = beside t (userShown (userTaken (b .node) t d lentReply) d b out)
 
-pub sent-stop : (k : ℕ) (b c : Bench) (out o : List ℕ) → isDue b ≡ false → ran c o ≡ sentOne b out → dueSent k (ran b out) ≡ ran c o
-unfolding dueSent sentOne
-sent-stop zero b c out o e f = sym (rw e at f)
-sent-stop (suc k) b c out o e f = rw e (sym (rw e at f))
+-- the same of what the call answers in numbers
+unfoldable pub handedShown : Parcel → List ℕ → Bench → List ℕ → Shown
+handedShown x d b out =
+    printed (userText (x .handed .number) (x .handed .size) (x .reply) (drop (x .handed .start) d)) (λ made. withMade made b) (b .made) out
 
-pub sent-on : (k : ℕ) (b c : Bench) (out o : List ℕ) → 0 < k → isDue b ≡ true → ran c o ≡ sentOne b out → dueSent k (ran b out) ≡ dueSent (k - 1) (ran c o)
+-- ---- laws of a send
+pub send-tried : (b : Bench) (t t′ : List Session) (out o reply : List ℕ) (node : Node) (a : Answer) (s : Sent) → node ≡ b .node
+    → outcome a t′ reply ≡ sendOf node t (replicate 128 0) → (s .go ≡ eqb (a .number) 0) × (shown (s .bench) o ≡ sentShown (back a reply) b out)
+    → (s .go ≡ isDue b t) × (ran (s .bench) t′ o ≡ sentOne b t out)
+unfolding isDue sentOne sendTry lentReply
+send-tried b t t′ out o reply node a s e f g = rw (← rw e at f) (g .0, ap (beside t′) (g .1))
+
+-- ---- laws of the sending loop, after i tries
+pub sent-none : (b : Bench) (t : List Session) (out : List ℕ) → allSent b t out ≡ dueSent (65 - 0) (ran b t out)
+unfolding allSent
+sent-none b t out = refl
+
+not-on : (a : Bool) → not a ≡ true → a ≡ false
+not-on true e = e
+not-on false e = refl
+
+not-off : (a : Bool) → not a ≡ false → a ≡ true
+not-off true e = refl
+not-off false e = sym e
+
+module _ (x : Ran) (i : ℕ) (b c : Bench) (t t′ : List Session) (out o : List ℕ) (s : Sent) (v : Bool) (h : i < 65)
+    (e : x ≡ dueSent (65 - i) (ran b t out)) (f : (s .go ≡ isDue b t) × (ran (s .bench) t′ o ≡ sentOne b t out)) (g : c ≡ s .bench) (k : v ≡ not (s .go)) where
+  pub sent-stop : v ≡ true → ran c t′ o ≡ x
+  unfolding dueSent
+  sent-stop w =
+      let z : 65 - i ≡ suc (65 - (i + 1)) = omega arith in
+      let q : isDue b t ≡ false = not-on (isDue b t) (rw (k, f .0) at w) in
+      rw g (f .1 ∙ sym (e ∙ rw (z, q)))
+
+  pub sent-on : v ≡ false → x ≡ dueSent (65 - (i + 1)) (ran c t′ o)
+  unfolding dueSent
+  sent-on w =
+      let z : 65 - i ≡ suc (65 - (i + 1)) = omega arith in
+      let q : isDue b t ≡ true = not-off (isDue b t) (rw (k, f .0) at w) in
+      e ∙ rw (z, q, g, f .1)
+
+pub sent-end : (x y : Ran) (i : ℕ) → x ≡ dueSent (65 - i) y → i ≡ 65 → y ≡ x
 unfolding dueSent
-sent-on zero b c out o h e f = absurd (omega arith)
-sent-on (suc k) b c out o h e f = let z : suc k - 1 ≡ k = omega arith in rw (z, e, f)
+sent-end x y i e f = sym (e ∙ rw f)
 
-pub sent-end : (x : Ran) → dueSent 0 x ≡ x
-unfolding dueSent
-sent-end x = refl
+-- ---- the calls
+module _ (b r : Bench) (t t′ : List Session) (out o : List ℕ) (node : Node) (e : node ≡ b .node) (a : Answer) where
+  pub control-run : (d p reply : List ℕ) → p ≡ d → outcome a t′ reply ≡ controlTaken node t p (replicate 128 0) → shown r o ≡ answered (back a reply) b out
+      → ran r t′ o ≡ unitShown (controlTaken (b .node) t d lentReply) b out
+  unfolding lentReply
+  control-run d p reply f g h = unit-shown _ a t′ reply b r out o (rw (e, f) at g) h
 
--- ---- a user datagram, by what came back of it
-module _ (d : List ℕ) (b : Bench) (out : List ℕ) (n p s start : ℕ) (rep payload : List ℕ) (r : ℕ) (o : List ℕ)
-    (e : took n p s rep start ≡ userTaken (b .node) (b .table .recs) d lentReply) (q : payload ≡ drop start d) where
-  pub user-packet : (eqb n 0 && eqb s 0) ≡ true → written r o ≡ laid (b .made) (packetText n (take s rep) payload) out → ran (withMade r b) o ≡ userRun d b out
-  unfolding userRun userShown
-  user-packet t w = rw (← e, t, ← q) (printed-by (packetText n (take s rep) payload) (λ made. withMade made b) (b .made) r out o w)
+  pub tick-run : (t″ : List Session) (c : Bench) (p : List ℕ) → outcome a t″ [] ≡ tickOf node t → shown c p ≡ answered (back a []) b out → ran r t′ o ≡ allSent c t″ p
+      → ran r t′ o ≡ thenSent (unitShown (tickOf (b .node) t) b out)
+  unfolding thenSent
+  tick-run t″ c p f g h = rw (← unit-shown _ a t″ [] b c out p (rw e at f) g) h
 
-  pub user-answer : (eqb n 0 && eqb s 0) ≡ false → written r o ≡ laid (b .made) (answerText n (take s rep)) out → ran (withMade r b) o ≡ userRun d b out
-  unfolding userRun userShown
-  user-answer t w = rw (← e, t) (printed-by (answerText n (take s rep)) (λ made. withMade made b) (b .made) r out o w)
+  pub close-run : (t″ : List Session) (place : ℕ) (c : Bench) (p : List ℕ) → outcome a t″ [] ≡ closeOf node t place → shown c p ≡ answered (back a []) b out
+      → ran r t′ o ≡ allSent c t″ p → ran r t′ o ≡ thenSent (unitShown (closeOf (b .node) t place) b out)
+  unfolding thenSent
+  close-run t″ place c p f g h = rw (← unit-shown _ a t″ [] b c out p (rw e at f) g) h
+
+pub user-run : (b r : Bench) (t : List Session) (out o : List ℕ) (node : Node) (x : Handed) (d p reply : List ℕ) → node ≡ b .node → p ≡ d
+    → parcel x reply ≡ parcelOf (length p) (userTaken node t p (replicate 128 0)) → shown r o ≡ handedShown (parcel x reply) p b out
+    → ran r t o ≡ userRun d b t out
+unfolding userRun userShown handedShown lentReply parcelOf
+user-run b r t out o node x d p reply e f g h = ap (beside t) (rw (rw (e, f) at g, f) at h)

@@ -1,13 +1,21 @@
-// The bench's run: what one line of input does to the unit and what is printed for it.
+// The bench's run: what one line of input does to the unit and what is printed for it. The unit's records are lent, and the firmware's own
+// calls work on them where they lie.
 use benchplan::Bench;
 use benchtext::Line;
+use lentuser::Handed;
+use session::Session;
+use timing::Answer;
+ghost use mathlib.Core.Bool.{not, _&&_};
 ghost use mathlib.Core.Path.{_≡_};
-ghost use lib.ListN.{replicate};
+ghost use lib.Dec.{eqb};
+ghost use lib.ListN.{drop, take};
+ghost use Rattle.timing.specs.Outcome.{back};
 ghost use Rattle.timing.specs.Timing.{tickOf, closeOf};
 ghost use Rattle.control.specs.Control.{controlTaken};
-ghost use Rattle.benchplan.specs.State.{ran, answered};
-ghost use Rattle.benchrun.specs.Run.{sentOne, isDue, allSent, thenSent, userRun};
-ghost use Rattle.benchrun.specs.Taken.{runLine, leavePlan, planLine, lineTaken};
+ghost use Rattle.lentuser.specs.Lent.{parcel};
+ghost use Rattle.benchplan.specs.State.{shown, ran, lentReply, plans, unitShown};
+ghost use Rattle.benchrun.specs.Run.{sentShown, sentOne, isDue, allSent, thenSent, handedShown, userRun};
+ghost use Rattle.benchrun.specs.Taken.{askOf, runLine, leavePlan, isPoint, pointLine, earlyLine, lineTaken};
 
 // One datagram that is due, sent and printed; whether there was one.
 struct Sent {
@@ -15,121 +23,238 @@ struct Sent {
     bench: Bench,
 }
 
-fn send_one(b: Bench, out: &mut [u8]) -> Sent
-    ensures { λ r. ⌜ (r .go ≡ isDue b) × (ran (r .bench) (now (out .exit)) ≡ sentOne b (now (out .entry))) ⌝ }
+fn bench_of(s: Sent) -> Bench
+    ensures { λ r. ⌜ r ≡ s .bench ⌝ }
 {
-    let mut reply = [0; 128];
-    let a = lend::send(b.node, b.table, &mut reply);
+    s.bench
+}
+
+fn is_last(s: Sent) -> bool
+    ensures { λ r. ⌜ r ≡ not (s .go) ⌝ }
+{
+    !s.go
+}
+
+fn show_sent(b: Bench, a: Answer, reply: &[u8], out: &mut [u8]) -> Sent
+    ensures { λ r. ⌜ (r .go ≡ eqb (a .number) 0) × (shown (r .bench) (now (out .exit)) ≡ sentShown (back a (now (reply .entry))) b (now (out .entry))) ⌝ }
+{
     if a.number != 0 {
         return Sent {
             go: false,
             bench: b,
         };
     }
-    let shown = benchplan::front(&reply, a.size);
-    let made = benchtext::put_due(out, b.made, shown);
-    let next = benchplan::kept_in(b, a, b.phase, made);
+    let part = benchplan::front(reply, a.size);
+    let made = benchtext::put_due(out, b.made, part);
+    let next = benchplan::kept_in(b, a, made);
     Sent {
         go: true,
         bench: next,
     }
 }
 
-// All that is due: the echo and 64 places are the most.
-fn send_due(mut b: Bench, out: &mut [u8]) -> Bench
-    ensures { λ r. ⌜ ran r (now (out .exit)) ≡ allSent b (now (out .entry)) ⌝ }
-{
-    let mut left: u8 = 65;
-    while 0 < left {
-        let s = send_one(b, out);
-        b = s.bench;
-        if !s.go {
-            return b;
-        }
-        left -= 1;
-    }
-    b
-}
-
-fn run_control(b: Bench, d: &[u8], out: &mut [u8]) -> Bench
-    ensures { λ r. ⌜ ran r (now (out .exit)) ≡ answered (b .phase) (controlTaken (b .node) (b .table .recs) (now (d .entry)) (replicate 128 0)) b (now (out .entry)) ⌝ }
+fn send_one(b: Bench, recs: &mut [Session], out: &mut [u8]) -> Sent
+    ensures { λ r. ⌜ (r .go ≡ isDue b (now (recs .entry))) × (ran (r .bench) (now (recs .exit)) (now (out .exit)) ≡ sentOne b (now (recs .entry)) (now (out .entry))) ⌝ }
 {
     let mut reply = [0; 128];
-    let a = lendcontrol::take_control(b.node, b.table, d, &mut reply);
-    benchplan::answered(b, a, &reply, b.phase, out)
+    let node = benchplan::node_of(b);
+    let a = lentclock::grugavorn_send(node, recs, &mut reply);
+    show_sent(b, a, &reply, out)
+}
+
+// All that is due: the echo and 64 places are the most.
+fn send_due(b: Bench, recs: &mut [Session], out: &mut [u8]) -> Bench
+    ensures { λ r. ⌜ ran r (now (recs .exit)) (now (out .exit)) ≡ allSent b (now (recs .entry)) (now (out .entry)) ⌝ }
+{
+    let mut y = b;
+    let mut i: usize = 0;
+    while i < 65 {
+        let s = send_one(y, recs, out);
+        y = bench_of(s);
+        let last = is_last(s);
+        if last {
+            return y;
+        }
+        i += 1;
+    }
+    y
+}
+
+fn run_control(b: Bench, recs: &mut [Session], octets: &[u8], size: usize, out: &mut [u8]) -> Bench
+    ensures { λ r. ⌜ ran r (now (recs .exit)) (now (out .exit)) ≡ unitShown (controlTaken (b .node) (now (recs .entry)) (take size (now (octets .entry))) lentReply) b (now (out .entry)) ⌝ }
+{
+    let d = benchplan::front(octets, size);
+    let mut reply = [0; 128];
+    let node = benchplan::node_of(b);
+    let a = lentcontrol::grugavorn_control(node, recs, d, &mut reply);
+    benchplan::answered(b, a, &reply, out)
+}
+
+// What is left of a datagram behind its first octets.
+fn behind<'a>(d: &'a [u8], n: usize) -> &'a [u8]
+    ensures { λ r. ⌜ now r ≡ drop n (now (d .entry)) ⌝ }
+{
+    if n <= d.len() {
+        return &d[n..];
+    }
+    &d[d.len()..]
 }
 
 // Only a packet that is handed up has a third field; an echo that is answered has a reply.
-fn run_user(b: Bench, d: &[u8], out: &mut [u8]) -> Bench
-    ensures { λ r. ⌜ ran r (now (out .exit)) ≡ userRun (now (d .entry)) b (now (out .entry)) ⌝ }
+fn show_handed(b: Bench, h: Handed, d: &[u8], reply: &[u8], out: &mut [u8]) -> Bench
+    ensures { λ r. ⌜ shown r (now (out .exit)) ≡ handedShown (parcel h (now (reply .entry))) (now (d .entry)) b (now (out .entry)) ⌝ }
 {
-    let mut reply = [0; 128];
-    let mut number: u8 = 0;
-    let mut place: usize = 0;
-    let mut size: usize = 0;
-    let payload = lend::take_user(
-        b.node,
-        b.table,
-        d,
-        &mut reply,
-        &mut number,
-        &mut place,
-        &mut size,
-    );
-    let shown = benchplan::front(&reply, size);
-    if (number == 0) & (size == 0) {
-        let made = benchtext::put_packet(out, b.made, number, shown, payload);
+    let part = benchplan::front(reply, h.size);
+    if (h.number == 0) & (h.size == 0) {
+        let payload = behind(d, h.start);
+        let made = benchtext::put_packet(out, b.made, h.number, part, payload);
         return benchplan::with_made(b, made);
     }
-    let made = benchtext::put_answer(out, b.made, number, shown);
+    let made = benchtext::put_answer(out, b.made, h.number, part);
     benchplan::with_made(b, made)
 }
 
-fn run_tick(b: Bench, out: &mut [u8]) -> Bench
-    ensures { λ r. ⌜ ran r (now (out .exit)) ≡ thenSent (answered (b .phase) (tickOf (b .node) (b .table .recs)) b (now (out .entry))) ⌝ }
+fn run_user(b: Bench, recs: &mut [Session], octets: &[u8], size: usize, out: &mut [u8]) -> Bench
+    ensures { λ r. ⌜ ran r (now (recs .exit)) (now (out .exit)) ≡ userRun (take size (now (octets .entry))) b (now (recs .entry)) (now (out .entry)) ⌝ }
 {
-    let a = lend::tick(b.node, b.table);
-    let none = [0; 0];
-    let next = benchplan::answered(b, a, &none, b.phase, out);
-    send_due(next, out)
+    let d = benchplan::front(octets, size);
+    let mut reply = [0; 128];
+    let node = benchplan::node_of(b);
+    let h = lentuser::grugavorn_user(node, recs, d, &mut reply);
+    show_handed(b, h, d, &reply, out)
 }
 
-fn run_close(b: Bench, place: u8, out: &mut [u8]) -> Bench
-    ensures { λ r. ⌜ ran r (now (out .exit)) ≡ thenSent (answered (b .phase) (closeOf (b .node) (b .table .recs) place) b (now (out .entry))) ⌝ }
+fn run_tick(b: Bench, recs: &mut [Session], out: &mut [u8]) -> Bench
+    ensures { λ r. ⌜ ran r (now (recs .exit)) (now (out .exit)) ≡ thenSent (unitShown (tickOf (b .node) (now (recs .entry))) b (now (out .entry))) ⌝ }
 {
-    let a = lend::close(b.node, b.table, place as usize);
-    let none = [0; 0];
-    let next = benchplan::answered(b, a, &none, b.phase, out);
-    send_due(next, out)
+    let node = benchplan::node_of(b);
+    let a = lentclock::grugavorn_tick(node, recs);
+    let next = benchplan::answered_bare(b, a, out);
+    send_due(next, recs, out)
+}
+
+fn run_close(b: Bench, recs: &mut [Session], place: usize, out: &mut [u8]) -> Bench
+    ensures { λ r. ⌜ ran r (now (recs .exit)) (now (out .exit)) ≡ thenSent (unitShown (closeOf (b .node) (now (recs .entry)) place) b (now (out .entry))) ⌝ }
+{
+    let node = benchplan::node_of(b);
+    let a = lentclock::grugavorn_close(node, recs, place);
+    let next = benchplan::answered_bare(b, a, out);
+    send_due(next, recs, out)
+}
+
+// What a line asks of the unit, in numbers: which call, of how many octets a datagram, of which place.
+struct Ask {
+    kind: u8,
+    size: usize,
+    place: usize,
+}
+
+impl Ask {
+    pub const CONTROL: u8 = 1;
+
+    pub const USER: u8 = 2;
+
+    pub const TICK: u8 = 3;
+
+    pub const CLOSE: u8 = 4;
+}
+
+fn asking(kind: u8, size: usize, place: usize) -> Ask
+    ensures { λ r. ⌜ r ≡ record { kind = kind; size = size; place = place } ⌝ }
+{
+    Ask { kind, size, place }
+}
+
+fn ask_of(line: Line) -> Ask
+    ensures { λ r. ⌜ r ≡ askOf line ⌝ }
+{
+    match line {
+        Line::Control { size } => asking(Ask::CONTROL, size, 0),
+        Line::User { size } => asking(Ask::USER, size, 0),
+        Line::Tick => asking(Ask::TICK, 0, 0),
+        Line::Close { place } => asking(Ask::CLOSE, 0, place as usize),
+        _ => asking(0, 0, 0),
+    }
+}
+
+fn kind_of(a: Ask) -> u8
+    ensures { λ r. ⌜ r ≡ a .kind ⌝ }
+{
+    a.kind
+}
+
+fn size_of(a: Ask) -> usize
+    ensures { λ r. ⌜ r ≡ a .size ⌝ }
+{
+    a.size
+}
+
+fn place_of(a: Ask) -> usize
+    ensures { λ r. ⌜ r ≡ a .place ⌝ }
+{
+    a.place
 }
 
 // A line once the plan is taken.
-fn run_line(b: Bench, line: Line, octets: &[u8], out: &mut [u8]) -> Bench
-    ensures { λ r. ⌜ ran r (now (out .exit)) ≡ runLine line (now (octets .entry)) b (now (out .entry)) ⌝ }
+fn run_line(b: Bench, recs: &mut [Session], line: Line, octets: &[u8], out: &mut [u8]) -> Bench
+    ensures { λ r. ⌜ ran r (now (recs .exit)) (now (out .exit)) ≡ runLine line (now (octets .entry)) b (now (recs .entry)) (now (out .entry)) ⌝ }
 {
-    match line {
-        Line::Control { size } => run_control(b, benchplan::front(octets, size), out),
-        Line::User { size } => run_user(b, benchplan::front(octets, size), out),
-        Line::Tick => run_tick(b, out),
-        Line::Close { place } => run_close(b, place, out),
-        _ => benchplan::end_bad(b, out),
+    let a = ask_of(line);
+    let kind = kind_of(a);
+    let size = size_of(a);
+    let place = place_of(a);
+    if kind == Ask::CONTROL {
+        return run_control(b, recs, octets, size, out);
     }
+    if kind == Ask::USER {
+        return run_user(b, recs, octets, size, out);
+    }
+    if kind == Ask::TICK {
+        return run_tick(b, recs, out);
+    }
+    if kind == Ask::CLOSE {
+        return run_close(b, recs, place, out);
+    }
+    benchplan::end_bad(b, out)
 }
 
 // Another line than one of an access point takes the plan first.
-fn leave_plan(b: Bench, line: Line, octets: &[u8], out: &mut [u8]) -> Bench
-    ensures { λ r. ⌜ ran r (now (out .exit)) ≡ leavePlan line (now (octets .entry)) b (now (out .entry)) ⌝ }
+fn leave_plan(b: Bench, recs: &mut [Session], line: Line, octets: &[u8], out: &mut [u8]) -> Bench
+    ensures { λ r. ⌜ ran r (now (recs .exit)) (now (out .exit)) ≡ leavePlan line (now (octets .entry)) b (now (recs .entry)) (now (out .entry)) ⌝ }
 {
-    let next = benchplan::take_plan(b, out);
-    if next.phase == Bench::OVER {
+    let next = benchplan::take_plan(b, recs, out);
+    let phase = benchplan::phase_of(next);
+    if phase == Bench::OVER {
         return next;
     }
-    run_line(next, line, octets, out)
+    run_line(next, recs, line, octets, out)
 }
 
-// A line where those of the plan stand.
-fn plan_line(b: Bench, line: Line, octets: &[u8], out: &mut [u8]) -> Bench
-    ensures { λ r. ⌜ ran r (now (out .exit)) ≡ planLine line (now (octets .entry)) b (now (out .entry)) ⌝ }
+// Whether it is a line of an access point, a good one or a bad one.
+fn is_point(line: Line) -> bool
+    ensures { λ r. ⌜ r ≡ isPoint line ⌝ }
+{
+    match line {
+        Line::Point {
+            guarantee,
+            ceiling,
+            size,
+        } => true,
+        Line::BadPoint => true,
+        _ => false,
+    }
+}
+
+fn leaves_plan(b: Bench, line: Line) -> bool
+    ensures { λ r. ⌜ r ≡ (eqb (b .phase) plans && not (isPoint line)) ⌝ }
+{
+    let point = is_point(line);
+    (b.phase == Bench::PLAN) & !point
+}
+
+// A line of an access point, where those of the plan stand.
+fn point_line(b: Bench, line: Line, octets: &[u8], out: &mut [u8]) -> Bench
+    ensures { λ r. ⌜ shown r (now (out .exit)) ≡ pointLine line (now (octets .entry)) b (now (out .entry)) ⌝ }
 {
     match line {
         Line::Point {
@@ -137,26 +262,38 @@ fn plan_line(b: Bench, line: Line, octets: &[u8], out: &mut [u8]) -> Bench
             ceiling,
             size,
         } => benchplan::one_more(b, guarantee, ceiling, benchplan::front(octets, size), out),
-        Line::BadPoint => benchplan::end_bad(b, out),
-        _ => leave_plan(b, line, octets, out),
+        _ => benchplan::end_bad(b, out),
     }
 }
 
-// A line of input, without its line end. Where the run has ended nothing is done.
-pub fn take_line(b: Bench, text: &[u8], out: &mut [u8]) -> Bench
-    ensures { λ r. ⌜ ran r (now (out .exit)) ≡ lineTaken (now (text .entry)) b (now (out .entry)) ⌝ }
+// A line that asks nothing of the unit: before the plan is taken, or where the run has ended, which does nothing.
+fn early_line(b: Bench, line: Line, octets: &[u8], out: &mut [u8]) -> Bench
+    ensures { λ r. ⌜ shown r (now (out .exit)) ≡ earlyLine line (now (octets .entry)) b (now (out .entry)) ⌝ }
 {
     let next = benchplan::with_line(b);
-    let mut octets = [0; 2048];
-    let line = benchtext::read_line(text, &mut octets);
-    if next.phase == Bench::FIRST {
+    if b.phase == Bench::FIRST {
         return benchplan::start_line(next, line, out);
     }
-    if next.phase == Bench::PLAN {
-        return plan_line(next, line, &octets, out);
-    }
-    if next.phase == Bench::RUNS {
-        return run_line(next, line, &octets, out);
+    if b.phase == Bench::PLAN {
+        return point_line(next, line, octets, out);
     }
     b
+}
+
+// A line of input, without its line end.
+pub fn take_line(b: Bench, recs: &mut [Session], text: &[u8], out: &mut [u8]) -> Bench
+    ensures { λ r. ⌜ ran r (now (recs .exit)) (now (out .exit)) ≡ lineTaken (now (text .entry)) b (now (recs .entry)) (now (out .entry)) ⌝ }
+{
+    let mut octets = [0; 2048];
+    let line = benchtext::read_line(text, &mut octets);
+    let next = benchplan::with_line(b);
+    let phase = benchplan::phase_of(b);
+    if phase == Bench::RUNS {
+        return run_line(next, recs, line, &octets, out);
+    }
+    let leaves = leaves_plan(b, line);
+    if leaves {
+        return leave_plan(next, recs, line, &octets, out);
+    }
+    early_line(b, line, &octets, out)
 }

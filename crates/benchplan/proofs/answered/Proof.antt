@@ -19,7 +19,7 @@ same-length c = search needs
 returns : tie.Need-returns
 unfolding answered
 returns c = let a = c .before .before .before .before .before .before .before .before .args in
-    rw (c .kept-in .ensures, ← c .before .before .before .before .before .front .ensures) (printed-by _ (λ made. keptIn (a .a .node) (a .a .table .recs) (a .phase) made (a .b)) _ _ _ _ (c .before .before .before .put-answer .ensures))
+    rw (c .kept-in .ensures, ← c .before .before .before .before .before .front .ensures) (printed-by _ (λ made. keptIn (a .a .node) made (a .b)) _ _ _ _ (c .before .before .before .put-answer .ensures))
 
 pub answered-spec : {M : Type 1} → statement M
 answered-spec =
