@@ -1,9 +1,10 @@
-// The service bench: reads lines from standard input, puts each to the unit, and prints what it did. The input may be of any length:
-// a buffer is filled, its whole lines are taken, and what is left of the last moves to the front. Started with any argument, it takes
-// many runs one after another: a line N starts a fresh unit, after the lines at the end of the unit before it.
+// The service bench: reads lines from standard input, puts each to the unit, and prints what it did. The unit's records are one array here, lent
+// to all that follows. The input may be of any length: a buffer is filled, its whole lines are taken, and what is left of the last moves to
+// the front. Started with any argument, it takes many runs one after another: a line N starts a fresh unit, after the lines at the end of
+// the unit before it.
 use benchplan::Bench;
+use session::Session;
 ghost use Prim.Native.Nat.{_≤_};
-ghost use mathlib.Core.Path.{_≡_};
 ghost use lib.ListN.{length};
 
 // What was printed goes out. Where it cannot be written the run ends.
@@ -30,8 +31,7 @@ fn emit_if_full(b: Bench, out: &[u8]) -> Bench {
 
 // The place of the first line end at or after a place, or the length.
 fn line_end(s: &[u8], from: usize) -> usize
-    requires { ⌜ from ≤ length (now s) ⌝ }
-    ensures { λ r. ⌜ (from ≤ r) × (r ≤ length (now (s .entry))) ⌝ }
+    ensures { λ r. ⌜ from ≤ r ⌝ }
 {
     let mut i = from;
     while i < s.len() {
@@ -44,75 +44,117 @@ fn line_end(s: &[u8], from: usize) -> usize
 }
 
 // Of many runs one after another: N behind the first line ends the run before it, and a fresh one starts.
-fn start_anew(b: Bench, many: bool, line: &[u8], out: &mut [u8]) -> Bench {
+fn goes_on(b: Bench, many: bool, line: &[u8]) -> bool {
     if !many | (b.phase == Bench::FIRST) {
-        return b;
+        return true;
     }
     if line.len() == 0 {
-        return b;
+        return true;
     }
-    if line[0] != 78 {
-        return b;
-    }
-    let e = benchplan::end_of_input(b, out);
-    let mut next = Bench::start();
-    next.made = e.made;
-    next
+    line[0] != 78
 }
 
-// A run, and how much of a part of the input was taken.
-struct Turn {
-    bench: Bench,
-    used: usize,
+// What was printed so far goes over to the fresh run.
+fn anew(b: Bench) -> Bench {
+    let next = Bench::start();
+    benchplan::with_made(next, b.made)
 }
 
-fn run_line(b: Bench, many: bool, line: &[u8], out: &mut [u8]) -> Bench {
-    let a = start_anew(b, many, line, out);
-    let c = benchrun::take_line(a, line, out);
+fn start_anew(b: Bench, recs: &mut [Session], many: bool, line: &[u8], out: &mut [u8]) -> Bench {
+    let on = goes_on(b, many, line);
+    if on {
+        return b;
+    }
+    let e = benchplan::end_of_input(b, recs, out);
+    anew(e)
+}
+
+fn run_line(b: Bench, recs: &mut [Session], many: bool, line: &[u8], out: &mut [u8]) -> Bench {
+    let a = start_anew(b, recs, many, line, out);
+    let c = benchrun::take_line(a, recs, line, out);
     emit_if_full(c, out)
 }
 
-// The line at a place, if it is whole.
-fn take_next(b: Bench, many: bool, s: &[u8], used: usize, out: &mut [u8]) -> Turn
-    requires { ⌜ used ≤ length (now s) ⌝ }
-    ensures { λ r. ⌜ (used ≤ r .used) × (r .used ≤ length (now (s .entry))) ⌝ }
-{
+// A run, how much of a part of the input was taken, and where the line ends that comes next.
+struct Turn {
+    bench: Bench,
+    used: usize,
+    end: usize,
+}
+
+fn turn_at(bench: Bench, s: &[u8], used: usize) -> Turn {
     let end = line_end(s, used);
-    if s.len() <= end {
-        return Turn { bench: b, used };
+    Turn { bench, used, end }
+}
+
+fn bench_of(t: Turn) -> Bench {
+    t.bench
+}
+
+fn used_of(t: Turn) -> usize {
+    t.used
+}
+
+// The run has ended, or no line is whole that comes next.
+fn is_taken(t: Turn, n: usize) -> bool {
+    let b = t.bench;
+    (b.phase == Bench::OVER) | (n <= t.end)
+}
+
+fn is_over(b: Bench) -> bool {
+    b.phase == Bench::OVER
+}
+
+// The line that comes next.
+fn line_in<'a>(s: &'a [u8], t: Turn) -> &'a [u8] {
+    let part = benchplan::front(s, t.end);
+    if t.used <= part.len() {
+        return &part[t.used..];
     }
-    let next = end + 1;
-    let c = run_line(b, many, &s[used..end], out);
-    Turn {
-        bench: c,
-        used: next,
+    &part[0..0]
+}
+
+// The turn behind it.
+fn turn_after(b: Bench, s: &[u8], t: Turn) -> Turn {
+    if t.end < s.len() {
+        return turn_at(b, s, t.end + 1);
     }
+    turn_at(b, s, t.end)
+}
+
+fn take_next(t: Turn, recs: &mut [Session], many: bool, s: &[u8], out: &mut [u8]) -> Turn {
+    let line = line_in(s, t);
+    let b = bench_of(t);
+    let c = run_line(b, recs, many, line, out);
+    turn_after(c, s, t)
 }
 
 // The whole lines taken, up to the end of the run.
-fn take_lines(mut b: Bench, many: bool, s: &[u8], out: &mut [u8]) -> Turn
-    ensures { λ r. ⌜ r .used ≤ length (now (s .entry)) ⌝ }
-{
-    let mut used: usize = 0;
-    while used < s.len() {
-        let t = take_next(b, many, s, used, out);
-        if t.used <= used {
+fn lines_in(b: Bench, recs: &mut [Session], many: bool, s: &[u8], out: &mut [u8]) -> Turn {
+    let n = s.len();
+    let mut t = turn_at(b, s, 0);
+    let mut i: usize = 0;
+    while i < n {
+        let taken = is_taken(t, n);
+        if taken {
             return t;
         }
-        used = t.used;
-        b = t.bench;
-        if b.phase == Bench::OVER {
-            return t;
-        }
+        t = take_next(t, recs, many, s, out);
+        i += 1;
     }
-    Turn { bench: b, used }
+    t
+}
+
+fn take_lines(b: Bench, recs: &mut [Session], many: bool, buf: &[u8], end: usize, out: &mut [u8]) -> Turn {
+    let s = benchplan::front(buf, end);
+    lines_in(b, recs, many, s, out)
 }
 
 // One read behind the `have` octets that are in use: how many are then; as many as before at the end, or where the buffer is full.
-fn fill(buf: &mut [u8], have: usize) -> usize
-    requires { ⌜ have ≤ length (now buf) ⌝ }
-    ensures { λ r. ⌜ (have ≤ r) × (r ≤ length (now (buf .exit))) ⌝ }
-{
+fn fill(buf: &mut [u8], have: usize) -> usize {
+    if buf.len() < have {
+        return have;
+    }
     let rest = &mut buf[have..];
     let got = libc::read(0, rest);
     let n = io::count(got, rest);
@@ -120,10 +162,10 @@ fn fill(buf: &mut [u8], have: usize) -> usize
 }
 
 // What stands between two places moved to the front: how much it is.
-fn shift(buf: &mut [u8], from: usize, end: usize) -> usize
-    requires { ⌜ (from ≤ end) × (end ≤ length (now buf)) ⌝ }
-    ensures { λ r. ⌜ r ≤ length (now (buf .entry)) ⌝ }
-{
+fn shift(buf: &mut [u8], from: usize, end: usize) -> usize {
+    if (end < from) | (buf.len() < end) {
+        return 0;
+    }
     let n = end - from;
     let mut i: usize = 0;
     while i < n {
@@ -134,39 +176,66 @@ fn shift(buf: &mut [u8], from: usize, end: usize) -> usize
 }
 
 // The last line may lack its line end; a buffer that is full holds a line that is too long, which is a bad one.
-fn take_rest(b: Bench, many: bool, rest: &[u8], out: &mut [u8]) -> Bench {
-    if rest.len() == 0 {
+fn take_rest(b: Bench, recs: &mut [Session], many: bool, rest: &[u8], out: &mut [u8]) -> Bench {
+    let n = rest.len();
+    if n == 0 {
         return b;
     }
-    run_line(b, many, rest, out)
+    run_line(b, recs, many, rest, out)
 }
 
-fn finish(b: Bench, many: bool, rest: &[u8], out: &mut [u8]) {
-    let c = take_rest(b, many, rest, out);
-    let d = benchplan::end_of_input(c, out);
+fn finish(b: Bench, recs: &mut [Session], many: bool, buf: &[u8], end: usize, out: &mut [u8]) {
+    let rest = benchplan::front(buf, end);
+    let c = take_rest(b, recs, many, rest, out);
+    let d = benchplan::end_of_input(c, recs, out);
     emit(d, out);
 }
 
-fn main() {
-    let mut buf = io::large_buffer();
-    let mut out = io::large_buffer();
+fn is_many() -> bool {
+    1 < os::arg_count()
+}
+
+fn turns_most() -> usize {
+    usize::MAX
+}
+
+fn run(recs: &mut [Session], buf: &mut [u8], out: &mut [u8]) {
+    let many = is_many();
+    let n = turns_most();
     let mut b = Bench::start();
-    let many = 1 < os::arg_count();
     let mut have: usize = 0;
-    let mut turns = u64::MAX;
-    while 0 < turns {
-        let end = fill(&mut buf, have);
+    let mut i: usize = 0;
+    while i < n {
+        let end = fill(buf, have);
         if end == have {
-            finish(b, many, &buf[0..end], &mut out);
+            finish(b, recs, many, buf, end, out);
             return;
         }
-        let t = take_lines(b, many, &buf[0..end], &mut out);
-        b = t.bench;
-        if b.phase == Bench::OVER {
-            emit(b, &out);
+        let t = take_lines(b, recs, many, buf, end, out);
+        b = bench_of(t);
+        let over = is_over(b);
+        if over {
+            emit(b, out);
             return;
         }
-        have = shift(&mut buf, t.used, end);
-        turns -= 1;
+        have = shift(buf, used_of(t), end);
+        i += 1;
     }
+}
+
+// No place was ever used.
+fn records() -> [Session; 64] {
+    let nobody = Session::blank_at(0);
+    [nobody; 64]
+}
+
+fn buffer() -> [u8; 65536] {
+    io::large_buffer()
+}
+
+fn main() {
+    let mut recs = records();
+    let mut buf = buffer();
+    let mut out = buffer();
+    run(&mut recs, &mut buf, &mut out);
 }

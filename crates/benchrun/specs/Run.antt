@@ -81,7 +81,7 @@ unfolding allSent
 sent-none b t out = refl
 
 not-on : (a : Bool) → not a ≡ true → a ≡ false
-not-on true e = e
+not-on true e = sym e
 not-on false e = refl
 
 not-off : (a : Bool) → not a ≡ false → a ≡ true
@@ -125,8 +125,15 @@ module _ (b r : Bench) (t t′ : List Session) (out o : List ℕ) (node : Node) 
   unfolding thenSent
   close-run t″ place c p f g h = rw (← unit-shown _ a t″ [] b c out p (rw e at f) g) h
 
+handed-is : (n : ℕ) (x : Took) (d : List ℕ) (b : Bench) (out : List ℕ) → handedShown (parcelOf n x) d b out ≡ userShown x d b out
+unfolding handedShown userShown parcelOf
+handed-is n x d b out = refl
+
 pub user-run : (b r : Bench) (t : List Session) (out o : List ℕ) (node : Node) (x : Handed) (d p reply : List ℕ) → node ≡ b .node → p ≡ d
     → parcel x reply ≡ parcelOf (length p) (userTaken node t p (replicate 128 0)) → shown r o ≡ handedShown (parcel x reply) p b out
     → ran r t o ≡ userRun d b t out
-unfolding userRun userShown handedShown lentReply parcelOf
-user-run b r t out o node x d p reply e f g h = ap (beside t) (rw (rw (e, f) at g, f) at h)
+unfolding userRun lentReply
+user-run b r t out o node x d p reply e f g h =
+    let g′ : parcel x reply ≡ parcelOf (length d) (userTaken (b .node) t d (replicate 128 0)) = rw (e, f) at g in
+    let h′ : shown r o ≡ handedShown (parcel x reply) d b out = rw f at h in
+    ap (beside t) (h′ ∙ ap (λ (z : Parcel). handedShown z d b out) g′ ∙ handed-is (length d) _ d b out)
