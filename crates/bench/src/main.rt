@@ -31,7 +31,8 @@ fn emit_if_full(b: Bench, out: &[u8]) -> Bench {
 
 // The place of the first line end at or after a place, or the length.
 fn line_end(s: &[u8], from: usize) -> usize
-    ensures { λ r. ⌜ from ≤ r ⌝ }
+    requires { ⌜ from ≤ length (now s) ⌝ }
+    ensures { λ r. ⌜ (from ≤ r) × (r ≤ length (now (s .entry))) ⌝ }
 {
     let mut i = from;
     while i < s.len() {
@@ -82,17 +83,22 @@ struct Turn {
     end: usize,
 }
 
+// The turn at a place; where that is none of the input's, nothing is left to take.
 fn turn_at(bench: Bench, s: &[u8], used: usize) -> Turn {
+    let n = s.len();
+    if n < used {
+        return Turn {
+            bench,
+            used: n,
+            end: n,
+        };
+    }
     let end = line_end(s, used);
     Turn { bench, used, end }
 }
 
 fn bench_of(t: Turn) -> Bench {
     t.bench
-}
-
-fn used_of(t: Turn) -> usize {
-    t.used
 }
 
 // The run has ended, or no line is whole that comes next.
@@ -107,9 +113,10 @@ fn is_over(b: Bench) -> bool {
 
 // The line that comes next.
 fn line_in<'a>(s: &'a [u8], t: Turn) -> &'a [u8] {
+    let used = t.used;
     let part = benchplan::front(s, t.end);
-    if t.used <= part.len() {
-        return &part[t.used..];
+    if used <= part.len() {
+        return &part[used..];
     }
     &part[0..0]
 }
@@ -145,7 +152,14 @@ fn lines_in(b: Bench, recs: &mut [Session], many: bool, s: &[u8], out: &mut [u8]
     t
 }
 
-fn take_lines(b: Bench, recs: &mut [Session], many: bool, buf: &[u8], end: usize, out: &mut [u8]) -> Turn {
+fn take_lines(
+    b: Bench,
+    recs: &mut [Session],
+    many: bool,
+    buf: &[u8],
+    end: usize,
+    out: &mut [u8],
+) -> Turn {
     let s = benchplan::front(buf, end);
     lines_in(b, recs, many, s, out)
 }
@@ -162,10 +176,10 @@ fn fill(buf: &mut [u8], have: usize) -> usize {
 }
 
 // What stands between two places moved to the front: how much it is.
-fn shift(buf: &mut [u8], from: usize, end: usize) -> usize {
-    if (end < from) | (buf.len() < end) {
-        return 0;
-    }
+fn shift(buf: &mut [u8], from: usize, end: usize) -> usize
+    requires { ⌜ (from ≤ end) × (end ≤ length (now buf)) ⌝ }
+    ensures { λ r. ⌜ r ≤ length (now (buf .entry)) ⌝ }
+{
     let n = end - from;
     let mut i: usize = 0;
     while i < n {
@@ -173,6 +187,18 @@ fn shift(buf: &mut [u8], from: usize, end: usize) -> usize {
         i += 1;
     }
     n
+}
+
+// What was not taken moved to the front.
+fn keep_rest(buf: &mut [u8], t: Turn, end: usize) -> usize {
+    let used = t.used;
+    if end < used {
+        return 0;
+    }
+    if buf.len() < end {
+        return 0;
+    }
+    shift(buf, used, end)
 }
 
 // The last line may lack its line end; a buffer that is full holds a line that is too long, which is a bad one.
@@ -218,7 +244,7 @@ fn run(recs: &mut [Session], buf: &mut [u8], out: &mut [u8]) {
             emit(b, out);
             return;
         }
-        have = shift(buf, used_of(t), end);
+        have = keep_rest(buf, t, end);
         i += 1;
     }
 }
