@@ -1,5 +1,5 @@
--- A table by value beside the lists of records that the calls' definitions speak of; and what another count of records than there are places
--- comes to: it is one of the table's rules, so it is number 2, or 1 where the reply buffer is short, with all as lent.
+-- What another count of records than there are places comes to: it is one of the table's rules, so it is number 2, or 1 where the reply
+-- buffer is short, with all as lent.
 -- Assumes nothing.
 use Prim.Native.Nat.{ℕ}
 use mathlib.Core.Bool.{Bool, true, false, _&&_}
@@ -12,24 +12,9 @@ use Rattle.tunnel.specs.Numbering.{places}
 use Rattle.session.specs.declared.Session.{Session}
 use Rattle.table.specs.declared.Node.{Node}
 use Rattle.table.specs.Rules.{keepsRules}
-use Rattle.timing.specs.declared.Answer.{Answer}
-use Rattle.timing.specs.Outcome.{Outcome, outcome, leastReply, noReply}
+use Rattle.timing.specs.Outcome.{leastReply, noReply}
 use Rattle.timing.specs.Timing.{tickOf, closeOf, sendOf}
-use Rattle.lentcore.specs.declared.Whole.{Whole}
 
--- an answer with the records that were left
-unfoldable pub wholeOf : Answer → List Session → Whole
-wholeOf a t = record { number = a .number; size = a .size; node = a .node; table = record { recs = t } }
-
--- what it comes to, with the reply buffer
-abbrev pub outcomeOf : Whole → List ℕ → Outcome
-outcomeOf w reply = outcome (record { number = w .number; size = w .size; node = w .node }) (w .table .recs) reply
-
-pub whole-is : (w : Whole) (a : Answer) (t : List Session) (reply : List ℕ) (x : Outcome) → w ≡ wholeOf a t → outcome a t reply ≡ x → outcomeOf w reply ≡ x
-unfolding wholeOf
-whole-is w a t reply x e f = rw e f
-
--- ---- laws: another count of records leaves all as lent
 -- 1 comes before 2; the number is by the reply buffer's length
 unfoldable pub uncounted : ℕ → ℕ
 uncounted room = pick {A = ℕ} (ltb room leastReply) 1 2

@@ -21,6 +21,7 @@ use session::Request;
 use session::Session;
 use table::Node;
 use table::Table;
+use timing::Answer;
 
 // A table with what goes with it.
 struct Case {
@@ -332,10 +333,20 @@ fn print_verdict(line: u64, kept: bool) {
     }
 }
 
+fn records_in(table: Table) -> [Session; 64] {
+    table.recs
+}
+
+// What a tick answers: the records are lent to the firmware's call.
+fn ticked(node: Node, table: Table) -> Answer {
+    let mut recs = records_in(table);
+    lentclock::grugavorn_tick(node, &mut recs)
+}
+
 // The line is whole: its verdict is printed, and the next begins with the base table.
 fn line_ended(r: Reading) -> Reading {
     let c = r.case;
-    let a = lend::tick(c.node, c.table);
+    let a = ticked(c.node, c.table);
     print_verdict(r.line, a.number != 2);
     started(std::num::wrapping_add_u64(r.line, 1))
 }
