@@ -207,7 +207,7 @@ module _ (s : State) (k : Kept s) (i : ℕ) (h : i < 64) (live : isFree (at s i)
       let z = rules .size in
       owner-is userOffset (userNumber (at s i .usage) i) (s .table .recs) user-fits (omega arith)
       ∙ rw (number-holder userOffset (at s i .usage) i user-fits h used)
-      (held-yes i (at s i .usage) (s .table .recs) nobody (omega arith) (rw (live, eq-eqb (at s i .usage) (at s i .usage) refl)))
+      (held-yes i (at s i .usage) (s .table .recs) (omega arith) (rw (live, eq-eqb (at s i .usage) (at s i .usage) refl)))
 
   hand : (d reply : List ℕ) → 128 ≤ length reply → userOf d .number ≡ 0 → userOf d .size ≡ 8 → headerOf d ≡ H.Packet (record { 0 = userNumber (at s i .usage) i })
       → took-of s d reply ≡ took 0 i 0 reply 8

@@ -11,15 +11,14 @@ use lib.Dec.{eqb, ltb}
 use borrow.Author.Tests.{eqb-true, lt-ltb, le-ltb, eq-eqb, ne-eqb}
 use Rattle.octets.specs.Choice.{pick, split}
 use Rattle.octets.specs.Overlay.{overlay}
-use Rattle.tunnel.specs.Numbering.{places, userOffset, user-fits}
-use Rattle.tunnel.specs.Tunnel.{holderOf}
+use Rattle.tunnel.specs.Numbering.{places, userOffset}
 use Rattle.session.specs.declared.Session.{Session}
 use Rattle.session.specs.Session.{blankAt}
 use Rattle.table.specs.declared.Node.{Node}
 use Rattle.table.specs.declared.Found.{Found}
 use Rattle.table.specs.declared.Found.the-variants as F
 use Rattle.table.specs.Rules.{keepsRules, rules-of}
-use Rattle.table.specs.Find.{ownerOf, owner-is, namedPlace, usedBy, held-used}
+use Rattle.table.specs.Find.{ownerOf, userPlace, hasUser, owner-user}
 use Rattle.messages.specs.Messages.{userEcho, errorIndication}
 use Rattle.gpdu.specs.declared.Header.{Header}
 use Rattle.gpdu.specs.declared.Header.the-variants as H
@@ -64,15 +63,18 @@ userTaken node l d reply =
 -- ---- with one record: the one at the place that the datagram's tunnel number says
 unfoldable pub headerPlace : Header → ℕ
 headerPlace (H.Echo sequence) = places
-headerPlace (H.Packet teid) = namedPlace (holderOf userOffset (teid .0))
+headerPlace (H.Packet teid) = userPlace (teid .0)
 headerPlace (H.Refused number) = places
 
 unfoldable pub placeIn : List ℕ → ℕ
 placeIn d = headerPlace (headerOf d)
 
+unfoldable pub packetBy : Bool → ℕ → ℕ → ℕ → ℕ → ℕ → List ℕ → Took
+packetBy live place teid addr start end reply = packetTaken (pick live (F.At place) F.Nothing) teid addr start end reply
+
 unfoldable pub recordTaken : Node → Session → Header → ℕ → ℕ → List ℕ → Took
 recordTaken node s (H.Echo sequence) start end reply = took 0 0 14 (overlay (userEcho sequence) reply) end
-recordTaken node s (H.Packet teid) start end reply = packetTaken (usedBy (holderOf userOffset (teid .0)) s) (teid .0) (node .plan .user) start end reply
+recordTaken node s (H.Packet teid) start end reply = packetBy (hasUser s (teid .0)) (userPlace (teid .0)) (teid .0) (node .plan .user) start end reply
 recordTaken node s (H.Refused number) start end reply = silent number end reply
 
 unfoldable pub checkedTaken : Bool → Node → Session → List ℕ → List ℕ → Took
@@ -86,11 +88,11 @@ checkedTaken kept node s d reply =
 -- the one record says what the table says
 header-record : (node : Node) (l : List Session) (h : Header) (start end : ℕ) (reply : List ℕ) → length l ≤ places
     → headerTaken node l h start end reply ≡ recordTaken node (getD l (headerPlace h) (blankAt 0)) h start end reply
-unfolding headerTaken recordTaken headerPlace
+unfolding headerTaken recordTaken packetBy headerPlace
 header-record node l (H.Echo sequence) start end reply q = refl
 header-record node l (H.Refused number) start end reply q = refl
 header-record node l (H.Packet teid) start end reply q =
-    rw (owner-is userOffset (teid .0) l user-fits q, held-used (holderOf userOffset (teid .0)) l)
+    rw (owner-user (teid .0) l q)
 
 pub user-checked : (node : Node) (l : List Session) (d reply : List ℕ)
     → checkedTaken (keepsRules node l) node (getD l (placeIn d) (blankAt 0)) d reply ≡ userTaken node l d reply
@@ -103,10 +105,10 @@ user-checked node l d reply =
 
 -- what is handed up begins within the datagram
 pub start-within : (node : Node) (s : Session) (h : Header) (start end : ℕ) (reply : List ℕ) → start ≤ end → recordTaken node s h start end reply .start ≤ end
-unfolding recordTaken packetTaken
+unfolding recordTaken packetBy packetTaken
 start-within node s (H.Echo sequence) start end reply q = omega arith
 start-within node s (H.Refused number) start end reply q = omega arith
-start-within node s (H.Packet teid) start end reply q = go (usedBy (holderOf userOffset (teid .0)) s)
+start-within node s (H.Packet teid) start end reply q = go (pick (hasUser s (teid .0)) (F.At (userPlace (teid .0))) F.Nothing)
   where
     go : (f : Found) → packetTaken f (teid .0) (node .plan .user) start end reply .start ≤ end
     go (F.At place) = q

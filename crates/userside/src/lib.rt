@@ -3,16 +3,16 @@
 // record of it says all.
 use gpdu::Header;
 use session::Session;
-use table::Found;
 use table::Node;
 use table::Table;
 ghost use mathlib.Core.Path.{_≡_};
 ghost use Rattle.gpdu.specs.Part.{IsRest};
-ghost use Rattle.userside.specs.UserSide.{took, placeIn, packetTaken, recordTaken, checkedTaken};
+ghost use Rattle.userside.specs.UserSide.{took, placeIn, packetBy, recordTaken, checkedTaken};
 
 // A packet: its place where its number is live, else the Error Indication. The answer is where what is handed up begins.
 fn take_packet(
-    f: Found,
+    live: bool,
+    at: usize,
     teid: u32,
     addr: u32,
     start: usize,
@@ -22,15 +22,15 @@ fn take_packet(
     place: &mut usize,
     size: &mut usize,
 ) -> usize
-    ensures { λ r. ⌜ took (now (number .exit)) (now (place .exit)) (now (size .exit)) (now (reply .exit)) r ≡ packetTaken f teid addr start end (now (reply .entry)) ⌝ }
+    ensures { λ r. ⌜ took (now (number .exit)) (now (place .exit)) (now (size .exit)) (now (reply .exit)) r ≡ packetBy live at teid addr start end (now (reply .entry)) ⌝ }
 {
-    let Found::At(at) = f else {
+    if !live {
         *number = 15;
         *place = 0;
         *size = 24;
         messages::error_indication(reply, teid, addr);
         return end;
-    };
+    }
     *number = 0;
     *place = at;
     *size = 0;
@@ -61,9 +61,20 @@ fn take_header(
         }
         Header::Packet { teid } => {
             let plan = node.plan;
-            let holder = teid.holder();
-            let f = table::used_by(holder, s);
-            take_packet(f, teid.0, plan.user, start, end, reply, number, place, size)
+            let live = table::has_user(s, teid);
+            let at = table::user_place(teid);
+            take_packet(
+                live,
+                at,
+                teid.0,
+                plan.user,
+                start,
+                end,
+                reply,
+                number,
+                place,
+                size,
+            )
         }
         Header::Refused(why) => {
             *number = why;
@@ -81,10 +92,7 @@ pub fn place_of(d: &[u8]) -> usize
     let h = Header::of(d);
     match h {
         Header::Echo { sequence: _ } => Table::PLACES,
-        Header::Packet { teid } => {
-            let holder = teid.holder();
-            table::named_place(holder)
-        }
+        Header::Packet { teid } => table::user_place(teid),
         Header::Refused(_) => Table::PLACES,
     }
 }

@@ -14,11 +14,8 @@ enum-told c = search needs
 enum-known-h : tie.Need-enum-known-h
 enum-known-h c = search needs
 
-holder-requires : tie.Need-holder-requires
-holder-requires c κs = search needs
-
-named-place-requires : tie.Need-named-place-requires
-named-place-requires c κs = search needs
+user-place-requires : tie.Need-user-place-requires
+user-place-requires c κs = search needs
 
 enum-told-2 : tie.Need-enum-told-2
 enum-told-2 c = search needs
@@ -29,7 +26,7 @@ returns c = rw (← c .before .before .of .ensures, c .enum-told .given .1)
 
 returns-2 : tie.Need-returns-2
 unfolding placeIn headerPlace
-returns-2 c = c .named-place .ensures ∙ rw (← c .before .before .before .before .before .of .ensures, c .before .before .before .h .given .1, c .before .holder .ensures)
+returns-2 c = c .user-place .ensures ∙ rw (← c .before .before .before .before .of .ensures, c .before .before .h .given .1)
 
 returns-3 : tie.Need-returns-3
 unfolding placeIn headerPlace places
@@ -42,8 +39,7 @@ place-of-spec =
     of-requires
     enum-told
     enum-known-h
-    holder-requires
-    named-place-requires
+    user-place-requires
     enum-told-2
     returns
     returns-2

@@ -15,11 +15,11 @@ user-echo-requires c κs = search needs
 enum-known-h-2 : tie.Need-enum-known-h-2
 enum-known-h-2 c = search needs
 
-holder-requires : tie.Need-holder-requires
-holder-requires c κs = search needs
+has-user-requires : tie.Need-has-user-requires
+has-user-requires c κs = search needs
 
-used-by-requires : tie.Need-used-by-requires
-used-by-requires c κs = search needs
+user-place-requires : tie.Need-user-place-requires
+user-place-requires c κs = search needs
 
 take-packet-requires : tie.Need-take-packet-requires
 take-packet-requires c κs = search needs
@@ -39,7 +39,7 @@ same-length-2 c = search needs
 
 returns-2 : tie.Need-returns-2
 unfolding recordTaken
-returns-2 c = rw (c .before .before .before .before .before .before .before .before .before .before .before .h2 .given .1, ← c .before .before .before .before .before .before .before .before .holder .ensures, ← c .before .before .before .before .before .before .before .used-by .ensures) (c .before .before .take-packet .ensures)
+returns-2 c = rw (c .before .before .before .before .before .before .before .before .before .before .before .h2 .given .1, ← c .before .before .before .before .before .before .before .before .has-user .ensures, ← c .before .before .before .before .before .before .before .user-place .ensures) (c .before .before .take-packet .ensures)
 
 returns-3 : tie.Need-returns-3
 unfolding recordTaken
@@ -53,8 +53,8 @@ take-header-spec =
     cast-user-echo
     user-echo-requires
     enum-known-h-2
-    holder-requires
-    used-by-requires
+    has-user-requires
+    user-place-requires
     take-packet-requires
     enum-known-h-3
     same-length
