@@ -4,33 +4,23 @@ ghost use mathlib.Core.Path.{_≡_};
 ghost use Prim.Native.Nat.{_-_};
 ghost use lib.ListN.{length};
 ghost use Rattle.gpdu.specs.User.{userOf};
-ghost use Rattle.gpduhost.specs.Said.{headerType, headerTeid, headerSequence, Says};
+ghost use Rattle.gpduhost.specs.Said.{said, saidOf, saidIn};
 
 // The message type, the tunnel number and the sequence number: 0 where the case has none.
-fn type_number(h: Header) -> u8
-    ensures { λ r. ⌜ r ≡ headerType h ⌝ }
+fn say(h: Header, kind: &mut u8, teid: &mut u32, sequence: &mut u16)
+    ensures { λ _. ⌜ said (now (kind .exit)) (now (teid .exit)) (now (sequence .exit)) ≡ saidOf h ⌝ }
 {
     match h {
-        Header::Echo { sequence: _ } => Header::ECHO,
-        Header::Packet { teid: _ } => Header::PACKET,
-    }
-}
-
-fn teid_number(h: Header) -> u32
-    ensures { λ r. ⌜ r ≡ headerTeid h ⌝ }
-{
-    match h {
-        Header::Echo { sequence: _ } => 0,
-        Header::Packet { teid } => teid.0,
-    }
-}
-
-fn sequence_number(h: Header) -> u16
-    ensures { λ r. ⌜ r ≡ headerSequence h ⌝ }
-{
-    match h {
-        Header::Echo { sequence } => sequence,
-        Header::Packet { teid: _ } => 0,
+        Header::Echo { sequence: n } => {
+            *kind = Header::ECHO;
+            *teid = 0;
+            *sequence = n;
+        }
+        Header::Packet { teid: n } => {
+            *kind = Header::PACKET;
+            *teid = n.0;
+            *sequence = 0;
+        }
     }
 }
 
@@ -45,7 +35,7 @@ pub extern "C" fn gpdu_read(
 ) -> usize
     ensures { λ r. ⌜ (r ≡ length (now (d .entry)) - userOf (now (d .entry)) .size)
         × ((now (number .exit) ≡ userOf (now (d .entry)) .number)
-        × Says (now (kind .exit)) (now (teid .exit)) (now (sequence .exit)) (now (d .entry))) ⌝ }
+        × (said (now (kind .exit)) (now (teid .exit)) (now (sequence .exit)) ≡ saidIn (now (d .entry)))) ⌝ }
 {
     let part = gpdu::payload(d, number);
     if *number != 0 {
@@ -55,8 +45,6 @@ pub extern "C" fn gpdu_read(
         return part.len();
     }
     let h = Header::of(d);
-    *kind = type_number(h);
-    *teid = teid_number(h);
-    *sequence = sequence_number(h);
+    say(h, kind, teid, sequence);
     part.len()
 }
