@@ -10,7 +10,7 @@ use lib.ListN.{length, getD}
 use lib.Dec.{eqb, ltb}
 use borrow.Author.Tests.{eq-eqb, ne-eqb, eqb-true, le-ltb, ltb-false}
 use Rattle.octets.specs.BigEndian.{numberOf}
-use Rattle.octets.specs.Choice.{pick, split, or-true, impossible}
+use Rattle.octets.specs.Choice.{pick, split, impossible}
 use Rattle.gpdu.specs.declared.Header.{Header}
 use Rattle.gpdu.specs.declared.Header.the-variants.{Echo, Packet}
 
@@ -83,11 +83,6 @@ unfoldable pub headerOf : List ℕ → Header
 headerOf d = pick (eqb (typeOf d) echoType) (Echo (sequenceOf d)) (Packet (record { 0 = teidOf d }))
 
 -- ---- laws
--- with S set the optional part is there
-pub optional-sequenced : (first : ℕ) → sequenced first ≡ true → optional first ≡ true
-unfolding optional
-optional-sequenced first e = rw (e, or-true)
-
 pub optional-plain : (first : ℕ) → optional first ≡ false → extended first ≡ false
 unfolding optional
 optional-plain first e = split (extended first) (λ a. impossible (sym (rw a at e))) (λ a. a)
