@@ -182,9 +182,9 @@ static count stack_of(void (*f)(count), count n)
     octet *top = painted + sizeof painted - 64;
     for (i = 0; i < sizeof painted; i++)
         painted[i] = 0xA5;
-    __asm__ volatile("movq %%rsp, %%rbx\n\tmovq %0, %%rsp\n\tcallq *%1\n\tmovq %%rbx, %%rsp"
-                     :
-                     : "r"(top), "r"(f), "D"(n)
+    __asm__ volatile("movq %%rsp, %%rbx\n\tmovq %1, %%rsp\n\tcallq *%2\n\tmovq %%rbx, %%rsp"
+                     : "+D"(n)
+                     : "r"(top), "r"(f)
                      : "rbx", "rax", "rcx", "rdx", "rsi", "r8", "r9", "r10", "r11", "memory", "cc");
     for (i = 0; painted[i] == 0xA5;)
         i++;

@@ -24,12 +24,6 @@ count paper_read(const octet *d, count n, octet *number, octet *type, unsigned i
     if (why)
         return 0;
 
-    *type = d[1];
-    if (d[1] == 255)
-        *teid = (unsigned int)d[4] << 24 | (unsigned int)d[5] << 16 | (unsigned int)d[6] << 8 | d[7];
-    else if (d[0] & 0x02)
-        *sequence = (unsigned short)(d[8] << 8 | d[9]);
-
     p = d + 8;
     if (d[0] & 0x07) {
         octet next = p[3];
@@ -50,5 +44,11 @@ count paper_read(const octet *d, count n, octet *number, octet *type, unsigned i
                 next = p[-1];
             }
     }
+
+    *type = d[1];
+    if (d[1] == 255)
+        *teid = (unsigned int)d[4] << 24 | (unsigned int)d[5] << 16 | (unsigned int)d[6] << 8 | d[7];
+    else if (d[0] & 0x02)
+        *sequence = (unsigned short)(d[8] << 8 | d[9]);
     return (count)(end - p);
 }

@@ -25,11 +25,12 @@ use Rattle.table.specs.declared.Found.the-variants as F
 use Rattle.table.specs.Rules.{boundsOf, Rules, rules-of}
 use Rattle.table.specs.Change.{nobody, record-ok}
 use Rattle.table.specs.Find.{ownerOf, heldIn, owner-is, held-yes}
+use Rattle.messages.specs.Messages.{size-user-echo}
+use Rattle.timing.specs.Outcome.{State, leastReply}
 use Rattle.gpdu.specs.declared.Header.the-variants as H
-use Rattle.gpdu.specs.Header.{echoType, packetType, ours, optional, sizeOf, typeTaken, octet, lengthOf, teidOf, refusalOf, headerOf, header-packet, header-echo, header-passed}
+use Rattle.gpdu.specs.Header.{echoType, packetType, ours, optional, sizeOf, typeTaken, typeOf, lengthOf, teidOf, sequenceOf, refusalOf, headerOf, teid-there, header-packet, header-echo, header-passed}
 use Rattle.gpdu.specs.User.{userOf, user-passed, user-plain}
 use Rattle.userside.specs.UserSide.{Took, took, headerTaken, packetTaken, userTaken, user-short, user-unread, user-read}
-use Rattle.timing.specs.Outcome.{State}
 use Rattle.demands.specs.Run.{Event, reached, Run, Kept, reached-keeps}
 use Rattle.demands.specs.Bounds.{at, reached-rules}
 
@@ -42,14 +43,14 @@ took-of s d reply = userTaken (s .node) (s .table) d reply
 pub record HandedUp (s : State) (d : List ℕ) (w : Took) : Type 0 where
   pub place : w .place < 64
   pub live : isFree (at s (w .place)) ≡ false
-  pub packet : octet d 1 ≡ 255
+  pub packet : typeOf d ≡ 255
   pub number : userNumber (at s (w .place) .usage) (w .place) ≡ teidOf d
   pub start : w .start ≡ userOf d .size
 
 -- and else nothing is: what would be handed up begins where the datagram ends
 pub record Fairly (s : State) (d : List ℕ) (w : Took) : Type 0 where
   pub handed : w .number ≡ 0 → w .size ≡ 0 → HandedUp s d w
-  pub noReply : w .number ≢ 0 → w .start ≡ length d
+  pub refused : w .number ≢ 0 → w .start ≡ length d
   pub replied : w .size ≢ 0 → w .start ≡ length d
 
 unfoldable pub LiveOnly : Type 0
@@ -113,17 +114,17 @@ owns n place l size e = look (holderOf userOffset n) refl
 
 -- ---- only live ones
 -- what is taken and no echo is a G-PDU
-packet-type : (d : List ℕ) → refusalOf d ≡ 0 → octet d 1 ≢ echoType → octet d 1 ≡ 255
+packet-type : (d : List ℕ) → refusalOf d ≡ 0 → typeOf d ≢ echoType → typeOf d ≡ 255
 unfolding typeTaken
 packet-type d e n =
-    or-split (eqb (octet d 1) echoType) (eqb (octet d 1) packetType) (header-passed d e .is-taken)
-    (λ q. absurd (n (eqb-true (octet d 1) echoType q))) (λ q. eqb-true (octet d 1) packetType q)
+    or-split (eqb (typeOf d) echoType) (eqb (typeOf d) packetType) (header-passed d e .is-taken)
+    (λ q. absurd (n (eqb-true (typeOf d) echoType q))) (λ q. eqb-true (typeOf d) packetType q)
 
 module _ (s : State) (k : Kept s) (size : length (s .table) ≡ 64) (d reply : List ℕ) where
   silent-fair : (n : ℕ) → n ≢ 0 → Fairly s d (took n 0 0 reply (length d))
-  silent-fair n h = record { handed = λ e f. absurd (h e); noReply = λ e. refl; replied = λ e. refl }
+  silent-fair n h = record { handed = λ e f. absurd (h e); refused = λ e. refl; replied = λ e. refl }
 
-  packet-fair : octet d 1 ≡ 255 → (f : Found) → ownerOf userOffset (teidOf d) (s .table) ≡ f
+  packet-fair : typeOf d ≡ 255 → (f : Found) → ownerOf userOffset (teidOf d) (s .table) ≡ f
       → Fairly s d (packetTaken f (teidOf d) (s .node .plan .user) (userOf d .size) (length d) reply)
   unfolding packetTaken places
   packet-fair g (F.At place) e =
@@ -131,23 +132,24 @@ module _ (s : State) (k : Kept s) (size : length (s .table) ≡ 64) (d reply : L
       let t = o .there in
       record {
         handed = λ a b. record { place = omega arith; live = o .live; packet = g; number = o .number; start = refl };
-        noReply = λ a. absurd (a refl);
+        refused = λ a. absurd (a refl);
         replied = λ a. absurd (a refl);
       }
-  packet-fair g F.Nothing e = record { handed = λ a b. absurd (omega arith); noReply = λ a. refl; replied = λ a. refl }
+  packet-fair g F.Nothing e = record { handed = λ a b. absurd (omega arith); refused = λ a. refl; replied = λ a. refl }
 
   header-fair : refusalOf d ≡ 0 → Fairly s d (headerTaken (s .node) (s .table) (headerOf d) (userOf d .size) (length d) reply)
   unfolding headerTaken
   header-fair e =
-      split (eqb (octet d 1) echoType)
-      (λ q. rw (header-echo d e (eqb-true (octet d 1) echoType q)) (record { handed = λ a b. absurd (omega arith); noReply = λ a. refl; replied = λ a. refl }))
-      (λ q. rw (header-packet d e (eqb-false (octet d 1) echoType q)) (packet-fair (packet-type d e (eqb-false (octet d 1) echoType q)) (ownerOf userOffset (teidOf d) (s .table)) refl))
+      split (eqb (typeOf d) echoType)
+      (λ q. let z = size-user-echo (sequenceOf d) in
+      rw (header-echo d (eqb-true (typeOf d) echoType q)) (record { handed = λ a b. absurd (omega arith); refused = λ a. refl; replied = λ a. refl }))
+      (λ q. rw (header-packet d (eqb-false (typeOf d) echoType q)) (packet-fair (packet-type d e (eqb-false (typeOf d) echoType q)) (ownerOf userOffset (teidOf d) (s .table)) refl))
 
   pub user-fair : Fairly s d (took-of s d reply)
   user-fair =
-      split (ltb (length reply) 128)
-      (λ a. rw (user-short (s .node) (s .table) d reply (ltb-true (length reply) 128 a)) (silent-fair 1 (λ e. omega arith)))
-      (λ a. let room = ltb-false (length reply) 128 a in
+      split (ltb (length reply) leastReply)
+      (λ a. rw (user-short (s .node) (s .table) d reply (ltb-true (length reply) leastReply a)) (silent-fair 1 (λ e. omega arith)))
+      (λ a. let room = ltb-false (length reply) leastReply a in
       split (eqb (userOf d .number) 0)
       (λ b. let e = eqb-true (userOf d .number) 0 b in
       rw (user-read (s .node) (s .table) d reply room k e) (header-fair (user-passed d e)))
@@ -169,7 +171,7 @@ module _ (n : ℕ) (x : List ℕ) (small : length x < 65536) where
 
   packet-number : n < 4294967296 → teidOf (packet n x) ≡ n
   unfolding packet octetsOf numberOf numberFrom
-  packet-number h = number-back 4 n h
+  packet-number h = teid-there (packet n x) (omega arith) ∙ number-back 4 n h
 
   packet-read : (userOf (packet n x) .number ≡ 0) × (userOf (packet n x) .size ≡ 8)
   unfolding packet octetsOf sizeOf optional
@@ -177,7 +179,7 @@ module _ (n : ℕ) (x : List ℕ) (small : length x < 65536) where
 
   packet-header : n < 4294967296 → headerOf (packet n x) ≡ H.Packet (record { 0 = n })
   unfolding packet octetsOf
-  packet-header h = header-packet (packet n x) packet-refusal (λ e. omega arith) ∙ ap (λ (m : ℕ). H.Packet (record { 0 = m })) (packet-number h)
+  packet-header h = header-packet (packet n x) (λ e. omega arith) ∙ ap (λ (m : ℕ). H.Packet (record { 0 = m })) (packet-number h)
 
   packet-rest : drop 8 (packet n x) ≡ x
   unfolding packet octetsOf
@@ -208,11 +210,11 @@ module _ (s : State) (k : Kept s) (i : ℕ) (h : i < 64) (live : isFree (at s i)
       let z = rules .size in
       owner-is userOffset (userNumber (at s i .usage) i) (s .table) user-fits (omega arith)
       ∙ rw (number-holder userOffset (at s i .usage) i user-fits h used)
-      (held-yes i (at s i .usage) (s .table) nobody (omega arith) (rw (live, eq-eqb (at s i .usage) (at s i .usage) refl)))
+      (held-yes i (at s i .usage) (s .table) (omega arith) (rw (live, eq-eqb (at s i .usage) (at s i .usage) refl)))
 
   hand : (d reply : List ℕ) → 128 ≤ length reply → userOf d .number ≡ 0 → userOf d .size ≡ 8 → headerOf d ≡ H.Packet (record { 0 = userNumber (at s i .usage) i })
       → took-of s d reply ≡ took 0 i 0 reply 8
-  unfolding headerTaken packetTaken
+  unfolding headerTaken packetTaken leastReply
   hand d reply room n z q = user-read (s .node) (s .table) d reply room k n ∙ rw (q, owner, z)
 
   carried-here : (x reply : List ℕ) → length x < 65536 → 128 ≤ length reply

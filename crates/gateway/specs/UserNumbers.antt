@@ -15,11 +15,12 @@ use Rattle.table.specs.declared.Found.the-variants as F
 use Rattle.table.specs.Rules.{keepsRules}
 use Rattle.table.specs.Find.{ownerOf}
 use Rattle.header.specs.Types.{among}
+use Rattle.timing.specs.Outcome.{leastReply}
 use Rattle.gpdu.specs.declared.Header.{Header}
 use Rattle.gpdu.specs.declared.Header.the-variants as H
-use Rattle.gpdu.specs.Header.{refusalOf, headerOf, headerNumber, header-number, sizeOf, ours, typeTaken, optional, octet, lengthOf, fixedSize, wholeSize}
+use Rattle.gpdu.specs.Header.{refusalOf, headerOf, sizeOf, ours, typeTaken, optional, octet, lengthOf, fixedSize, wholeSize}
 use Rattle.gpdu.specs.Extensions.{walkOf, extensionsOf, firstMust, unfit, extent, nextType}
-use Rattle.gpdu.specs.User.{userOf, walkPast, firstType}
+use Rattle.gpdu.specs.User.{userOf, firstType}
 use Rattle.userside.specs.UserSide.{packetTaken, headerTaken, userTaken}
 
 unfoldable pub userNumbers : List ℕ
@@ -48,7 +49,7 @@ walk-number (suc n) l type =
     (λ b. split (unfit l) (λ u. rw (a, b, u)) (λ u. rw (a, b, u) (walk-number n (drop (extent l) l) (nextType l)))))
 
 read-number : (d : List ℕ) → among (userOf d .number) userNumbers ≡ true
-unfolding userOf walkPast extensionsOf
+unfolding userOf extensionsOf
 read-number d =
     split (eqb (refusalOf d) 0)
     (λ a. rw a (walk-number (length (drop (sizeOf (octet d 0)) d)) (drop (sizeOf (octet d 0)) d) (firstType d)))
@@ -60,21 +61,20 @@ unfolding packetTaken userNumbers
 packet-number (F.At place) teid addr start end reply = refl
 packet-number F.Nothing teid addr start end reply = refl
 
-header-taken-number : (node : Node) (l : List Session) (h : Header) (start end : ℕ) (reply : List ℕ) → among (headerNumber h) userNumbers ≡ true
+header-taken-number : (node : Node) (l : List Session) (h : Header) (start end : ℕ) (reply : List ℕ)
     → among (headerTaken node l h start end reply .number) userNumbers ≡ true
-unfolding headerTaken headerNumber userNumbers
-header-taken-number node l (H.Echo sequence) start end reply h = refl
-header-taken-number node l (H.Packet teid) start end reply h =
+unfolding headerTaken userNumbers
+header-taken-number node l (H.Echo sequence) start end reply = refl
+header-taken-number node l (H.Packet teid) start end reply =
     packet-number (ownerOf userOffset (teid .0) l) (teid .0) (node .plan .user) start end reply
-header-taken-number node l (H.Refused number) start end reply h = h
 
 unfoldable pub UserNumbers : Type 0
 UserNumbers = (node : Node) (t : List Session) (d reply : List ℕ) → keepsRules node t ≡ true → among (userTaken node t d reply .number) userNumbers ≡ true
 
 pub user-numbers : UserNumbers
-unfolding UserNumbers userTaken userNumbers userOf
+unfolding UserNumbers userTaken userNumbers
 user-numbers node t d reply e =
-    split (ltb (length reply) 128) (λ a. rw a)
+    split (ltb (length reply) leastReply) (λ a. rw a)
     (λ a. split (eqb (userOf d .number) 0)
-    (λ b. rw (a, e, b) (header-taken-number node t (headerOf d) (userOf d .size) (length d) reply (rw (header-number d) (refusal-number d))))
+    (λ b. rw (a, e, b) (header-taken-number node t (headerOf d) (userOf d .size) (length d) reply))
     (λ b. rw (a, e, b) (read-number d)))

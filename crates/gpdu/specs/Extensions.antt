@@ -11,7 +11,7 @@ use lib.Dec.{eqb, leb, ltb}
 use borrow.Author.Tests.{eq-eqb, ne-eqb, le-leb, lt-leb, ltb-false}
 use Rattle.octets.specs.Choice.{pick, split, tests, impossible}
 
--- the number (0, 13 or 14) and how many octets lie before the payload: all of them where the walk is refused
+-- the number and how many octets lie before the payload: all of them where there is a refusal
 pub record Walk : Type 0 where
   pub number : ℕ
   pub size : ℕ
@@ -142,3 +142,23 @@ within (suc n) l type =
 pub ext-within : (l : List ℕ) (type : ℕ) → extensionsOf l type .size ≤ length l
 unfolding extensionsOf
 ext-within l type = within (length l) l type
+
+-- and where it is refused it has them all
+all-of : (n : ℕ) (l : List ℕ) (type : ℕ) → (walkOf n l type .number ≡ 0 → ⊥) → walkOf n l type .size ≡ length l
+unfolding walkOf
+all-of zero l type h =
+    split (eqb type 0) (λ a. absurd (h (rw a)))
+    (λ a. split (leb firstMust type) (λ b. rw (a, b)) (λ b. rw (a, b)))
+all-of (suc n) l type h =
+    split (eqb type 0) (λ a. absurd (h (rw a)))
+    (λ a. split (leb firstMust type) (λ b. rw (a, b))
+    (λ b. split (unfit l) (λ u. rw (a, b, u))
+    (λ u.
+    let f = fit-extent l u in
+    let s = length-drop (extent l) l in
+    let r = all-of n (drop (extent l) l) (nextType l) (λ z. h (rw (a, b, u) z)) in
+    rw (a, b, u) (omega arith))))
+
+pub ext-refused : (l : List ℕ) (type : ℕ) → (extensionsOf l type .number ≡ 0 → ⊥) → extensionsOf l type .size ≡ length l
+unfolding extensionsOf
+ext-refused l type h = all-of (length l) l type h

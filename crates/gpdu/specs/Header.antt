@@ -4,15 +4,15 @@
 use Prim.Native.Nat.{ℕ, _-_, _/_, _%_, _≤_}
 use mathlib.Core.Bool.{Bool, true, false, not, _&&_, _||_}
 use mathlib.Core.List.{List, [], _∷_}
-use mathlib.Core.Path.{_≡_, refl, sym}
+use mathlib.Core.Path.{_≡_, sym}
 use native.Mathlib.Omega.{arith}
 use lib.ListN.{length, getD}
 use lib.Dec.{eqb, ltb}
-use borrow.Author.Tests.{eq-eqb, ne-eqb, eqb-true, ltb-false}
+use borrow.Author.Tests.{eq-eqb, ne-eqb, eqb-true, le-ltb, ltb-false}
 use Rattle.octets.specs.BigEndian.{numberOf}
-use Rattle.octets.specs.Choice.{pick, split, or-true, impossible}
+use Rattle.octets.specs.Choice.{pick, split, impossible}
 use Rattle.gpdu.specs.declared.Header.{Header}
-use Rattle.gpdu.specs.declared.Header.the-variants.{Echo, Packet, Refused}
+use Rattle.gpdu.specs.declared.Header.the-variants.{Echo, Packet}
 
 -- the octets of every header, and of one with the optional part
 abbrev pub fixedSize : ℕ
@@ -58,12 +58,16 @@ octet d i = getD d i 0
 abbrev pub lengthOf : List ℕ → ℕ
 lengthOf d = numberOf (octet d 2 ∷ octet d 3 ∷ [])
 
-abbrev pub teidOf : List ℕ → ℕ
-teidOf d = numberOf (octet d 4 ∷ octet d 5 ∷ octet d 6 ∷ octet d 7 ∷ [])
+abbrev pub typeOf : List ℕ → ℕ
+typeOf d = octet d 1
 
--- 0 if S is unset
+-- 0 where the header is cut
+unfoldable pub teidOf : List ℕ → ℕ
+teidOf d = pick {A = ℕ} (ltb (length d) fixedSize) 0 (numberOf (octet d 4 ∷ octet d 5 ∷ octet d 6 ∷ octet d 7 ∷ []))
+
+-- 0 if S is unset, or the optional part is cut
 unfoldable pub sequenceOf : List ℕ → ℕ
-sequenceOf d = pick {A = ℕ} (sequenced (octet d 0)) (numberOf (octet d 8 ∷ octet d 9 ∷ [])) 0
+sequenceOf d = pick {A = ℕ} (ltb (length d) wholeSize) 0 (pick (sequenced (octet d 0)) (numberOf (octet d 8 ∷ octet d 9 ∷ [])) 0)
 
 -- the number of the first refusal that the header meets, or 0
 unfoldable pub refusalOf : List ℕ → ℕ
@@ -71,53 +75,14 @@ refusalOf d =
     pick {A = ℕ} (ltb (length d) fixedSize) 3
     (pick (not (ours (octet d 0))) 12
     (pick (not (eqb (lengthOf d) (length d - fixedSize))) 6
-    (pick (not (typeTaken (octet d 1))) 7
+    (pick (not (typeTaken (typeOf d))) 7
     (pick (optional (octet d 0) && ltb (length d) wholeSize) 13 0))))
 
--- what the datagram is, as far as its first 12 octets say
+-- what a datagram is that is not refused, as its first 12 octets say
 unfoldable pub headerOf : List ℕ → Header
-headerOf d =
-    pick (eqb (refusalOf d) 0)
-    (pick (eqb (octet d 1) echoType) (Echo (sequenceOf d)) (Packet (record { 0 = teidOf d })))
-    (Refused (refusalOf d))
-
--- document 01's number for each case of the answer
-unfoldable pub headerNumber : Header → ℕ
-headerNumber (Echo sequence) = 0
-headerNumber (Packet teid) = 0
-headerNumber (Refused number) = number
-
--- and the values: the message type, the tunnel number and the sequence number, 0 where the case has none
-unfoldable pub headerType : Header → ℕ
-headerType (Echo sequence) = echoType
-headerType (Packet teid) = packetType
-headerType (Refused number) = 0
-
-unfoldable pub headerTeid : Header → ℕ
-headerTeid (Echo sequence) = 0
-headerTeid (Packet teid) = teid .0
-headerTeid (Refused number) = 0
-
-unfoldable pub headerSequence : Header → ℕ
-headerSequence (Echo sequence) = sequence
-headerSequence (Packet teid) = 0
-headerSequence (Refused number) = 0
-
-pub record Says (type teid sequence : ℕ) (header : Header) : Type 0 where
-  pub type-is : type ≡ headerType header
-  pub teid-is : teid ≡ headerTeid header
-  pub sequence-is : sequence ≡ headerSequence header
+headerOf d = pick (eqb (typeOf d) echoType) (Echo (sequenceOf d)) (Packet (record { 0 = teidOf d }))
 
 -- ---- laws
-pub says-refused : (d : List ℕ) → (refusalOf d ≡ 0 → ⊥) → Says 0 0 0 (headerOf d)
-unfolding headerOf headerType headerTeid headerSequence
-says-refused d h = rw (ne-eqb (refusalOf d) 0 h) (record { type-is = refl; teid-is = refl; sequence-is = refl })
-
--- with S set the optional part is there
-pub optional-sequenced : (first : ℕ) → sequenced first ≡ true → optional first ≡ true
-unfolding optional
-optional-sequenced first e = rw (e, or-true)
-
 pub optional-plain : (first : ℕ) → optional first ≡ false → extended first ≡ false
 unfolding optional
 optional-plain first e = split (extended first) (λ a. impossible (sym (rw a at e))) (λ a. a)
@@ -134,7 +99,7 @@ size-plain first e = rw e
 pub record Passed (d : List ℕ) : Type 0 where
   pub is-ours : ours (octet d 0) ≡ true
   pub exact : lengthOf d ≡ length d - fixedSize
-  pub is-taken : typeTaken (octet d 1) ≡ true
+  pub is-taken : typeTaken (typeOf d) ≡ true
   pub fixed : fixedSize ≤ length d
   pub whole : sizeOf (octet d 0) ≤ length d
 
@@ -153,7 +118,7 @@ header-passed d e =
     (λ b. let e₂ = rw b at e₁ in
     split (eqb (lengthOf d) (length d - fixedSize))
     (λ f. let e₃ = rw f at e₂ in
-    split (typeTaken (octet d 1))
+    split (typeTaken (typeOf d))
     (λ g. let e₄ = rw g at e₃ in
     split (optional (octet d 0) && ltb (length d) wholeSize) (λ h. let z = rw h at e₄ in absurd (omega arith))
     (λ h. let k = ltb-false (length d) fixedSize a in
@@ -162,23 +127,16 @@ header-passed d e =
     (λ f. let z = rw f at e₂ in absurd (omega arith)))
     (λ b. let z = rw b at e₁ in absurd (omega arith)))
 
--- the cases of the answer
-pub header-refused : (d : List ℕ) → (refusalOf d ≡ 0 → ⊥) → headerOf d ≡ Refused (refusalOf d)
-unfolding headerOf
-header-refused d h = rw (ne-eqb _ _ h)
+-- what is said in a header that has its octets
+module _ (d : List ℕ) where
+  pub teid-there : fixedSize ≤ length d → teidOf d ≡ numberOf (octet d 4 ∷ octet d 5 ∷ octet d 6 ∷ octet d 7 ∷ [])
+  unfolding teidOf
+  teid-there h = rw (le-ltb (length d) fixedSize h)
 
-module _ (d : List ℕ) (passed : refusalOf d ≡ 0) where
-  pub header-packet : (octet d 1 ≡ echoType → ⊥) → headerOf d ≡ Packet (record { 0 = teidOf d })
+  pub header-packet : (typeOf d ≡ echoType → ⊥) → headerOf d ≡ Packet (record { 0 = teidOf d })
   unfolding headerOf
-  header-packet h = rw (eq-eqb _ _ passed, ne-eqb _ _ h)
+  header-packet h = rw (ne-eqb _ _ h)
 
-  pub header-echo : octet d 1 ≡ echoType → headerOf d ≡ Echo (sequenceOf d)
+  pub header-echo : typeOf d ≡ echoType → headerOf d ≡ Echo (sequenceOf d)
   unfolding headerOf
-  header-echo h = rw (eq-eqb _ _ passed, eq-eqb _ _ h)
-
-pub header-number : (d : List ℕ) → headerNumber (headerOf d) ≡ refusalOf d
-unfolding headerOf headerNumber
-header-number d =
-    split (eqb (refusalOf d) 0)
-    (λ a. split (eqb (octet d 1) echoType) (λ b. rw (a, b) (sym (eqb-true _ _ a))) (λ b. rw (a, b) (sym (eqb-true _ _ a))))
-    (λ a. rw a)
+  header-echo h = rw (eq-eqb _ _ h)

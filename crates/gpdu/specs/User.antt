@@ -1,4 +1,4 @@
--- What a user datagram says, without the table: what it is, document 01's number, and where its payload begins.
+-- How a user datagram is read, without the table: document 01's number, and where its payload begins.
 -- Assumes nothing.
 use Prim.Native.Nat.{ℕ, _+_, _-_, _≤_}
 use mathlib.Core.Bool.{true, false}
@@ -10,60 +10,46 @@ use lib.ListN.{length, drop, take, length-take, length-drop, take-append-drop}
 use lib.Dec.{eqb}
 use borrow.Author.Tests.{eq-eqb, ne-eqb, eqb-true}
 use Rattle.octets.specs.Choice.{pick, split}
-use Rattle.gpdu.specs.declared.Header.{Header}
-use Rattle.gpdu.specs.Header.{refusalOf, headerOf, sizeOf, extended, octet, header-passed}
-use Rattle.gpdu.specs.Extensions.{Walk, refused, beyond, extensionsOf, ext-end, ext-within}
-
--- what it is by its header, document 01's number, and the size of the header with its extension headers: the payload lies past
--- it. A datagram that is refused has no payload: the size is that of the whole datagram.
-pub record User : Type 0 where
-  pub header : Header
-  pub number : ℕ
-  pub size : ℕ
+use Rattle.gpdu.specs.Header.{refusalOf, sizeOf, extended, octet, header-passed}
+use Rattle.gpdu.specs.Extensions.{Walk, refused, beyond, extensionsOf, ext-end, ext-within, ext-refused}
 
 -- the type of the first extension header; with E unset the octet says nothing
 unfoldable pub firstType : List ℕ → ℕ
 firstType d = pick {A = ℕ} (extended (octet d 0)) (octet d 11) 0
 
--- the header's own refusals come first, then those of its extension headers
-unfoldable pub walkPast : List ℕ → Walk
-walkPast d =
+-- document 01's number, and the size of the header with its extension headers: the payload lies past it. The header's own refusals
+-- come first, then those of its extension headers. A datagram that is refused has no payload: the size is that of the whole datagram.
+unfoldable pub userOf : List ℕ → Walk
+userOf d =
     pick (eqb (refusalOf d) 0)
     (beyond (sizeOf (octet d 0)) (extensionsOf (drop (sizeOf (octet d 0)) d) (firstType d)))
     (refused (refusalOf d) d)
 
-unfoldable pub userOf : List ℕ → User
-userOf d = record { header = headerOf d; number = walkPast d .number; size = walkPast d .size }
-
 -- ---- laws
-pub user-header : (d : List ℕ) → userOf d .header ≡ headerOf d
-unfolding userOf
-user-header d = refl
-
 -- the ways to the answer: what a reader that goes that way hands back
 module _ (d : List ℕ) where
   pub user-refused : (refusalOf d ≡ 0 → ⊥) → (userOf d .number ≡ refusalOf d) × (userOf d .size ≡ length d)
-  unfolding userOf walkPast
+  unfolding userOf
   user-refused h = rw (ne-eqb (refusalOf d) 0 h) (refl, refl)
 
   pub user-plain : (n : ℕ) → n ≡ sizeOf (octet d 0) → refusalOf d ≡ 0 → extended (octet d 0) ≡ false
       → (userOf d .number ≡ 0) × (userOf d .size ≡ n)
-  unfolding userOf walkPast firstType
+  unfolding userOf firstType
   user-plain n s h e = rw (eq-eqb (refusalOf d) 0 h, e, ext-end (drop (sizeOf (octet d 0)) d) 0 refl, add-zero, s) (refl, refl)
 
   pub user-extended : (n : ℕ) → n ≡ sizeOf (octet d 0) → refusalOf d ≡ 0 → extended (octet d 0) ≡ true
       → (userOf d .number ≡ extensionsOf (drop n d) (octet d 11) .number) × (userOf d .size ≡ n + extensionsOf (drop n d) (octet d 11) .size)
-  unfolding userOf walkPast firstType
+  unfolding userOf firstType
   user-extended n s h e = rw (eq-eqb (refusalOf d) 0 h, e, s) (refl, refl)
 
 -- a datagram that is taken has a header that is
 pub user-passed : (d : List ℕ) → userOf d .number ≡ 0 → refusalOf d ≡ 0
-unfolding userOf walkPast
+unfolding userOf
 user-passed d e =
     split (eqb (refusalOf d) 0) (λ a. eqb-true _ _ a) (λ a. rw a at e)
 
 pub user-within : (d : List ℕ) → userOf d .size ≤ length d
-unfolding userOf walkPast
+unfolding userOf
 user-within d =
     split (eqb (refusalOf d) 0)
     (λ a.
@@ -72,6 +58,18 @@ user-within d =
     let s = length-drop (sizeOf (octet d 0)) d in
     rw a (omega (arith, p .whole)))
     (λ a. rw a (omega arith))
+
+pub user-none : (d : List ℕ) → (userOf d .number ≡ 0 → ⊥) → userOf d .size ≡ length d
+unfolding userOf
+user-none d n =
+    split (eqb (refusalOf d) 0)
+    (λ a.
+    let p = header-passed d (eqb-true _ _ a) in
+    let m : extensionsOf (drop (sizeOf (octet d 0)) d) (firstType d) .number ≡ 0 → ⊥ = rw a at n in
+    let w = ext-refused (drop (sizeOf (octet d 0)) d) (firstType d) m in
+    let s = length-drop (sizeOf (octet d 0)) d in
+    rw a (omega (arith, p .whole)))
+    (λ a. rw a)
 
 -- the header has just the octets that its size says, and header and payload are the whole datagram
 pub user-whole : (d : List ℕ)

@@ -2,18 +2,17 @@
 ghost use mathlib.Core.Path.{_≡_};
 ghost use Prim.Native.Nat.{_*_};
 ghost use lib.ListN.{length};
-ghost use Rattle.gpdu.specs.Header.{ours, extended, sequenced, optional, typeTaken, refusalOf, headerOf, headerType, headerTeid, headerSequence, Says};
+ghost use Rattle.gpdu.specs.Header.{ours, extended, sequenced, optional, typeTaken, typeOf, teidOf, sequenceOf, refusalOf, headerOf};
 ghost use Rattle.gpdu.specs.Extensions.{extent, extensionsOf};
 ghost use Rattle.gpdu.specs.Stretch.{stretch, stretchOf};
 ghost use Rattle.gpdu.specs.User.{userOf};
 ghost use Rattle.gpdu.specs.Part.{Reads};
 use tunnel::UserTeid;
 
-// What a user datagram is, as far as its first 12 octets say.
+// What a user datagram is, as its first 12 octets say: that it is not refused is another question.
 pub enum Header {
     Echo { sequence: u16 },
     Packet { teid: UserTeid },
-    Refused(u8),
 }
 
 impl Header {
@@ -48,45 +47,16 @@ impl Header {
 
     pub const MUST: u8 = 14;
 
+    // What the datagram says; no refusal is judged here.
     pub fn of(d: &[u8]) -> Self
         ensures { λ r. ⌜ r ≡ headerOf (now (d .entry)) ⌝ }
     {
-        let why = refusal(d);
-        if why != 0 {
-            return Header::Refused(why);
+        if type_of(d) == Self::ECHO {
+            return Header::Echo {
+                sequence: sequence_of(d),
+            };
         }
-        known(d)
-    }
-
-    // The message type, the tunnel number and the sequence number: 0 where the case has none.
-    pub fn type_number(self) -> u8
-        ensures { λ r. ⌜ r ≡ headerType self ⌝ }
-    {
-        match self {
-            Header::Echo { sequence: _ } => Self::ECHO,
-            Header::Packet { teid: _ } => Self::PACKET,
-            Header::Refused(_) => 0,
-        }
-    }
-
-    pub fn teid_number(self) -> u32
-        ensures { λ r. ⌜ r ≡ headerTeid self ⌝ }
-    {
-        match self {
-            Header::Echo { sequence: _ } => 0,
-            Header::Packet { teid } => teid.0,
-            Header::Refused(_) => 0,
-        }
-    }
-
-    pub fn sequence_number(self) -> u16
-        ensures { λ r. ⌜ r ≡ headerSequence self ⌝ }
-    {
-        match self {
-            Header::Echo { sequence } => sequence,
-            Header::Packet { teid: _ } => 0,
-            Header::Refused(_) => 0,
-        }
+        Header::Packet { teid: teid_of(d) }
     }
 }
 
@@ -148,23 +118,35 @@ fn refusal(d: &[u8]) -> u8
     0
 }
 
-// What a datagram is whose header meets no refusal.
-fn known(d: &[u8]) -> Header
-    requires { ⌜ refusalOf (now d) ≡ 0 ⌝ }
-    ensures { λ r. ⌜ r ≡ headerOf (now (d .entry)) ⌝ }
+// The message type, the tunnel number and the sequence number (0 if S is unset); each is 0 where the datagram is too short for it.
+fn type_of(d: &[u8]) -> u8
+    ensures { λ r. ⌜ r ≡ typeOf (now (d .entry)) ⌝ }
 {
-    if d[1] != Header::ECHO {
-        return Header::Packet {
-            teid: UserTeid(octets::be32(d[4], d[5], d[6], d[7])),
-        };
+    if d.len() < 2 {
+        return 0;
     }
-    if sequenced(d[0]) {
-        Header::Echo {
-            sequence: octets::be16(d[8], d[9]),
-        }
-    } else {
-        Header::Echo { sequence: 0 }
+    d[1]
+}
+
+pub fn teid_of(d: &[u8]) -> UserTeid
+    ensures { λ r. ⌜ r .0 ≡ teidOf (now (d .entry)) ⌝ }
+{
+    if d.len() < Header::FIXED {
+        return UserTeid(0);
     }
+    UserTeid(octets::be32(d[4], d[5], d[6], d[7]))
+}
+
+fn sequence_of(d: &[u8]) -> u16
+    ensures { λ r. ⌜ r ≡ sequenceOf (now (d .entry)) ⌝ }
+{
+    if d.len() < Header::WHOLE {
+        return 0;
+    }
+    if !sequenced(d[0]) {
+        return 0;
+    }
+    octets::be16(d[8], d[9])
 }
 
 // How many octets the extension header in front says it has; 0 where there is none.
@@ -178,7 +160,7 @@ fn extent(rest: &[u8]) -> usize
 }
 
 // Nothing is left: the empty end of d, and the number why.
-fn refuse<'a>(d: &'a [u8], why: u8, number: &mut u8) -> &'a [u8]
+pub fn refuse<'a>(d: &'a [u8], why: u8, number: &mut u8) -> &'a [u8]
     ensures { λ r. ⌜ Reads (now (number .exit)) r (d .entry) why (length (now (d .entry))) ⌝ }
 {
     *number = why;
@@ -254,30 +236,5 @@ pub fn payload<'a>(d: &'a [u8], number: &mut u8) -> &'a [u8]
     if why != 0 {
         return refuse(d, why, number);
     }
-    past_header(d, number)
-}
-
-// The payload and the number, and with them what the header says: its type, tunnel number and sequence number.
-pub fn read_user<'a>(
-    d: &'a [u8],
-    number: &mut u8,
-    kind: &mut u8,
-    teid: &mut u32,
-    sequence: &mut u16,
-) -> &'a [u8]
-    ensures { λ r. ⌜ Reads (now (number .exit)) r (d .entry) (userOf (now (d .entry)) .number) (userOf (now (d .entry)) .size)
-        × Says (now (kind .exit)) (now (teid .exit)) (now (sequence .exit)) (headerOf (now (d .entry))) ⌝ }
-{
-    let why = refusal(d);
-    if why != 0 {
-        *kind = 0;
-        *teid = 0;
-        *sequence = 0;
-        return refuse(d, why, number);
-    }
-    let header = known(d);
-    *kind = header.type_number();
-    *teid = header.teid_number();
-    *sequence = header.sequence_number();
     past_header(d, number)
 }

@@ -17,6 +17,7 @@ use Rattle.session.specs.declared.Session.{Session}
 use Rattle.session.specs.Session.{isFree, hasId}
 use Rattle.table.specs.declared.Node.{Node}
 use Rattle.table.specs.Rules.{keepsRules, rules-of, boundsOf}
+use Rattle.table.specs.Find.{controlPlace}
 use Rattle.rules.specs.Survey.{weightOf}
 use Rattle.header.specs.declared.HeaderCursor.{HeaderCursor}
 use Rattle.header.specs.Header.{headerOf}
@@ -40,7 +41,7 @@ use Rattle.glance.specs.declared.Look.{Look}
 use Rattle.glance.specs.declared.Seen.{Seen}
 use Rattle.wishes.specs.declared.Wish.{Wish}
 use Rattle.wishes.specs.declared.Wish.the-variants as W
-use Rattle.wishes.specs.Wishes.{asksEnd, asksOpen, asksBy, asksKind, asksPast, asksFor, restartsIn, idKey, namedBy, atPlace, aimOf}
+use Rattle.wishes.specs.Wishes.{asksEnd, asksOpen, asksBy, asksKind, asksPast, asksFor, restartsIn, idKey, atPlace, aimOf}
 use Rattle.openings.specs.declared.Sight.{Sight}
 use Rattle.openings.specs.Openings.{oldBy, sightBy, sightOf}
 use Rattle.openings.specs.Places.{key-place, free-place}
@@ -62,7 +63,7 @@ pub record Sees (node : Node) (l : List Session) (w : Wish) (g : Sight) : Type 0
   pub kept : g .kept ≡ keepsRules node l
   pub all : g .all ≡ (keepsRules node l && restartsIn w node)
   pub cleared : g .all ≡ true → Cleared g
-  pub named : (h : HeaderCursor) → w ≡ W.Named h → g .old ≡ namedBy (h .teid)
+  pub named : (h : HeaderCursor) → w ≡ W.Named h → g .old ≡ controlPlace (h .teid)
   pub known : (c : C.Create) (seq : ℕ) → w ≡ W.Open c seq → keepsRules node l ≡ true → g .all ≡ false → Known l c g
 
 -- ---- what was seen of the records: whether they keep the rules, and then their packed counts, and the places by their digests
@@ -186,9 +187,9 @@ module _ (node : Node) (l : List Session) (v : Seen) (w : Wish) (told : Told nod
   unfolding restartsIn
   no-restart h e = rw e (split kept (λ a. rw a) (λ a. rw a))
 
-  named-is : (h : HeaderCursor) → w ≡ W.Named h → g .old ≡ namedBy (h .teid)
+  named-is : (h : HeaderCursor) → w ≡ W.Named h → g .old ≡ controlPlace (h .teid)
   unfolding aimOf
-  named-is h e = ap (λ (x : Sight). x .old) (sight-is (no-restart h e)) ∙ rw e (old-named (v .look) (namedBy (h .teid)))
+  named-is h e = ap (λ (x : Sight). x .old) (sight-is (no-restart h e)) ∙ rw e (old-named (v .look) (controlPlace (h .teid)))
 
   sound-open : (c : C.Create) (seq : ℕ) → w ≡ W.Open c seq → CreateSound (parties (node .plan)) c
   unfolding SoundWish

@@ -17,7 +17,8 @@ use Rattle.table.specs.declared.Node.{Node}
 use Rattle.table.specs.Rules.{keepsRules}
 use Rattle.timing.specs.Outcome.{leastReply}
 use Rattle.gpdu.specs.Part.{IsRest, rest-length}
-use Rattle.userside.specs.UserSide.{Took, took, silent, placeIn, checkedTaken, userTaken, user-checked}
+use Rattle.userside.specs.UserSide.{Took, took, silent, userTaken}
+use Rattle.userside.specs.OneRecord.{concerned, done, done-is}
 use Rattle.lentcore.specs.Lent.{uncounted, rules-other}
 use Rattle.lentuser.specs.declared.Handed.{Handed}
 
@@ -36,13 +37,13 @@ parcelOf end x = parcel (record { number = x .number; place = x .place; size = x
 -- ---- laws
 pub user-other : (node : Node) (l : List Session) (d reply : List ℕ) → eqb (length l) places ≡ false
     → userTaken node l d reply ≡ silent (uncounted (length reply)) (length d) reply
-unfolding userTaken uncounted leastReply
-user-other node l d reply other = split (ltb (length reply) 128) (λ e. rw e) (λ e. rw (e, rules-other node l other))
+unfolding userTaken uncounted
+user-other node l d reply other = split (ltb (length reply) leastReply) (λ e. rw e) (λ e. rw (e, rules-other node l other))
 
 -- what was read and answered is what is said of the lent list
 pub user-lent : (node : Node) (l : List Session) (d reply : List ℕ) (kept : Bool) (at : ℕ) (s : Session)
-    → kept ≡ keepsRules node l → at ≡ placeIn d → s ≡ getD l at (blankAt 0) → checkedTaken kept node s d reply ≡ userTaken node l d reply
-user-lent node l d reply kept at s e-k e-a e-s = rw (e-s, e-a, e-k) (user-checked node l d reply)
+    → kept ≡ keepsRules node l → at ≡ concerned d → s ≡ getD l at (blankAt 0) → done kept node s d reply ≡ userTaken node l d reply
+user-lent node l d reply kept at s e-k e-a e-s = rw (e-s, e-a, e-k) (done-is node l d reply)
 
 -- the part's length gives its place
 pub parcel-is : (r d : RefT (List ℕ)) (reply : List ℕ) (x : Took) (number place size : ℕ) → x .start ≤ length (d .now)

@@ -5,7 +5,8 @@ use table::Node;
 ghost use mathlib.Core.Path.{_≡_};
 ghost use lib.ListN.{length};
 ghost use Rattle.gpdu.specs.Part.{IsRest};
-ghost use Rattle.userside.specs.UserSide.{took, checkedTaken, userTaken};
+ghost use Rattle.userside.specs.UserSide.{took, userTaken};
+ghost use Rattle.userside.specs.OneRecord.{done};
 ghost use Rattle.lentuser.specs.Lent.{parcel, parcelOf};
 
 // What a user datagram comes to, in numbers: document 01's number, the place of the session, the reply's length, and where in the
@@ -20,15 +21,15 @@ pub struct Handed {
 }
 
 // Take user datagram, answered in numbers, where it is known whether the records keep the rules, with the record at the place that the
-// datagram says.
+// datagram concerns.
 pub fn user_at(kept: bool, node: Node, s: Session, d: &[u8], reply: &mut [u8]) -> Handed
-    ensures { λ r. ⌜ parcel r (now (reply .exit)) ≡ parcelOf (length (now (d .entry))) (checkedTaken kept node s (now (d .entry)) (now (reply .entry))) ⌝ }
+    ensures { λ r. ⌜ parcel r (now (reply .exit)) ≡ parcelOf (length (now (d .entry))) (done kept node s (now (d .entry)) (now (reply .entry))) ⌝ }
 {
     let mut number: u8 = 0;
     let mut place: usize = 0;
     let mut size: usize = 0;
     let end = d.len();
-    let p = userside::take_checked(kept, node, s, d, reply, &mut number, &mut place, &mut size);
+    let p = userside::done(kept, node, s, d, reply, &mut number, &mut place, &mut size);
     let octets = p.len();
     Handed {
         number,
@@ -54,9 +55,9 @@ pub fn take_user<'a>(
         × IsRest r (d .entry) (userTaken node (now (recs .entry)) (now (d .entry)) (now (reply .entry)) .start) ⌝ }
 {
     let kept = lentrules::kept(node, recs);
-    let at = userside::place_of(d);
+    let at = userside::concerned(d);
     let s = lentedit::read(recs, at);
-    userside::take_checked(kept, node, s, d, reply, number, place, size)
+    userside::done(kept, node, s, d, reply, number, place, size)
 }
 
 // Take user datagram, answered in numbers.
@@ -65,7 +66,7 @@ pub extern "C" fn grugavorn_user(node: Node, recs: &[Session], d: &[u8], reply: 
     ensures { λ r. ⌜ parcel r (now (reply .exit)) ≡ parcelOf (length (now (d .entry))) (userTaken node (now (recs .entry)) (now (d .entry)) (now (reply .entry))) ⌝ }
 {
     let kept = lentrules::kept(node, recs);
-    let at = userside::place_of(d);
+    let at = userside::concerned(d);
     let s = lentedit::read(recs, at);
     user_at(kept, node, s, d, reply)
 }

@@ -2,22 +2,17 @@
 -- none. The sentences themselves are in crate control; that this is what they come to on the whole table is the law in crate inplace.
 -- Assumes nothing.
 use Prim.Native.Nat.{ℕ}
-use mathlib.Core.Bool.{Bool, true, false, not, _&&_}
+use mathlib.Core.Bool.{Bool, true, false, _&&_}
 use mathlib.Core.List.{List, []}
 use mathlib.Core.Path.{_≡_, refl, sym, _∙_}
 use lib.ListN.{length}
-use lib.Dec.{eqb}
-use borrow.Author.Tests.{not-true}
-use Rattle.octets.specs.Choice.{pick, split, impossible, and-left}
+use Rattle.octets.specs.Choice.{pick, split}
 use Rattle.octets.specs.Overlay.{overlay}
-use Rattle.tunnel.specs.Numbering.{controlOffset}
-use Rattle.tunnel.specs.Tunnel.{holderOf}
-use Rattle.tunnel.specs.declared.Holder.{Holder}
-use Rattle.tunnel.specs.declared.Holder.the-variants as H
 use Rattle.session.specs.declared.Session.{Session}
 use Rattle.session.specs.Request.{awaits, idle}
 use Rattle.session.specs.Session.{isFree, waitsFor, blankAt}
 use Rattle.table.specs.Change.{nobody}
+use Rattle.table.specs.Find.{hasControl, control-taken}
 use Rattle.header.specs.declared.HeaderCursor.{HeaderCursor}
 use Rattle.carried.specs.Carried as carried
 use Rattle.carried.specs.declared.BearerReply.{BearerReply}
@@ -41,48 +36,35 @@ single d = record { number = d .number; size = length (d .message); session = d 
 unfoldable pub doneWith : Done → List ℕ → Singled
 doneWith d reply = singled (single d) (overlay (d .message) reply)
 
--- whether a record is the session that a number means: taken, and in that use
-unfoldable pub ownedBy : Holder → Session → Bool
-ownedBy (H.At place usage) s = not (isFree s) && eqb (s .usage) usage
-ownedBy H.Nobody s = false
-
 -- the session of a number is this record, or there is none and the record stays
 unfoldable pub ofNumber : ℕ → (Session → Done) → Session → Done
 ofNumber teid f s =
-    pick (ownedBy (holderOf controlOffset teid) s) (f s) (record { number = f nobody .number; session = s; message = f nobody .message })
+    pick (hasControl s teid) (f s) (record { number = f nobody .number; session = s; message = f nobody .message })
 
 unfoldable pub singleOf : HeaderCursor → List ℕ → Session → List ℕ → Singled
 singleOf h rest s reply = doneWith (ofNumber (h .teid) (sessionOf h rest) s) reply
 
 -- ---- laws, in the words of the code
-owned-taken : (h : Holder) (s : Session) → ownedBy h s ≡ true → isFree s ≡ false
-unfolding ownedBy
-owned-taken (H.At place usage) s e = not-true (isFree s) (and-left (not (isFree s)) (eqb (s .usage) usage) e)
-owned-taken H.Nobody s e = impossible e
-
 module _ (teid seq : ℕ) (rest : List ℕ) (s : Session) where
-  abbrev owned : Bool
-  owned = ownedBy (holderOf controlOffset teid) s
-
-  pub modify-none : (h : Holder) (b : Bool) → h ≡ holderOf controlOffset teid → b ≡ ownedBy h s → b ≡ false → ofNumber teid (modifyOn seq rest) s ≡ causeOn 35 0 seq notLive s
+  pub modify-none : (b : Bool) → b ≡ hasControl s teid → b ≡ false → ofNumber teid (modifyOn seq rest) s ≡ causeOn 35 0 seq notLive s
   unfolding ofNumber modifyOn causeOn isFree blankAt
-  modify-none h b e-h e-b e = rw (← e-h, ← e-b, e)
+  modify-none b e-b e = rw (← e-b, e)
 
-  pub modify-some : (h : Holder) (b : Bool) → h ≡ holderOf controlOffset teid → b ≡ ownedBy h s → b ≡ true → ofNumber teid (modifyOn seq rest) s ≡ modifyRead (modifyOf (s .ebi) rest) seq s
+  pub modify-some : (b : Bool) → b ≡ hasControl s teid → b ≡ true → ofNumber teid (modifyOn seq rest) s ≡ modifyRead (modifyOf (s .ebi) rest) seq s
   unfolding ofNumber modifyOn
-  modify-some h b e-h e-b e = rw (← e-h, ← e-b, e, owned-taken h s (sym e-b ∙ e))
+  modify-some b e-b e = rw (← e-b, e, control-taken s teid (sym e-b ∙ e))
 
-  pub delete-none : (h : Holder) (b : Bool) → h ≡ holderOf controlOffset teid → b ≡ ownedBy h s → b ≡ false → ofNumber teid (deleteOn seq rest) s ≡ causeOn 37 0 seq notLive s
+  pub delete-none : (b : Bool) → b ≡ hasControl s teid → b ≡ false → ofNumber teid (deleteOn seq rest) s ≡ causeOn 37 0 seq notLive s
   unfolding ofNumber deleteOn causeOn isFree blankAt
-  delete-none h b e-h e-b e = rw (← e-h, ← e-b, e)
+  delete-none b e-b e = rw (← e-b, e)
 
-  pub delete-some : (h : Holder) (b : Bool) → h ≡ holderOf controlOffset teid → b ≡ ownedBy h s → b ≡ true → ofNumber teid (deleteOn seq rest) s ≡ deleteRead (deleteOf (s .ebi) rest) seq s
+  pub delete-some : (b : Bool) → b ≡ hasControl s teid → b ≡ true → ofNumber teid (deleteOn seq rest) s ≡ deleteRead (deleteOf (s .ebi) rest) seq s
   unfolding ofNumber deleteOn
-  delete-some h b e-h e-b e = rw (← e-h, ← e-b, e, owned-taken h s (sym e-b ∙ e))
+  delete-some b e-b e = rw (← e-b, e, control-taken s teid (sym e-b ∙ e))
 
-  pub bearer-is : ofNumber teid (bearerOn seq rest) s ≡ bearerBy (carried.bearerReplyOf rest) (owned && waitsFor seq s) s
+  pub bearer-is : ofNumber teid (bearerOn seq rest) s ≡ bearerBy (carried.bearerReplyOf rest) (hasControl s teid && waitsFor seq s) s
   unfolding ofNumber bearerOn bearerBy quiet waitsFor awaits blankAt idle
-  bearer-is = split owned (λ e. rw e) (λ e. rw e (by (carried.bearerReplyOf rest)))
+  bearer-is = split (hasControl s teid) (λ e. rw e) (λ e. rw e (by (carried.bearerReplyOf rest)))
     where
       by : (b : BearerReply) → record { number = bearerBy b false nobody .number; session = s; message = bearerBy b false nobody .message } ≡ bearerBy b false s
       by B.Unreadable = refl

@@ -7,11 +7,10 @@ use requests::Modify;
 use requests::Request;
 use session::Session;
 use tunnel::ControlTeid;
-use tunnel::Holder;
 ghost use mathlib.Core.Path.{_≡_};
 ghost use Rattle.timing.specs.Outcome.{quiet};
 ghost use Rattle.control.specs.Amends.{causeOn, movedOn, modifyRead, modifyOn, freedOn, deleteRead, deleteOn, bearerBy, bearerOn};
-ghost use Rattle.single.specs.Single.{singled, single, doneWith, ownedBy, ofNumber, singleOf};
+ghost use Rattle.single.specs.Single.{singled, single, doneWith, ofNumber, singleOf};
 
 // Document 01's number, the reply's length, and the session's record as it is then.
 pub struct Single {
@@ -50,19 +49,6 @@ fn cause_on(
     }
 }
 
-// Whether a record is the one that a holder's number means: taken, and in that use.
-fn owned_by(h: Holder, s: Session) -> bool
-    ensures { λ r. ⌜ r ≡ ownedBy h s ⌝ }
-{
-    match h {
-        Holder::At { place: _, usage } => {
-            let free = s.is_free();
-            !free & (s.usage == usage)
-        }
-        Holder::Nobody => false,
-    }
-}
-
 // A Modify whose tests all passed.
 fn moved_on(m: Modify, seq: u32, s: Session, reply: &mut [u8]) -> Single
     ensures { λ r. ⌜ singled r (now (reply .exit)) ≡ doneWith (movedOn m seq s) (now (reply .entry)) ⌝ }
@@ -95,8 +81,7 @@ fn modify_read(d: Decoded, seq: u32, s: Session, reply: &mut [u8]) -> Single
 fn modify_on(s: Session, teid: ControlTeid, seq: u32, rest: &[u8], reply: &mut [u8]) -> Single
     ensures { λ r. ⌜ singled r (now (reply .exit)) ≡ doneWith (ofNumber (teid .0) (modifyOn seq (now (rest .entry))) s) (now (reply .entry)) ⌝ }
 {
-    let holder = teid.holder();
-    let owned = owned_by(holder, s);
+    let owned = table::has_control(s, teid);
     if !owned {
         let w = control::not_live();
         return cause_on(35, 0, seq, w, s, reply);
@@ -130,8 +115,7 @@ fn delete_read(d: Decoded, seq: u32, s: Session, reply: &mut [u8]) -> Single
 fn delete_on(s: Session, teid: ControlTeid, seq: u32, rest: &[u8], reply: &mut [u8]) -> Single
     ensures { λ r. ⌜ singled r (now (reply .exit)) ≡ doneWith (ofNumber (teid .0) (deleteOn seq (now (rest .entry))) s) (now (reply .entry)) ⌝ }
 {
-    let holder = teid.holder();
-    let owned = owned_by(holder, s);
+    let owned = table::has_control(s, teid);
     if !owned {
         let w = control::not_live();
         return cause_on(37, 0, seq, w, s, reply);
@@ -158,8 +142,7 @@ fn bearer_on(s: Session, teid: ControlTeid, seq: u32, rest: &[u8]) -> Single
     ensures { λ r. ⌜ r ≡ single (ofNumber (teid .0) (bearerOn seq (now (rest .entry))) s) ⌝ }
 {
     let answer = carried::read_bearer_reply(rest);
-    let holder = teid.holder();
-    let owned = owned_by(holder, s);
+    let owned = table::has_control(s, teid);
     let awaited = s.waits_for(seq);
     bearer_by(answer, owned & awaited, s)
 }

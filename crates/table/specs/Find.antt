@@ -9,12 +9,11 @@ use native.Mathlib.Omega.{arith}
 use lib.ListN.{length, drop, getD, List·getD-eq-default}
 use lib.Dec.{eqb, leb, ltb}
 use mir.Val.{boolByte}
-use borrow.Author.Tests.{eqb-true, eq-eqb, leb-true, le-leb, lt-ltb, le-ltb, ltb-true, ltb-false}
+use borrow.Author.Tests.{not-true, eqb-true, eq-eqb, leb-true, le-leb, lt-ltb, le-ltb, ltb-true, ltb-false}
 use Rattle.octets.specs.Choice.{pick, split, impossible, and-left, and-right, tests}
-use Rattle.octets.specs.Places.{any-default}
 use Rattle.octets.specs.Search.{firstOf, first-passes}
 use Rattle.octets.specs.Sums.{countOf, sum-holds-two}
-use Rattle.tunnel.specs.Numbering.{places, base}
+use Rattle.tunnel.specs.Numbering.{places, base, controlOffset, userOffset, control-fits, user-fits}
 use Rattle.tunnel.specs.declared.Holder.{Holder}
 use Rattle.tunnel.specs.declared.Holder.the-variants as H
 use Rattle.tunnel.specs.Tunnel.{numberAt, holderOf, number-holder, holder-held}
@@ -46,14 +45,31 @@ heldIn H.Nobody l = Nothing
 heldIn (H.At place usage) l =
     pick (ltb place (length l) && not (isFree (getD l place nobody)) && eqb (getD l place nobody .usage) usage) (At place) Nothing
 
--- the same of the one record at the place that a holder names: one that there is not, where it names none
+-- ---- the same from one record, by kind
+-- the place that a holder names: one that there is not, where there is no holder
 unfoldable pub namedPlace : Holder → ℕ
 namedPlace H.Nobody = places
 namedPlace (H.At place usage) = place
 
-unfoldable pub usedBy : Holder → Session → Found
-usedBy H.Nobody s = Nothing
-usedBy (H.At place usage) s = pick (not (isFree s) && eqb (s .usage) usage) (At place) Nothing
+unfoldable pub controlPlace : ℕ → ℕ
+controlPlace teid = namedPlace (holderOf controlOffset teid)
+
+unfoldable pub userPlace : ℕ → ℕ
+userPlace teid = namedPlace (holderOf userOffset teid)
+
+-- whether a record is taken, and in the holder's use
+abbrev pub takenIn : Session → ℕ → Bool
+takenIn s usage = not (isFree s) && eqb (s .usage) usage
+
+unfoldable pub ownedBy : Holder → Session → Bool
+ownedBy H.Nobody s = false
+ownedBy (H.At place usage) s = takenIn s usage
+
+unfoldable pub hasControl : Session → ℕ → Bool
+hasControl s teid = ownedBy (holderOf controlOffset teid) s
+
+unfoldable pub hasUser : Session → ℕ → Bool
+hasUser s teid = ownedBy (holderOf userOffset teid) s
 
 -- the place that was found, or one that there is not
 unfoldable pub placeFound : Found → List Session → ℕ
@@ -119,28 +135,29 @@ owner-hit offset n i (suc k) (s ∷ l) h e f =
     let y : i + suc k ≡ suc i + k = omega arith in
     rw (b, y) (owner-hit offset n (suc i) k l (omega arith) (rw y at e) (λ j q. let x : suc i + j ≡ i + suc j = omega arith in rw x (f (suc j) (omega arith))))
 
--- the look-up by arithmetic, in the words of the code: of one record
-module _ (place usage : ℕ) (l : List Session) where
-  pub held-out : length l ≤ place → heldIn (H.At place usage) l ≡ Nothing
-  unfolding heldIn
-  held-out h = rw (le-ltb place (length l) h)
-
-  pub held-in : (d : Session) → place < length l → heldIn (H.At place usage) l ≡ usedBy (H.At place usage) (getD l place d)
-  unfolding heldIn usedBy
-  held-in d h = rw (lt-ltb place (length l) h, any-default l place nobody d h)
-
-  pub held-yes : (d : Session) → place < length l → (not (isFree (getD l place d)) && eqb (getD l place d .usage) usage) ≡ true → heldIn (H.At place usage) l ≡ At place
-  unfolding usedBy
-  held-yes d h e = held-in d h ∙ rw e
-
--- a place that there is not is nobody's
-pub held-used : (h : Holder) (l : List Session) → heldIn h l ≡ usedBy h (getD l (namedPlace h) nobody)
-unfolding heldIn usedBy namedPlace blankAt isFree
-held-used H.Nobody l = refl
-held-used (H.At place usage) l =
+-- the look-up by arithmetic is one of the one record; a place that there is not is nobody's
+held-one : (h : Holder) (l : List Session) → heldIn h l ≡ pick (ownedBy h (getD l (namedPlace h) nobody)) (At (namedPlace h)) Nothing
+unfolding heldIn ownedBy namedPlace blankAt isFree
+held-one H.Nobody l = refl
+held-one (H.At place usage) l =
     split (ltb place (length l))
-    (λ e. held-in place usage l nobody (ltb-true place (length l) e))
-    (λ e. let h = ltb-false place (length l) e in held-out place usage l h ∙ rw (List·getD-eq-default l nobody h))
+    (λ e. rw e)
+    (λ e. rw (e, List·getD-eq-default l nobody (ltb-false place (length l) e)))
+
+pub held-yes : (place usage : ℕ) (l : List Session) → place < length l → takenIn (getD l place nobody) usage ≡ true
+    → heldIn (H.At place usage) l ≡ At place
+unfolding heldIn
+held-yes place usage l h e = rw (lt-ltb place (length l) h, e)
+
+-- only a taken record is anybody's
+owned-taken : (h : Holder) (s : Session) → ownedBy h s ≡ true → isFree s ≡ false
+unfolding ownedBy
+owned-taken (H.At place usage) s e = not-true (isFree s) (and-left (not (isFree s)) (eqb (s .usage) usage) e)
+owned-taken H.Nobody s e = impossible e
+
+pub control-taken : (s : Session) (teid : ℕ) → hasControl s teid ≡ true → isFree s ≡ false
+unfolding hasControl
+control-taken s teid = owned-taken (holderOf controlOffset teid) s
 
 -- who bears a number holds it
 bears-held : (offset n j : ℕ) (s : Session) → offset + places ≤ base → j < places → bears offset n j s ≡ true
@@ -219,3 +236,13 @@ owner-is offset n l fits size = look (holderOf offset n) refl
     look : (h : Holder) → holderOf offset n ≡ h → ownerFrom offset n 0 l ≡ heldIn h l
     look H.Nobody e = owner-none offset n 0 l (λ j q. let x : 0 + j ≡ j = omega arith in rw x (unheld offset n l fits size e j q))
     look (H.At place usage) e = held-owner offset n l fits size place usage e
+
+-- so one record tells the owner: that of the place which the number names
+module _ (teid : ℕ) (l : List Session) (size : length l ≤ places) where
+  pub owner-control : ownerOf controlOffset teid l ≡ pick (hasControl (getD l (controlPlace teid) nobody) teid) (At (controlPlace teid)) Nothing
+  unfolding controlPlace hasControl
+  owner-control = owner-is controlOffset teid l control-fits size ∙ held-one (holderOf controlOffset teid) l
+
+  pub owner-user : ownerOf userOffset teid l ≡ pick (hasUser (getD l (userPlace teid) nobody) teid) (At (userPlace teid)) Nothing
+  unfolding userPlace hasUser
+  owner-user = owner-is userOffset teid l user-fits size ∙ held-one (holderOf userOffset teid) l

@@ -3,13 +3,15 @@
 use plan::Plan;
 use session::Request;
 use session::Session;
+use tunnel::ControlTeid;
 use tunnel::Holder;
+use tunnel::UserTeid;
 ghost use mathlib.Core.Path.{_≡_};
 ghost use lib.ListN.{replicate};
 ghost use Rattle.session.specs.Session.{blankAt};
 ghost use Rattle.table.specs.Become.{changedBy};
 ghost use Rattle.table.specs.Own.{freshNode, rested, restarted, hearing, echoTicked};
-ghost use Rattle.table.specs.Find.{namedPlace, usedBy};
+ghost use Rattle.table.specs.Find.{takenIn, controlPlace, userPlace, hasControl, hasUser};
 
 // What goes with the records: the plan, the stored Recovery, the unit's own echo, and the next sequence number.
 #[repr(C)]
@@ -109,28 +111,55 @@ pub fn changed(s: Session, c: Change) -> Session
     }
 }
 
-// The place that a holder names; 64 where there is none.
-pub fn named_place(h: Holder) -> usize
-    ensures { λ r. ⌜ r ≡ namedPlace h ⌝ }
+// The place that a control number names; 64 where it names none.
+pub fn control_place(teid: ControlTeid) -> usize
+    ensures { λ r. ⌜ r ≡ controlPlace (teid .0) ⌝ }
 {
+    let h = teid.holder();
     match h {
         Holder::At { place, usage: _ } => place,
         Holder::Nobody => Table::PLACES,
     }
 }
 
-// The place that a holder names, if the record there is taken and in that use.
-pub fn used_by(h: Holder, s: Session) -> Found
-    ensures { λ r. ⌜ r ≡ usedBy h s ⌝ }
+// The place that a user number names; 64 where it names none.
+pub fn user_place(teid: UserTeid) -> usize
+    ensures { λ r. ⌜ r ≡ userPlace (teid .0) ⌝ }
 {
-    let Holder::At { place, usage } = h else {
-        return Found::Nothing;
-    };
+    let h = teid.holder();
+    match h {
+        Holder::At { place, usage: _ } => place,
+        Holder::Nobody => Table::PLACES,
+    }
+}
+
+// Whether a record is taken and in this use.
+fn taken_in(s: Session, usage: u32) -> bool
+    ensures { λ r. ⌜ r ≡ takenIn s usage ⌝ }
+{
     let free = s.is_free();
-    if !free & (s.usage == usage) {
-        Found::At(place)
-    } else {
-        Found::Nothing
+    !free & (s.usage == usage)
+}
+
+// Whether a record is the session of a control number: taken, and in the use that the number says.
+pub fn has_control(s: Session, teid: ControlTeid) -> bool
+    ensures { λ r. ⌜ r ≡ hasControl s (teid .0) ⌝ }
+{
+    let h = teid.holder();
+    match h {
+        Holder::At { place: _, usage } => taken_in(s, usage),
+        Holder::Nobody => false,
+    }
+}
+
+// Whether a record is the session of a user number: taken, and in the use that the number says.
+pub fn has_user(s: Session, teid: UserTeid) -> bool
+    ensures { λ r. ⌜ r ≡ hasUser s (teid .0) ⌝ }
+{
+    let h = teid.holder();
+    match h {
+        Holder::At { place: _, usage } => taken_in(s, usage),
+        Holder::Nobody => false,
     }
 }
 

@@ -1,1 +1,2 @@
 pub mod UserSide
+pub mod OneRecord

@@ -1,30 +1,28 @@
 -- Take user datagram: one definition that fixes number, place, reply and where the payload begins, for any datagram and any table. The
--- table is never changed by it. Where it is known whether the table's rules are kept, one record of it says all.
+-- table is never changed by it.
 -- Assumes nothing.
 use Prim.Native.Nat.{ℕ, _<_, _≤_}
-use mathlib.Core.Bool.{Bool, true, false}
+use mathlib.Core.Bool.{true, false}
 use mathlib.Core.List.{List}
-use mathlib.Core.Path.{_≡_, refl, sym, _∙_, ap, subst}
-use native.Mathlib.Omega.{arith}
-use lib.ListN.{length, getD}
+use mathlib.Core.Path.{_≡_}
+use lib.ListN.{length}
 use lib.Dec.{eqb, ltb}
-use borrow.Author.Tests.{eqb-true, lt-ltb, le-ltb, eq-eqb, ne-eqb}
-use Rattle.octets.specs.Choice.{pick, split}
+use borrow.Author.Tests.{lt-ltb, le-ltb, eq-eqb, ne-eqb}
+use Rattle.octets.specs.Choice.{pick}
 use Rattle.octets.specs.Overlay.{overlay}
-use Rattle.tunnel.specs.Numbering.{places, userOffset, user-fits}
-use Rattle.tunnel.specs.Tunnel.{holderOf}
+use Rattle.tunnel.specs.Numbering.{userOffset}
 use Rattle.session.specs.declared.Session.{Session}
-use Rattle.session.specs.Session.{blankAt}
 use Rattle.table.specs.declared.Node.{Node}
 use Rattle.table.specs.declared.Found.{Found}
 use Rattle.table.specs.declared.Found.the-variants as F
-use Rattle.table.specs.Rules.{keepsRules, rules-of}
-use Rattle.table.specs.Find.{ownerOf, owner-is, namedPlace, usedBy, held-used}
+use Rattle.table.specs.Rules.{keepsRules}
+use Rattle.table.specs.Find.{ownerOf}
 use Rattle.messages.specs.Messages.{userEcho, errorIndication}
+use Rattle.timing.specs.Outcome.{leastReply}
 use Rattle.gpdu.specs.declared.Header.{Header}
 use Rattle.gpdu.specs.declared.Header.the-variants as H
 use Rattle.gpdu.specs.Header.{headerOf}
-use Rattle.gpdu.specs.User.{userOf, user-header, user-within}
+use Rattle.gpdu.specs.User.{userOf}
 
 -- what comes back: the number, the place of the session, the reply's length, the reply buffer, and after how many octets of the
 -- datagram what is handed up begins: all of them where nothing is
@@ -42,129 +40,44 @@ took number place size reply start = record { number = number; place = place; si
 abbrev pub silent : ℕ → ℕ → List ℕ → Took
 silent number end reply = took number 0 0 reply end
 
+-- a message is laid over the front of the reply buffer, and its length is the reply's; nothing is handed up
+abbrev pub replied : ℕ → List ℕ → ℕ → List ℕ → Took
+replied number m end reply = took number 0 (length m) (overlay m reply) end
+
 -- a G-PDU: handed up under a live user number, else answered with an Error Indication (15)
 unfoldable pub packetTaken : Found → ℕ → ℕ → ℕ → ℕ → List ℕ → Took
 packetTaken (F.At place) teid addr start end reply = took 0 place 0 reply start
-packetTaken F.Nothing teid addr start end reply = took 15 0 24 (overlay (errorIndication teid addr) reply) end
+packetTaken F.Nothing teid addr start end reply = replied 15 (errorIndication teid addr) end reply
 
 -- by what the header says: an echo is answered
 unfoldable pub headerTaken : Node → List Session → Header → ℕ → ℕ → List ℕ → Took
-headerTaken node l (H.Echo sequence) start end reply = took 0 0 14 (overlay (userEcho sequence) reply) end
+headerTaken node l (H.Echo sequence) start end reply = replied 0 (userEcho sequence) end reply
 headerTaken node l (H.Packet teid) start end reply = packetTaken (ownerOf userOffset (teid .0) l) (teid .0) (node .plan .user) start end reply
-headerTaken node l (H.Refused number) start end reply = silent number end reply
 
 -- the order: 1, 2, then the datagram's own refusals (3, 12, 6, 7, 13 or 14), then 15
 unfoldable pub userTaken : Node → List Session → List ℕ → List ℕ → Took
 userTaken node l d reply =
-    pick (ltb (length reply) 128) (silent 1 (length d) reply)
+    pick (ltb (length reply) leastReply) (silent 1 (length d) reply)
     (pick (keepsRules node l)
-    (pick (eqb (userOf d .number) 0) (headerTaken node l (userOf d .header) (userOf d .size) (length d) reply) (silent (userOf d .number) (length d) reply))
+    (pick (eqb (userOf d .number) 0) (headerTaken node l (headerOf d) (userOf d .size) (length d) reply) (silent (userOf d .number) (length d) reply))
     (silent 2 (length d) reply))
 
--- ---- with one record: the one at the place that the datagram's tunnel number says
-unfoldable pub headerPlace : Header → ℕ
-headerPlace (H.Echo sequence) = places
-headerPlace (H.Packet teid) = namedPlace (holderOf userOffset (teid .0))
-headerPlace (H.Refused number) = places
-
-unfoldable pub placeIn : List ℕ → ℕ
-placeIn d = headerPlace (headerOf d)
-
-unfoldable pub recordTaken : Node → Session → Header → ℕ → ℕ → List ℕ → Took
-recordTaken node s (H.Echo sequence) start end reply = took 0 0 14 (overlay (userEcho sequence) reply) end
-recordTaken node s (H.Packet teid) start end reply = packetTaken (usedBy (holderOf userOffset (teid .0)) s) (teid .0) (node .plan .user) start end reply
-recordTaken node s (H.Refused number) start end reply = silent number end reply
-
-unfoldable pub checkedTaken : Bool → Node → Session → List ℕ → List ℕ → Took
-checkedTaken kept node s d reply =
-    pick (ltb (length reply) 128) (silent 1 (length d) reply)
-    (pick kept
-    (pick (eqb (userOf d .number) 0) (recordTaken node s (userOf d .header) (userOf d .size) (length d) reply) (silent (userOf d .number) (length d) reply))
-    (silent 2 (length d) reply))
-
--- ---- laws
--- the one record says what the table says
-header-record : (node : Node) (l : List Session) (h : Header) (start end : ℕ) (reply : List ℕ) → length l ≤ places
-    → headerTaken node l h start end reply ≡ recordTaken node (getD l (headerPlace h) (blankAt 0)) h start end reply
-unfolding headerTaken recordTaken headerPlace
-header-record node l (H.Echo sequence) start end reply q = refl
-header-record node l (H.Refused number) start end reply q = refl
-header-record node l (H.Packet teid) start end reply q =
-    rw (owner-is userOffset (teid .0) l user-fits q, held-used (holderOf userOffset (teid .0)) l)
-
-pub user-checked : (node : Node) (l : List Session) (d reply : List ℕ)
-    → checkedTaken (keepsRules node l) node (getD l (placeIn d) (blankAt 0)) d reply ≡ userTaken node l d reply
-unfolding checkedTaken userTaken placeIn
-user-checked node l d reply =
-    split (keepsRules node l)
-    (λ e. let q = rules-of node l e .size in
-    rw (e, user-header d, header-record node l (headerOf d) (userOf d .size) (length d) reply (omega arith)))
-    (λ e. rw e)
-
--- what is handed up begins within the datagram
-pub start-within : (node : Node) (s : Session) (h : Header) (start end : ℕ) (reply : List ℕ) → start ≤ end → recordTaken node s h start end reply .start ≤ end
-unfolding recordTaken packetTaken
-start-within node s (H.Echo sequence) start end reply q = omega arith
-start-within node s (H.Refused number) start end reply q = omega arith
-start-within node s (H.Packet teid) start end reply q = go (usedBy (holderOf userOffset (teid .0)) s)
-  where
-    go : (f : Found) → packetTaken f (teid .0) (node .plan .user) start end reply .start ≤ end
-    go (F.At place) = q
-    go F.Nothing = omega arith
-
-pub checked-within : (kept : Bool) (node : Node) (s : Session) (d reply : List ℕ) → checkedTaken kept node s d reply .start ≤ length d
-unfolding checkedTaken
-checked-within kept node s d reply =
-    split (ltb (length reply) 128) (λ e. rw e (omega arith))
-    (λ e. split kept
-    (λ f. split (eqb (userOf d .number) 0)
-    (λ g. rw (e, f, g) (start-within node s (userOf d .header) (userOf d .size) (length d) reply (user-within d)))
-    (λ g. rw (e, f, g) (omega arith)))
-    (λ f. rw (e, f) (omega arith)))
-
--- the answers in the order of the list, with one record
-module _ (kept : Bool) (node : Node) (s : Session) (d reply : List ℕ) where
-  pub checked-short : length reply < 128 → checkedTaken kept node s d reply ≡ silent 1 (length d) reply
-  unfolding checkedTaken
-  checked-short h = rw (lt-ltb (length reply) 128 h)
-
-  module _ (room : 128 ≤ length reply) where
-    pub checked-broken : kept ≡ false → checkedTaken kept node s d reply ≡ silent 2 (length d) reply
-    unfolding checkedTaken
-    checked-broken e = rw (le-ltb (length reply) 128 room, e)
-
-    module _ (yes : kept ≡ true) where
-      pub checked-unread : (userOf d .number ≡ 0 → ⊥) → checkedTaken kept node s d reply ≡ silent (userOf d .number) (length d) reply
-      unfolding checkedTaken
-      checked-unread n = rw (le-ltb (length reply) 128 room, yes, ne-eqb (userOf d .number) 0 n)
-
-      pub checked-read : userOf d .number ≡ 0 → checkedTaken kept node s d reply ≡ recordTaken node s (headerOf d) (userOf d .size) (length d) reply
-      unfolding checkedTaken
-      checked-read n = rw (le-ltb (length reply) 128 room, yes, eq-eqb (userOf d .number) 0 n, user-header d)
-
--- the same, with the table
+-- ---- laws: the answers in the order of the list
 module _ (node : Node) (l : List Session) (d reply : List ℕ) where
-  pub user-short : length reply < 128 → userTaken node l d reply ≡ silent 1 (length d) reply
+  pub user-short : length reply < leastReply → userTaken node l d reply ≡ silent 1 (length d) reply
   unfolding userTaken
-  user-short h = rw (lt-ltb (length reply) 128 h)
+  user-short h = rw (lt-ltb (length reply) leastReply h)
 
-  module _ (room : 128 ≤ length reply) where
+  module _ (room : leastReply ≤ length reply) where
     pub user-broken : keepsRules node l ≡ false → userTaken node l d reply ≡ silent 2 (length d) reply
     unfolding userTaken
-    user-broken e = rw (le-ltb (length reply) 128 room, e)
+    user-broken e = rw (le-ltb (length reply) leastReply room, e)
 
     module _ (kept : keepsRules node l ≡ true) where
       pub user-unread : (userOf d .number ≡ 0 → ⊥) → userTaken node l d reply ≡ silent (userOf d .number) (length d) reply
       unfolding userTaken
-      user-unread n = rw (le-ltb (length reply) 128 room, kept, ne-eqb (userOf d .number) 0 n)
+      user-unread n = rw (le-ltb (length reply) leastReply room, kept, ne-eqb (userOf d .number) 0 n)
 
       pub user-read : userOf d .number ≡ 0 → userTaken node l d reply ≡ headerTaken node l (headerOf d) (userOf d .size) (length d) reply
       unfolding userTaken
-      user-read n = rw (le-ltb (length reply) 128 room, kept, eq-eqb (userOf d .number) 0 n, user-header d)
-
--- an answer that is right is right about where it begins
-pub took-start : (x : Took) (number place size : ℕ) (reply : List ℕ) (start : ℕ) → took number place size reply start ≡ x
-    → (took number place size reply (x .start) ≡ x) × (start ≡ x .start)
-took-start x number place size reply start e =
-    let s : start ≡ x .start = ap (λ (y : Took). y .start) e in
-    (subst (λ (k : ℕ). took number place size reply k ≡ x) s e, s)
+      user-read n = rw (le-ltb (length reply) leastReply room, kept, eq-eqb (userOf d .number) 0 n)

@@ -1,55 +1,62 @@
 // Take user datagram, on values: an echo is answered, a packet under a live user number is handed up as the part of the datagram
 // that it is, and any other gets an Error Indication or its refusal. The table stays as it is: once its rules are known to be kept, one
-// record of it says all.
+// record of it says all. The datagram is read once.
 use gpdu::Header;
 use session::Session;
-use table::Found;
 use table::Node;
-use table::Table;
+use timing::Answer;
+use tunnel::UserTeid;
 ghost use mathlib.Core.Path.{_≡_};
 ghost use Rattle.gpdu.specs.Part.{IsRest};
-ghost use Rattle.userside.specs.UserSide.{took, placeIn, packetTaken, recordTaken, checkedTaken};
+ghost use Rattle.userside.specs.UserSide.{took};
+ghost use Rattle.userside.specs.OneRecord.{concerned, answered, packetOn, headerOn, done};
 
-// A packet: its place where its number is live, else the Error Indication. The answer is where what is handed up begins.
-fn take_packet(
-    f: Found,
-    teid: u32,
-    addr: u32,
-    start: usize,
-    end: usize,
-    reply: &mut [u8],
-    number: &mut u8,
-    place: &mut usize,
-    size: &mut usize,
-) -> usize
-    ensures { λ r. ⌜ took (now (number .exit)) (now (place .exit)) (now (size .exit)) (now (reply .exit)) r ≡ packetTaken f teid addr start end (now (reply .entry)) ⌝ }
+// The place that the tunnel number names, whatever the datagram is; 64 where it names none or is cut.
+pub fn concerned(d: &[u8]) -> usize
+    ensures { λ r. ⌜ r ≡ concerned (now (d .entry)) ⌝ }
 {
-    let Found::At(at) = f else {
-        *number = 15;
-        *place = 0;
-        *size = 24;
-        messages::error_indication(reply, teid, addr);
-        return end;
-    };
-    *number = 0;
-    *place = at;
-    *size = 0;
-    start
+    let teid = gpdu::teid_of(d);
+    table::user_place(teid)
 }
 
-// By what the header says, and the record at the place that it says.
-fn take_header(
-    node: Node,
+// A packet: handed up from its place where the record is the session of its number, else answered with the Error Indication. The answer
+// is whether it is handed up.
+fn packet_on(
     s: Session,
-    h: Header,
-    start: usize,
-    end: usize,
+    teid: UserTeid,
+    addr: u32,
     reply: &mut [u8],
     number: &mut u8,
     place: &mut usize,
     size: &mut usize,
-) -> usize
-    ensures { λ r. ⌜ took (now (number .exit)) (now (place .exit)) (now (size .exit)) (now (reply .exit)) r ≡ recordTaken node s h start end (now (reply .entry)) ⌝ }
+) -> bool
+    ensures { λ r. ⌜ answered (now (number .exit)) (now (place .exit)) (now (size .exit)) (now (reply .exit)) r ≡ packetOn s (teid .0) addr (now (reply .entry)) ⌝ }
+{
+    let live = table::has_user(s, teid);
+    if live {
+        *number = 0;
+        *place = table::user_place(teid);
+        *size = 0;
+        return true;
+    }
+    *number = 15;
+    *place = 0;
+    *size = 24;
+    messages::error_indication(reply, teid.0, addr);
+    false
+}
+
+// By what the header says: an echo is answered.
+fn header_on(
+    s: Session,
+    h: Header,
+    addr: u32,
+    reply: &mut [u8],
+    number: &mut u8,
+    place: &mut usize,
+    size: &mut usize,
+) -> bool
+    ensures { λ r. ⌜ answered (now (number .exit)) (now (place .exit)) (now (size .exit)) (now (reply .exit)) r ≡ headerOn s h addr (now (reply .entry)) ⌝ }
 {
     match h {
         Header::Echo { sequence } => {
@@ -57,40 +64,14 @@ fn take_header(
             *place = 0;
             *size = 14;
             messages::user_echo(reply, sequence as u32);
-            end
+            false
         }
-        Header::Packet { teid } => {
-            let plan = node.plan;
-            let holder = teid.holder();
-            let f = table::used_by(holder, s);
-            take_packet(f, teid.0, plan.user, start, end, reply, number, place, size)
-        }
-        Header::Refused(why) => {
-            *number = why;
-            *place = 0;
-            *size = 0;
-            end
-        }
+        Header::Packet { teid } => packet_on(s, teid, addr, reply, number, place, size),
     }
 }
 
-// The place that the datagram's tunnel number says; 64 where it says none.
-pub fn place_of(d: &[u8]) -> usize
-    ensures { λ r. ⌜ r ≡ placeIn (now (d .entry)) ⌝ }
-{
-    let h = Header::of(d);
-    match h {
-        Header::Echo { sequence: _ } => Table::PLACES,
-        Header::Packet { teid } => {
-            let holder = teid.holder();
-            table::named_place(holder)
-        }
-        Header::Refused(_) => Table::PLACES,
-    }
-}
-
-// Take user datagram, where it is known whether the table's rules are kept, with the record at the place that the datagram says.
-pub fn take_checked<'a>(
+// Take user datagram, where it is known whether the table's rules are kept, with the record at the place that the datagram concerns.
+pub fn done<'a>(
     kept: bool,
     node: Node,
     s: Session,
@@ -100,30 +81,27 @@ pub fn take_checked<'a>(
     place: &mut usize,
     size: &mut usize,
 ) -> &'a [u8]
-    ensures { λ r. ⌜ (took (now (number .exit)) (now (place .exit)) (now (size .exit)) (now (reply .exit)) (checkedTaken kept node s (now (d .entry)) (now (reply .entry)) .start)
-        ≡ checkedTaken kept node s (now (d .entry)) (now (reply .entry)))
-        × IsRest r (d .entry) (checkedTaken kept node s (now (d .entry)) (now (reply .entry)) .start) ⌝ }
+    ensures { λ r. ⌜ (took (now (number .exit)) (now (place .exit)) (now (size .exit)) (now (reply .exit)) (done kept node s (now (d .entry)) (now (reply .entry)) .start)
+        ≡ done kept node s (now (d .entry)) (now (reply .entry)))
+        × IsRest r (d .entry) (done kept node s (now (d .entry)) (now (reply .entry)) .start) ⌝ }
 {
-    let end = d.len();
-    let mut start = end;
     *place = 0;
     *size = 0;
-    if reply.len() < 128 {
-        *number = 1;
-        return &d[start..];
+    if reply.len() < Answer::LEAST_REPLY {
+        return gpdu::refuse(d, 1, number);
     }
     if !kept {
-        *number = 2;
-        return &d[start..];
+        return gpdu::refuse(d, 2, number);
     }
-    let mut why: u8 = 0;
-    let p = gpdu::payload(d, &mut why);
-    if why != 0 {
-        *number = why;
-        return &d[start..];
+    let p = gpdu::payload(d, number);
+    if *number != 0 {
+        return p;
     }
-    start = end - p.len();
     let h = Header::of(d);
-    start = take_header(node, s, h, start, end, reply, number, place, size);
-    &d[start..]
+    let plan = node.plan;
+    let up = header_on(s, h, plan.user, reply, number, place, size);
+    if up {
+        return p;
+    }
+    &d[d.len()..]
 }

@@ -79,7 +79,6 @@ fn show(d: &[u8]) {
                 put(b" packet ");
                 put_number(teid.0 as u64);
             }
-            Header::Refused(why) => put(b" ?"),
         }
         put(b" ");
         put_hex(part);

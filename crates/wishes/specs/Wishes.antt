@@ -7,11 +7,10 @@ use mathlib.Core.List.{List}
 use lib.ListN.{drop}
 use lib.Dec.{eqb, ltb}
 use Rattle.octets.specs.Choice.{pick}
-use Rattle.tunnel.specs.Numbering.{places, controlOffset}
-use Rattle.tunnel.specs.Tunnel.{holderOf}
+use Rattle.tunnel.specs.Numbering.{places}
 use Rattle.session.specs.Request.{awaits}
 use Rattle.table.specs.declared.Node.{Node}
-use Rattle.table.specs.Find.{namedPlace}
+use Rattle.table.specs.Find.{controlPlace}
 use Rattle.header.specs.declared.HeaderCursor.{HeaderCursor}
 use Rattle.header.specs.Header.{headerOf}
 use Rattle.header.specs.Gate.{gateOf}
@@ -77,10 +76,6 @@ restartsIn (W.Open c seq) node = restartsBy (c .recovery) node
 unfoldable pub idKey : ℕ → ℕ → ℕ
 idKey imsi ebi = imsi % 36028797018963968 * 256 + ebi
 
--- the place that a number names, past the table where it names none
-unfoldable pub namedBy : ℕ → ℕ
-namedBy teid = namedPlace (holderOf controlOffset teid)
-
 unfoldable pub atPlace : ℕ → Aim
 atPlace place = record { key = 0; place = place }
 
@@ -90,7 +85,7 @@ aimOf (W.Silent number) = atPlace places
 aimOf W.Version = atPlace places
 aimOf (W.Echo recovery seq) = atPlace places
 aimOf (W.Ended recovery) = atPlace places
-aimOf (W.Named h) = atPlace (namedBy (h .teid))
+aimOf (W.Named h) = atPlace (controlPlace (h .teid))
 aimOf (W.Refused w to seq) = atPlace places
 aimOf (W.Open c seq) = record { key = idKey (c .imsi) (c .ebi); place = places }
 

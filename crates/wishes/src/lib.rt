@@ -12,7 +12,7 @@ use table::Table;
 use timing::Answer;
 use tunnel::ControlTeid;
 ghost use mathlib.Core.Path.{_≡_};
-ghost use Rattle.wishes.specs.Wishes.{asksEnd, asksOpen, asksKind, asksPast, asksFor, restartsIn, namedBy, atPlace, aimOf, brokenBy};
+ghost use Rattle.wishes.specs.Wishes.{asksEnd, asksOpen, asksKind, asksPast, asksFor, restartsIn, atPlace, aimOf, brokenBy};
 
 pub enum Wish {
     // the reply buffer is too short: 1, before anything else
@@ -177,14 +177,6 @@ pub fn restarts_in(w: Wish, node: Node) -> bool
     }
 }
 
-// The place that a header's number names; 64 where it names none.
-fn named_by(teid: ControlTeid) -> usize
-    ensures { λ r. ⌜ r ≡ namedBy (teid .0) ⌝ }
-{
-    let holder = teid.holder();
-    table::named_place(holder)
-}
-
 fn at_place(place: usize) -> Aim
     ensures { λ r. ⌜ r ≡ atPlace place ⌝ }
 {
@@ -205,7 +197,7 @@ pub fn aim_of(w: Wish) -> Aim
         } => at_place(Table::PLACES),
         Wish::Ended { recovery: _ } => at_place(Table::PLACES),
         Wish::Named { header } => {
-            let place = named_by(ControlTeid(header.teid));
+            let place = table::control_place(ControlTeid(header.teid));
             at_place(place)
         }
         Wish::Refused {

@@ -3,123 +3,92 @@ use Rattle.tunnel.specs.Numbering.{places}
 use borrow.Author.Needs.{needs}
 use Rattle.wishes.proofs.aim_of.Statement.{statement}
 use Rattle.wishes.proofs.aim_of.Tie as tie
-use Rattle.wishes.proofs.aim_of.Reads as reads
-use Rattle.wishes.proofs.aim_of.Lts as lts
-use Rattle.wishes.proofs.at_place.Reads as at-place-reads
-use Rattle.wishes.proofs.named_by.Reads as named-by-reads
 
--- src/lib.rt:196:24
 enum-told : tie.Need-enum-told
 enum-told c = search needs
 
--- src/lib.rt:196:24
 at-place-requires : tie.Need-at-place-requires
 at-place-requires c κs = search needs
 
--- src/lib.rt:197:28
 enum-told-2 : tie.Need-enum-told-2
 enum-told-2 c = search needs
 
--- src/lib.rt:197:28
 at-place-requires-2 : tie.Need-at-place-requires-2
 at-place-requires-2 c κs = search needs
 
--- src/lib.rt:198:26
 enum-told-3 : tie.Need-enum-told-3
 enum-told-3 c = search needs
 
--- src/lib.rt:198:26
 at-place-requires-3 : tie.Need-at-place-requires-3
 at-place-requires-3 c κs = search needs
 
--- src/lib.rt:202:14
 enum-told-4 : tie.Need-enum-told-4
 enum-told-4 c = search needs
 
--- src/lib.rt:202:14
 at-place-requires-4 : tie.Need-at-place-requires-4
 at-place-requires-4 c κs = search needs
 
--- src/lib.rt:203:40
 enum-told-5 : tie.Need-enum-told-5
 enum-told-5 c = search needs
 
--- src/lib.rt:203:40
 at-place-requires-5 : tie.Need-at-place-requires-5
 at-place-requires-5 c κs = search needs
 
--- src/lib.rt:204:23
 enum-known-w : tie.Need-enum-known-w
 enum-known-w c = search needs
 
--- src/lib.rt:205:17
-named-by-requires : tie.Need-named-by-requires
-named-by-requires c κs = search needs
+control-place-requires : tie.Need-control-place-requires
+control-place-requires c κs = search needs
 
--- src/lib.rt:206:13
 at-place-requires-6 : tie.Need-at-place-requires-6
 at-place-requires-6 c κs = search needs
 
--- src/lib.rt:212:14
 enum-told-6 : tie.Need-enum-told-6
 enum-told-6 c = search needs
 
--- src/lib.rt:212:14
 at-place-requires-7 : tie.Need-at-place-requires-7
 at-place-requires-7 c κs = search needs
 
--- src/lib.rt:214:13
 enum-known-w-2 : tie.Need-enum-known-w-2
 enum-known-w-2 c = search needs
 
--- src/lib.rt:217:18
 mul-t8 : tie.Need-mul-t8
 mul-t8 c = search needs
 
--- src/lib.rt:217:58
 cast-t9 : tie.Need-cast-t9
 cast-t9 c = search needs
 
--- src/lib.rt:217:18
 add-t10 : tie.Need-add-t10
 add-t10 c = search needs
 
--- src/lib.rt:192:1
 returns : tie.Need-returns
 unfolding aimOf idKey places
 returns c = rw (c .before .enum-told .given .1, c .at-place .ensures)
 
--- src/lib.rt:192:1
 returns-2 : tie.Need-returns-2
 unfolding aimOf idKey places
 returns-2 c = rw (c .before .enum-told2 .given .1, c .at-place2 .ensures)
 
--- src/lib.rt:192:1
 returns-3 : tie.Need-returns-3
 unfolding aimOf idKey places
 returns-3 c = rw (c .before .enum-told3 .given .1, c .at-place3 .ensures)
 
--- src/lib.rt:192:1
 returns-4 : tie.Need-returns-4
 unfolding aimOf idKey places
 returns-4 c = rw (c .before .enum-told4 .given .1, c .at-place4 .ensures)
 
--- src/lib.rt:192:1
 returns-5 : tie.Need-returns-5
 unfolding aimOf idKey places
 returns-5 c = rw (c .before .enum-told5 .given .1, c .at-place5 .ensures)
 
--- src/lib.rt:192:1
 returns-6 : tie.Need-returns-6
 unfolding aimOf idKey places
-returns-6 c = rw (c .before .before .before .w .given .1, c .at-place6 .ensures, c .before .named-by .ensures)
+returns-6 c = rw (c .before .before .before .w .given .1, c .at-place6 .ensures, c .before .control-place .ensures)
 
--- src/lib.rt:192:1
 returns-7 : tie.Need-returns-7
 unfolding aimOf idKey places
 returns-7 c = rw (c .before .enum-told6 .given .1, c .at-place7 .ensures)
 
--- src/lib.rt:192:1
 returns-8 : tie.Need-returns-8
 unfolding aimOf idKey places
 returns-8 c = rw (c .before .before .before .w2 .given .1)
@@ -139,7 +108,7 @@ aim-of-spec =
     enum-told-5
     at-place-requires-5
     enum-known-w
-    named-by-requires
+    control-place-requires
     at-place-requires-6
     enum-told-6
     at-place-requires-7
