@@ -3,10 +3,10 @@
 use Prim.Native.Nat.{ℕ, zero, suc, _+_, _<_, _≤_, _-_}
 use mathlib.Core.Bool.{Bool, true, false, not}
 use mathlib.Core.List.{List, [], _∷_, _++_}
-use mathlib.Core.Path.{_≡_, refl, sym, ap, _∙_}
+use mathlib.Core.Path.{_≡_, refl, ap, _∙_}
 use native.Mathlib.Omega.{arith}
-use lib.ListN.{length, take, getD, replicate}
-use lib.Dec.{eqb, ltb}
+use lib.ListN.{take, getD, replicate}
+use lib.Dec.{eqb}
 use borrow.Author.Tests.{lt-ltb}
 use mir.Val.{boolByte}
 use Rattle.octets.specs.Choice.{pick, split, bit-most}
@@ -18,7 +18,7 @@ use Rattle.table.specs.declared.Node.{Node}
 use Rattle.table.specs.Change.{nobody}
 use Rattle.table.specs.Room.{sessions}
 use Rattle.timing.specs.declared.Answer.{Answer}
-use Rattle.timing.specs.Outcome.{Outcome, outcome, Back, back}
+use Rattle.timing.specs.Outcome.{outcome, Back, back}
 use Rattle.placeline.specs.Line.{lineOf}
 use Rattle.benchtext.specs.Prints.{liveText}
 use Rattle.benchplan.specs.declared.Bench.{Bench}

@@ -1,8 +1,8 @@
 use Prim.Native.Nat.{_≤_}
-use mathlib.Core.Path.{_≡_, sym, _∙_}
+use mathlib.Core.Path.{sym, _∙_}
 use native.Mathlib.Omega.{arith}
 use denote.Ref.{now}
-use lib.ListN.{length, drop, drop-of-length-le}
+use lib.ListN.{length, drop-of-length-le}
 use Rattle.octets.specs.Places.{tail-part}
 use borrow.Author.Needs.{needs}
 use Rattle.benchrun.proofs.behind.Statement.{statement}
