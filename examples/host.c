@@ -92,7 +92,7 @@ int main(void) {
   a = grugavorn_close(a.node, records, GRUGAVORN_PLACES, 0);
   print_answer(a.number, reply, a.size);
   unsigned live = 0;
-  for (size_t i = 0; i < GRUGAVORN_PLACES; i++) live += records[i].state != 0;
+  for (size_t i = 0; i < GRUGAVORN_PLACES; i++) live += records[i].state != GRUGAVORN_FREE;
   printf("L\t%u\n", live);
   return 0;
 }

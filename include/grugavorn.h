@@ -17,9 +17,9 @@
  *     node = a.node;
  *     if (a.size != 0) send(reply, a.size);
  *
- * Numbers are document 01's (docs/NUMBERS.md). Every refusal leaves the records, the node and the reply buffer as they were, unless the
- * call's comment or the number's row says otherwise. Octets of the reply buffer past the reply's length are never written. Multi-octet
- * fields below are the processor's own order; datagrams and replies are octets as on the wire. */
+ * Numbers are document 01's (enum grugavorn_number, docs/NUMBERS.md). Every refusal leaves the records, the node and the reply buffer as
+ * they were, unless the call's comment or the number's row says otherwise. Octets of the reply buffer past the reply's length are never
+ * written. Multi-octet fields below are the processor's own order; datagrams and replies are octets as on the wire. */
 #ifndef GRUGAVORN_H
 #define GRUGAVORN_H
 
@@ -38,6 +38,56 @@ extern "C" {
 #define GRUGAVORN_NAME 63
 /* the least reply buffer: a shorter one is number 1 */
 #define GRUGAVORN_REPLY 128
+
+/* The numbers that come back (docs/NUMBERS.md). */
+enum grugavorn_number {
+  GRUGAVORN_TAKEN = 0,
+  /* the reply buffer is short */
+  GRUGAVORN_REPLY_SHORT = 1,
+  /* the table breaks its rules */
+  GRUGAVORN_RULES_BROKEN = 2,
+  /* a datagram under 8 octets */
+  GRUGAVORN_UNDER_EIGHT = 3,
+  /* P is set */
+  GRUGAVORN_FLAG_P_SET = 4,
+  /* a control version that is not 2 */
+  GRUGAVORN_OTHER_VERSION = 5,
+  /* the length is not the size less 4 (user: less 8), or the header is cut */
+  GRUGAVORN_LENGTH_UNFIT = 6,
+  GRUGAVORN_TYPE_NOT_TAKEN = 7,
+  /* T, or Create's TEID */
+  GRUGAVORN_TEID_UNFIT = 8,
+  /* a reply that is not awaited, or unreadable */
+  GRUGAVORN_NOT_AWAITED = 9,
+  /* a place over 63, or free when closed */
+  GRUGAVORN_NO_PLACE = 10,
+  /* admitted, and no place is free */
+  GRUGAVORN_NO_FREE_PLACE = 11,
+  /* user version or PT wrong */
+  GRUGAVORN_NOT_USER = 12,
+  /* the optional part is cut, or an extension's length is 0 or cut */
+  GRUGAVORN_PART_CUT = 13,
+  /* an extension that must be understood */
+  GRUGAVORN_MUST_UNDERSTAND = 14,
+  /* a user TEID that is not live */
+  GRUGAVORN_USER_NOT_LIVE = 15,
+  /* the plan breaks a limit */
+  GRUGAVORN_PLAN_BREAKS = 16,
+  GRUGAVORN_NOTHING_DUE = 17,
+  /* the causes: the reply has that cause. No such session */
+  GRUGAVORN_NOT_LIVE = 64,
+  /* a field is short, or overruns */
+  GRUGAVORN_SHORT = 67,
+  /* a field is wrong */
+  GRUGAVORN_WRONG = 69,
+  /* a field is missing */
+  GRUGAVORN_MISSING = 70,
+  /* the sharing rule has no room */
+  GRUGAVORN_NO_ROOM = 73,
+  GRUGAVORN_UNKNOWN_APN = 78,
+  /* an address type that is not served */
+  GRUGAVORN_ADDRESS_TYPE = 83,
+};
 
 /* the states of a record */
 #define GRUGAVORN_FREE 0

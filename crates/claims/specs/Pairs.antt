@@ -22,7 +22,8 @@ use Rattle.header.specs.Gate.{gateOf, controlVersion}
 use Rattle.plan.specs.Limits.{noPlan, noPoint}
 use Rattle.session.specs.declared.Session.{Session}
 use Rattle.session.specs.Request.{idle}
-use Rattle.session.specs.Session.{isFree}
+use Rattle.session.specs.Session.{isFree, blankAt, opened}
+use Rattle.table.specs.Change.{nobody}
 use Rattle.table.specs.Find.{ownerOf, ownerFrom, bears}
 use Rattle.table.specs.Own.{freshNode, rested}
 use Rattle.userside.specs.UserSide.{Took, headerTaken, packetTaken}
@@ -42,21 +43,9 @@ pub data Pair : Type 0 where
   -- a control datagram and the number its header gets
   gated : List ℕ → ℕ → Pair
 
--- a session at place 0 in use 1
+-- a session opened in place 0 of a fresh table, so in use 1
 onlySession : Session
-onlySession = record {
-  imsi = 1;
-  usage = 1;
-  control = 1;
-  controladdr = 0;
-  user = 1;
-  useraddr = 0;
-  created = 0;
-  own = idle;
-  state = 1;
-  point = 0;
-  ebi = 5;
-}
+onlySession = opened (record { imsi = 1; control = 1; controladdr = 0; user = 1; useraddr = 0; created = 0; point = 0; ebi = 5 }) nobody
 
 handedUp : List ℕ → Took
 handedUp d = headerTaken (freshNode noPlan) (onlySession ∷ []) (headerOf d) (userOf d .size) (length d) []
@@ -97,5 +86,5 @@ pub PairsHold : Type 0
 PairsHold = every holds pairs ≡ true
 
 pub pairs-hold : PairsHold
-unfolding PairsHold pairs holds same every numberAt nextUse share sharable admitted sumTo places base controlOffset userOffset lastUse teids numberFrom numberOf sameOctets ours optional sizeOf typeTaken teidOf refusalOf headerOf sequenceOf unfit walkOf extensionsOf firstType userOf onlySession handedUp headerTaken packetTaken ownerOf ownerFrom bears isFree idle freshNode rested noPlan noPoint overlay gateOf versionOf controlVersion
+unfolding PairsHold pairs holds same every numberAt nextUse share sharable admitted sumTo places base controlOffset userOffset lastUse teids numberFrom numberOf sameOctets ours optional sizeOf typeTaken teidOf refusalOf headerOf sequenceOf unfit walkOf extensionsOf firstType userOf onlySession opened blankAt handedUp headerTaken packetTaken ownerOf ownerFrom bears isFree idle freshNode rested noPlan noPoint overlay gateOf versionOf controlVersion
 pairs-hold = refl

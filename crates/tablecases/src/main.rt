@@ -17,6 +17,7 @@
 // sent; place 3 is free in use 7; no other place was ever used.
 use plan::AccessPoint;
 use plan::Plan;
+use session::Opening;
 use session::Request;
 use session::Session;
 use table::Node;
@@ -86,22 +87,19 @@ fn base_plan() -> Plan {
     }
 }
 
-// A live session, by its IMSI and access point.
+// A live session, by its IMSI and access point, in use 1.
 fn live_on(imsi: u64, point: u8) -> Session {
-    let own = Request::idle();
-    Session {
+    let o = Opening {
         imsi,
-        usage: 1,
         control: 4096,
         controladdr: 167772417,
         user: 8192,
         useraddr: 167772418,
         created: 100,
-        own,
-        state: Session::LIVE,
         point,
         ebi: 5,
-    }
+    };
+    Session::blank_at(0).opened(o)
 }
 
 fn base_table() -> Table {
