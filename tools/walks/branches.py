@@ -2,7 +2,7 @@
 from .calls import CallWalk
 from .elements import index_proof, offset_base
 from .exits import walk_return
-from .mir import Refusal, is_operation, is_statement, local_of, place, statement_text, statements
+from .mir import Refusal, callees, is_operation, is_statement, local_of, place, statement_text, statements
 from .owned import items
 from .statements import spell, walk_assignment
 from .text import addresses, after_blank
@@ -21,6 +21,8 @@ def walk_body(walk, body, walk_loop):
             walk_return(walk, False)
         else:
             walk_statement(walk, statement)
+            if is_statement(statement, "call") and walk.function.calls_in_a_row and callees(walk.rest):
+                cut_here(walk, number + 2)
 
 
 def walk_statement(walk, statement):
@@ -106,6 +108,7 @@ def cut_here(walk, following, test=None):
     for local in addresses_alone:
         walk.step(f"forget ! {walk.position(f'c{local}')} refl $")
         walk.now.stored.discard(local)
+    walk.names_mir = True
     order = walk.in_order()
     walk.keep(order)
     if test:

@@ -13,7 +13,7 @@ def walk_function(walk):
         walk.start = enter_loop(walk)
         walk.main = walk.taken_lines()
         walk.step("let fm = fmOf 𝓤 H (W .laws) 𝓣 in")
-    elif walk.function.branch_count > 1:
+    elif walk.function.is_cut:
         cut_here(walk, 1)
     walk_body(walk, walk.function.body, walk_loop)
     if walk.laws[walk.ways_out:] and "?" not in walk.laws:

@@ -252,3 +252,14 @@ class Function:
     def branch_count(self):
         """How many statements of the body are branches."""
         return sum(1 for statement in self.body if is_statement(statement, "if"))
+
+    @property
+    def is_cut(self):
+        """Whether its walk is cut into lemmas: several branches, or calls in a row."""
+        return not self.has_loop and (self.branch_count > 1 or self.calls_in_a_row)
+
+    @property
+    def calls_in_a_row(self):
+        """Whether the body is straight and has several calls."""
+        calls = sum(1 for statement in self.body if is_statement(statement, "call"))
+        return calls > 1 and self.branch_count == 0 and not self.has_loop

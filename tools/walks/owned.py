@@ -18,6 +18,8 @@ def _item(walk, label):
     if name in walk.held_parts:
         return f"‵ {walk.held_parts[name].own}"
     param = next(param for param in walk.params if param.name == name)
+    if kind == "fin":
+        return f"‵ ({param.finally_is(walk.now.lasts[name])})"
     row, held = param.type.of.row, walk.now.lists.get(name, (None, None))[0]
     if kind == "own":
         if not param.type.mutable or not param.type.slice or held == param.entry_list:

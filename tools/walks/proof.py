@@ -160,7 +160,7 @@ class Proof:
 
     def _environment(self):
         """The locals' types and addresses, where the walk is cut into lemmas."""
-        if self.function.branch_count < 2:
+        if not self.function.is_cut:
             return []
         names = addresses(self.function.local_count)
         return [f"  abbrev En : ({names} : ℕ) → Env 𝓤 H", f"  En {names} = {self.environment()}", ""]

@@ -1,33 +1,31 @@
 -- Modify (34), Delete (36) and the reply to a Delete Bearer (100), on the record of the session that they are for: what is refused with which
--- cause and to whom, what becomes of the record, and the reply. A record that is free stands for a session that there is not.
+-- cause and to whom, what becomes of the record, and the reply.
 -- Assumes nothing.
 use Prim.Native.Nat.{ℕ}
-use mathlib.Core.Bool.{Bool, false}
 use mathlib.Core.List.{List}
-use mathlib.Core.Path.{_≡_}
-use lib.ListN.{length}
-use lib.Dec.{eqb}
+use Rattle.octets.specs.Number.{taken, notAwaited}
 use Rattle.octets.specs.Choice.{pick}
-use Rattle.octets.specs.Overlay.{overlay}
 use Rattle.session.specs.declared.Session.{Session}
 use Rattle.session.specs.declared.Peers.{Peers}
 use Rattle.session.specs.Session.{isFree, waitsFor, freed, moved}
 use Rattle.table.specs.declared.Node.{Node}
 use Rattle.messages.specs.Messages.{causeReply, faultReply, modifyBearer}
-use Rattle.header.specs.declared.HeaderCursor.{HeaderCursor}
-use Rattle.carried.specs.Carried as carried
+use Rattle.readers.specs.declared.Refusal.{Refusal}
+use Rattle.readers.specs.Refusal.{bare, notLiveCause, acceptedCause}
+use Rattle.messages.specs.Types.{modifyReplyType, deleteReplyType}
 use Rattle.carried.specs.declared.BearerReply.{BearerReply}
 use Rattle.carried.specs.declared.BearerReply.the-variants as B
-use Rattle.readers.specs.declared.Refusal.{Refusal}
 use Rattle.requests.specs.declared.Peer.{Peer}
 use Rattle.requests.specs.declared.Peer.the-variants as P
 use Rattle.requests.specs.declared.Context.{Context}
 use Rattle.requests.specs.declared.Context.the-variants as C
 use Rattle.requests.specs.declared.Modify as M
-use Rattle.requests.specs.declared.Decoded.{Decoded}
-use Rattle.requests.specs.declared.Decoded.the-variants as D
-use Rattle.requests.specs.declared.Request.the-variants as Q
-use Rattle.changes.specs.Change.{modifyOf, deleteOf}
+use Rattle.requests.specs.declared.Delete as D
+use Rattle.changes.specs.declared.Moves.{Moves}
+use Rattle.changes.specs.declared.Moves.the-variants as N
+use Rattle.changes.specs.Change.{movesOf, meansOf}
+use Rattle.wishes.specs.declared.Concern.{Concern}
+use Rattle.wishes.specs.declared.Concern.the-variants as S
 use Rattle.timing.specs.Outcome.{Outcome, replied, Done, quiet}
 
 -- ---- a reply with a cause: the number is the cause, the table as it was
@@ -38,10 +36,12 @@ causeOctets type teid seq w =
 unfoldable pub causeTaken : ℕ → ℕ → ℕ → Refusal → Node → List Session → List ℕ → Outcome
 causeTaken type teid seq w node t reply = replied (w .cause) node t (causeOctets type teid seq w) reply
 
--- what a writer of a message does: the message is laid over the front of the buffer, and its length is answered
-pub record Wrote (size : ℕ) (after before m : List ℕ) : Type 0 where
-  pub length : size ≡ length m
-  pub octets : after ≡ overlay m before
+unfoldable pub causeOn : ℕ → ℕ → ℕ → Refusal → Session → Done
+causeOn type teid seq w s = record { number = w .cause; session = s; message = causeOctets type teid seq w }
+
+-- a session that is not there: 64, to nobody
+unfoldable pub notLive : Refusal
+notLive = bare notLiveCause
 
 -- ---- Modify
 -- where the peer is now, of a peer that came or not
@@ -53,63 +53,56 @@ unfoldable pub peerAddr : Peer → ℕ → ℕ
 peerAddr P.Same addr = addr
 peerAddr (P.New teid new) addr = new
 
-unfoldable pub peersOf : M.Modify → Session → Peers
-peersOf m s = record {
-  control = peerTeid (m .control) (s .control);
-  controladdr = peerAddr (m .control) (s .controladdr);
-  user = peerTeid (m .user) (s .user);
-  useraddr = peerAddr (m .user) (s .useraddr);
+unfoldable pub peersOf : Peer → Peer → Session → Peers
+peersOf c u s = record {
+  control = peerTeid c (s .control);
+  controladdr = peerAddr c (s .controladdr);
+  user = peerTeid u (s .user);
+  useraddr = peerAddr u (s .useraddr);
 }
 
 -- the reply goes to the peer as it is after the change; a Bearer Context that came gets one back
 unfoldable pub modifyOctets : Context → ℕ → ℕ → ℕ → List ℕ
-modifyOctets C.Absent teid seq ebi = causeReply 35 teid seq 16
-modifyOctets C.Present teid seq ebi = modifyBearer teid seq ebi
+modifyOctets C.Absent teid seq ebi = causeReply modifyReplyType teid seq acceptedCause
+modifyOctets (C.Present x user) teid seq ebi = modifyBearer teid seq ebi
 
--- a session that is not there: 64, to nobody
-unfoldable pub notLive : Refusal
-notLive = record { cause = 64; kind = 0; instance = 0; named = false }
-
-unfoldable pub causeOn : ℕ → ℕ → ℕ → Refusal → Session → Done
-causeOn type teid seq w s = record { number = w .cause; session = s; message = causeOctets type teid seq w }
-
-unfoldable pub movedOn : M.Modify → ℕ → Session → Done
-movedOn m seq s = record {
-  number = 0;
-  session = moved (peersOf m s) s;
-  message = modifyOctets (m .context) (peersOf m s .control) seq (s .ebi);
-}
+unfoldable pub movedOn : Context → Peers → ℕ → Session → Done
+movedOn context p seq s = record { number = taken; session = moved p s; message = modifyOctets context (p .control) seq (s .ebi) }
 
 -- all tests pass or nothing changes; a refusal answers the peer as it was
-unfoldable pub modifyRead : Decoded → ℕ → Session → Done
-modifyRead (D.Refused w) seq s = causeOn 35 (s .control) seq w s
-modifyRead (D.Sound (Q.Modify m)) seq s = movedOn m seq s
-modifyRead (D.Sound (Q.Create c)) seq s = causeOn 35 (s .control) seq notLive s
-modifyRead (D.Sound (Q.Delete d)) seq s = causeOn 35 (s .control) seq notLive s
+unfoldable pub modifyBy : Moves → Context → ℕ → Session → Done
+modifyBy (N.Refused w) context seq s = causeOn modifyReplyType (s .control) seq w s
+modifyBy (N.To c u) context seq s = movedOn context (peersOf c u s) seq s
 
-unfoldable pub modifyOn : ℕ → List ℕ → Session → Done
-modifyOn seq rest s = pick (isFree s) (causeOn 35 0 seq notLive s) (modifyRead (modifyOf (s .ebi) rest) seq s)
+unfoldable pub modifyOn : M.Modify → ℕ → Session → Done
+modifyOn m seq s = modifyBy (movesOf m (s .ebi)) (m .context) seq s
 
--- ---- Delete
+-- ---- Delete: another EBI than the session's is 64
 unfoldable pub freedOn : ℕ → Session → Done
-freedOn seq s = record { number = 0; session = freed s; message = causeReply 37 (s .control) seq 16 }
+freedOn seq s = record { number = taken; session = freed s; message = causeReply deleteReplyType (s .control) seq acceptedCause }
 
-unfoldable pub deleteRead : Decoded → ℕ → Session → Done
-deleteRead (D.Refused w) seq s = causeOn 37 (s .control) seq w s
-deleteRead (D.Sound q) seq s = freedOn seq s
+unfoldable pub deleteOn : D.Delete → ℕ → Session → Done
+deleteOn d seq s = pick (meansOf d (s .ebi)) (freedOn seq s) (causeOn deleteReplyType (s .control) seq notLive s)
 
-unfoldable pub deleteOn : ℕ → List ℕ → Session → Done
-deleteOn seq rest s = pick (isFree s) (causeOn 37 0 seq notLive s) (deleteRead (deleteOf (s .ebi) rest) seq s)
+-- ---- the reply to a Delete Bearer: with the awaited number and a readable Cause it frees the session
+unfoldable pub bearerOn : BearerReply → ℕ → Session → Done
+bearerOn B.Unreadable seq s = quiet notAwaited s
+bearerOn (B.Cause cause) seq s = pick (waitsFor seq s) (quiet taken (freed s)) (quiet notAwaited s)
 
--- ---- the reply to a Delete Bearer (100): with the awaited number and a readable Cause it frees the session
-unfoldable pub bearerBy : BearerReply → Bool → Session → Done
-bearerBy B.Unreadable mine s = quiet 9 s
-bearerBy (B.Cause cause) mine s = pick mine (quiet 0 (freed s)) (quiet 9 s)
+-- ---- whichever is asked: of a live session
+unfoldable pub liveOn : Concern → ℕ → Session → Done
+liveOn (S.Modify m) seq s = modifyOn m seq s
+liveOn (S.Delete d) seq s = deleteOn d seq s
+liveOn (S.Refused type w) seq s = causeOn type (s .control) seq w s
+liveOn (S.Bearer b) seq s = bearerOn b seq s
 
-unfoldable pub bearerOn : ℕ → List ℕ → Session → Done
-bearerOn seq rest s = bearerBy (carried.bearerReplyOf rest) (waitsFor seq s) s
+-- where the number is no live session's: 64, to nobody; the reply to a Delete Bearer is not awaited
+unfoldable pub noneOn : Concern → ℕ → Session → Done
+noneOn (S.Modify m) seq s = causeOn modifyReplyType 0 seq notLive s
+noneOn (S.Delete d) seq s = causeOn deleteReplyType 0 seq notLive s
+noneOn (S.Refused type w) seq s = causeOn type 0 seq notLive s
+noneOn (S.Bearer b) seq s = quiet notAwaited s
 
--- ---- by type, of the session whose control TEID the header has
-unfoldable pub sessionOf : HeaderCursor → List ℕ → Session → Done
-sessionOf h rest =
-    pick (eqb (h .kind) 34) (modifyOn (h .sequence) rest) (pick (eqb (h .kind) 36) (deleteOn (h .sequence) rest) (bearerOn (h .sequence) rest))
+-- a free record stands for a session that there is not
+unfoldable pub sessionOn : Concern → ℕ → Session → Done
+sessionOn x seq s = pick (isFree s) (noneOn x seq s) (liveOn x seq s)

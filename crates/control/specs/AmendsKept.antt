@@ -1,8 +1,7 @@
--- Modify, Delete and the reply to a Delete Bearer leave a record that may stand where it stood, whatever came: so they keep the table rules.
+-- What concerns one session leaves a record that may stand where it stood, whatever came: so it keeps the table rules.
 -- Assumes nothing.
 use Prim.Native.Nat.{ℕ}
 use mathlib.Core.Bool.{Bool, true, false, not}
-use mathlib.Core.List.{List}
 use mathlib.Core.Path.{_≡_, refl}
 use native.Mathlib.Omega.{arith}
 use lib.Dec.{eqb}
@@ -12,20 +11,21 @@ use Rattle.session.specs.declared.Session.{Session}
 use Rattle.session.specs.declared.Bounds.{Bounds}
 use Rattle.session.specs.Session.{isFree, waitsFor, recordOk, heldOk, readOk, moved}
 use Rattle.session.specs.Keep.{live-of, ok-moved, lighter-moved}
-use Rattle.header.specs.declared.HeaderCursor.{HeaderCursor}
-use Rattle.carried.specs.Carried as carried
 use Rattle.carried.specs.declared.BearerReply.{BearerReply}
 use Rattle.carried.specs.declared.BearerReply.the-variants as B
 use Rattle.requests.specs.declared.Peer.{Peer}
 use Rattle.requests.specs.declared.Peer.the-variants as P
 use Rattle.requests.specs.declared.Modify as M
-use Rattle.requests.specs.declared.Decoded.{Decoded}
-use Rattle.requests.specs.declared.Decoded.the-variants as D
-use Rattle.requests.specs.declared.Request.the-variants as Q
-use Rattle.changes.specs.Change.{modifyOf, deleteOf, PeerSound, ModifySound, modify-sound, new-live}
+use Rattle.requests.specs.declared.Delete as D
+use Rattle.changes.specs.declared.Moves.{Moves}
+use Rattle.changes.specs.declared.Moves.the-variants as N
+use Rattle.changes.specs.Change.{movesOf, meansOf, PeerSound, ModifySound, MovesSound, moves-sound, new-live}
+use Rattle.wishes.specs.declared.Concern.{Concern}
+use Rattle.wishes.specs.declared.Concern.the-variants as S
+use Rattle.wishes.specs.Sound.{ConcernSound}
 use Rattle.timing.specs.Outcome.{quiet}
 use Rattle.timing.specs.OnSession.{Fits, fits-same, fits-freed}
-use Rattle.control.specs.Amends.{causeOn, peerTeid, peersOf, movedOn, modifyRead, modifyOn, freedOn, deleteRead, deleteOn, bearerBy, bearerOn, sessionOf}
+use Rattle.control.specs.Amends.{causeOn, peerTeid, peersOf, movedOn, modifyBy, modifyOn, freedOn, deleteOn, bearerOn, liveOn, noneOn, sessionOn}
 
 -- ---- the peers after a Modify are never 0
 peers-known : (b : Bounds) (s : Session) → recordOk b s ≡ true → isFree s ≡ false → (s .control ≡ 0 → ⊥) × (s .user ≡ 0 → ⊥)
@@ -42,42 +42,46 @@ peer-some P.Same old h o e = o e
 peer-some (P.New teid addr) old h o e = let k = new-live teid addr h in omega arith
 
 module _ (b : Bounds) (s : Session) (ok : recordOk b s ≡ true) where
-  moved-fits : (m : M.Modify) → isFree s ≡ false → ModifySound m → Fits b s (moved (peersOf m s) s)
+  moved-fits : (c u : Peer) → isFree s ≡ false → MovesSound c u → Fits b s (moved (peersOf c u s) s)
   unfolding peersOf
-  moved-fits m n q =
+  moved-fits c u n q =
       let k = peers-known b s ok n in
       record {
-        ok = ok-moved b s ok (peersOf m s) n (peer-some (m .control) (s .control) (q .control) (k .0)) (peer-some (m .user) (s .user) (q .user) (k .1));
-        lighter = lighter-moved s (peersOf m s);
+        ok = ok-moved b s ok (peersOf c u s) n (peer-some c (s .control) (q .control) (k .0)) (peer-some u (s .user) (q .user) (k .1));
+        lighter = lighter-moved s (peersOf c u s);
       }
 
-  modify-fits : (seq : ℕ) (rest : List ℕ) → Fits b s (modifyOn seq rest s .session)
-  unfolding modifyOn modifyRead movedOn causeOn
-  modify-fits seq rest = split (isFree s) (λ e. rw e (fits-same b s ok)) (λ n. rw n (by n (modifyOf (s .ebi) rest) refl))
+  modify-fits : (m : M.Modify) (seq : ℕ) → isFree s ≡ false → ModifySound m → Fits b s (modifyOn m seq s .session)
+  unfolding modifyOn modifyBy movedOn causeOn
+  modify-fits m seq n h = by (movesOf m (s .ebi)) refl
     where
-      by : isFree s ≡ false → (d : Decoded) → modifyOf (s .ebi) rest ≡ d → Fits b s (modifyRead d seq s .session)
-      by n (D.Refused w) q = fits-same b s ok
-      by n (D.Sound (Q.Modify m)) q = moved-fits m n (modify-sound (s .ebi) rest m q)
-      by n (D.Sound (Q.Create c)) q = fits-same b s ok
-      by n (D.Sound (Q.Delete d)) q = fits-same b s ok
+      by : (x : Moves) → movesOf m (s .ebi) ≡ x → Fits b s (modifyBy x (m .context) seq s .session)
+      by (N.Refused w) e = fits-same b s ok
+      by (N.To c u) e = moved-fits c u n (moves-sound m (s .ebi) c u h e)
 
-  delete-fits : (seq : ℕ) (rest : List ℕ) → Fits b s (deleteOn seq rest s .session)
-  unfolding deleteOn deleteRead freedOn causeOn
-  delete-fits seq rest = split (isFree s) (λ e. rw e (fits-same b s ok)) (λ n. rw n (by (deleteOf (s .ebi) rest)))
-    where
-      by : (d : Decoded) → Fits b s (deleteRead d seq s .session)
-      by (D.Refused w) = fits-same b s ok
-      by (D.Sound q) = fits-freed b s ok
+  delete-fits : (d : D.Delete) (seq : ℕ) → Fits b s (deleteOn d seq s .session)
+  unfolding deleteOn freedOn causeOn
+  delete-fits d seq = split (meansOf d (s .ebi)) (λ e. rw e (fits-freed b s ok)) (λ e. rw e (fits-same b s ok))
 
-  bearer-fits : (mine : Bool) (a : BearerReply) → Fits b s (bearerBy a mine s .session)
-  unfolding bearerBy quiet
-  bearer-fits mine B.Unreadable = fits-same b s ok
-  bearer-fits true (B.Cause cause) = fits-freed b s ok
-  bearer-fits false (B.Cause cause) = fits-same b s ok
+  bearer-fits : (x : BearerReply) (seq : ℕ) → Fits b s (bearerOn x seq s .session)
+  unfolding bearerOn quiet
+  bearer-fits B.Unreadable seq = fits-same b s ok
+  bearer-fits (B.Cause cause) seq = split (waitsFor seq s) (λ e. rw e (fits-freed b s ok)) (λ e. rw e (fits-same b s ok))
 
-  pub session-fits : (h : HeaderCursor) (rest : List ℕ) → Fits b s (sessionOf h rest s .session)
-  unfolding sessionOf bearerOn
-  session-fits h rest =
-      split (eqb (h .kind) 34) (λ x. rw x (modify-fits (h .sequence) rest))
-      (λ x. split (eqb (h .kind) 36) (λ y. rw (x, y) (delete-fits (h .sequence) rest))
-      (λ y. rw (x, y) (bearer-fits (waitsFor (h .sequence) s) (carried.bearerReplyOf rest))))
+  live-fits : (x : Concern) (seq : ℕ) → isFree s ≡ false → ConcernSound x → Fits b s (liveOn x seq s .session)
+  unfolding liveOn causeOn ConcernSound
+  live-fits (S.Modify m) seq n h = modify-fits m seq n h
+  live-fits (S.Delete d) seq n h = delete-fits d seq
+  live-fits (S.Refused type w) seq n h = fits-same b s ok
+  live-fits (S.Bearer x) seq n h = bearer-fits x seq
+
+  none-fits : (x : Concern) (seq : ℕ) → Fits b s (noneOn x seq s .session)
+  unfolding noneOn causeOn quiet
+  none-fits (S.Modify m) seq = fits-same b s ok
+  none-fits (S.Delete d) seq = fits-same b s ok
+  none-fits (S.Refused type w) seq = fits-same b s ok
+  none-fits (S.Bearer x) seq = fits-same b s ok
+
+  pub session-fits : (x : Concern) (seq : ℕ) → ConcernSound x → Fits b s (sessionOn x seq s .session)
+  unfolding sessionOn
+  session-fits x seq h = split (isFree s) (λ e. rw e (none-fits x seq)) (λ e. rw e (live-fits x seq e h))

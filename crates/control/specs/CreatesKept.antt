@@ -32,16 +32,13 @@ use Rattle.values.specs.Imsi.{imsiLimit}
 use Rattle.readers.specs.declared.Recovery.{Recovery}
 use Rattle.readers.specs.declared.Recovery.the-variants as R
 use Rattle.requests.specs.declared.Create as C
-use Rattle.requests.specs.declared.Decoded.{Decoded}
-use Rattle.requests.specs.declared.Decoded.the-variants as D
-use Rattle.requests.specs.declared.Request.the-variants as Q
-use Rattle.requests.specs.Create.{createOf, replyTo, CreateSound, create-sound}
+use Rattle.requests.specs.Create.{CreateSound}
 use Rattle.timing.specs.declared.Answer.{Answer}
 use Rattle.timing.specs.Outcome.{Outcome, outcome, noReply}
 use Rattle.control.specs.Amends.{causeTaken}
 use Rattle.control.specs.Echoes.{heardBy, heard-keeps}
 use Rattle.table.specs.Own.{hearing}
-use Rattle.control.specs.Creates.{openingOf, acceptedTaken, openedAt, shared, isRepeat, settledAt, heardCreate, createBy, createTaken}
+use Rattle.control.specs.Creates.{openingOf, acceptedTaken, openedAt, shared, isRepeat, settledAt, heardCreate, createTaken}
 
 -- ---- what is opened is as the record's rule will have it
 opening-ok : (p : Plan) (c : C.Create) (seq : ℕ) → accepted p ≡ true → CreateSound (parties p) c → seq ≤ lastCreated → openingOk (boundsOf p) (openingOf c seq) ≡ true
@@ -120,21 +117,14 @@ module _ (c : C.Create) (seq : ℕ) (small : seq ≤ lastCreated) (node₀ : Nod
 
 -- the plan stays what it was when a Recovery value is heard
 pub heard-plan : (r : Recovery) (node : Node) (t : List Session) → heardBy r node t .node .plan ≡ node .plan
-unfolding heardBy noReply hearing
+unfolding heardBy hearing
 heard-plan R.None node t = refl
 heard-plan (R.Value value) node t = refl
 
-pub create-keeps : (node : Node) (t : List Session) (seq : ℕ) (rest reply : List ℕ) → keepsRules node t ≡ true → seq ≤ lastCreated
-    → keepsRules (createTaken node t seq rest reply .answer .node) (createTaken node t seq rest reply .table) ≡ true
-unfolding createTaken createBy heardCreate causeTaken
-create-keeps node t seq rest reply e small = by (createOf (node .plan) rest) refl
-  where
-    by : (d : Decoded) → createOf (node .plan) rest ≡ d
-        → keepsRules (createBy d seq (replyTo rest) node t reply .answer .node) (createBy d seq (replyTo rest) node t reply .table) ≡ true
-    by (D.Refused w) q = e
-    by (D.Sound (Q.Create c)) q =
-        settled-keeps c seq small node t e reply (heardBy (c .recovery) node t .node) (heardBy (c .recovery) node t .table) (heard-keeps node t e (c .recovery))
-        (rw (heard-plan (c .recovery) node t) (create-sound (node .plan) rest c q))
-        (foundIn (hasId (c .imsi) (c .ebi)) (heardBy (c .recovery) node t .table)) refl
-    by (D.Sound (Q.Modify m)) q = e
-    by (D.Sound (Q.Delete d)) q = e
+pub create-keeps : (node : Node) (t : List Session) (c : C.Create) (seq : ℕ) (reply : List ℕ) → keepsRules node t ≡ true → CreateSound (parties (node .plan)) c → seq ≤ lastCreated
+    → keepsRules (createTaken c seq node t reply .answer .node) (createTaken c seq node t reply .table) ≡ true
+unfolding createTaken heardCreate
+create-keeps node t c seq reply e sound small =
+    settled-keeps c seq small node t e reply (heardBy (c .recovery) node t .node) (heardBy (c .recovery) node t .table) (heard-keeps node t e (c .recovery))
+    (rw (heard-plan (c .recovery) node t) sound)
+    (foundIn (hasId (c .imsi) (c .ebi)) (heardBy (c .recovery) node t .table)) refl

@@ -6,17 +6,17 @@ use mathlib.Core.Bool.{Bool, true, false}
 use mathlib.Core.List.{List, map}
 use mathlib.Core.Path.{_≡_, refl}
 use Rattle.session.specs.declared.Session.{Session}
+use Rattle.octets.specs.Number.{taken}
 use Rattle.octets.specs.Choice.{pick, split, impossible}
 use Rattle.session.specs.Request.{awaits}
 use Rattle.session.specs.Session.{freed}
 use Rattle.table.specs.declared.Node.{Node}
 use Rattle.table.specs.Rules.{keepsRules, Rules, rules-of, rules-to}
 use Rattle.table.specs.Own.{rested, restarted, hearing, keptAfter, rules-heard, rules-rested}
+use Rattle.messages.specs.Types.{echoReplyType}
 use Rattle.messages.specs.Messages.{echoOf}
 use Rattle.readers.specs.declared.Recovery.{Recovery}
 use Rattle.readers.specs.declared.Recovery.the-variants as R
-use Rattle.carried.specs.declared.EchoReply.{EchoReply}
-use Rattle.carried.specs.declared.EchoReply.the-variants as E
 use Rattle.timing.specs.Outcome.{State, Outcome, noReply, replied}
 use Rattle.timing.specs.Timing.{timed}
 
@@ -50,19 +50,18 @@ heard-same (R.Value value) node t e = rw e
 -- Echo Request (1): Recovery, and the answer
 unfoldable pub echoTaken : Node → List Session → ℕ → Recovery → List ℕ → Outcome
 echoTaken node t seq recovery reply =
-    replied 0 (heardBy recovery node t .node) (heardBy recovery node t .table) (echoOf 2 seq (node .plan .recovery)) reply
+    replied taken (heardBy recovery node t .node) (heardBy recovery node t .table) (echoOf echoReplyType seq (node .plan .recovery)) reply
 
--- the echo's answer (2): awaited and readable, it ends the echo; Recovery is looked at
+-- the echo's answer (2), awaited and readable, ends the echo; Recovery is looked at
 unfoldable pub echoEnded : State → State
 echoEnded s = record {
   node = timed (rested (s .node .plan .interval) (s .node .echo)) (s .node .next) (s .node);
   table = s .table;
 }
 
-unfoldable pub echoReplyTaken : Node → List Session → ℕ → EchoReply → List ℕ → Outcome
-echoReplyTaken node t seq E.Unreadable reply = noReply 9 node t reply
-echoReplyTaken node t seq (E.Carries recovery) reply =
-    pick (awaits seq (node .echo)) (noReply 0 (echoEnded (heardBy recovery node t) .node) (echoEnded (heardBy recovery node t) .table) reply) (noReply 9 node t reply)
+unfoldable pub echoReplyTaken : Node → List Session → Recovery → List ℕ → Outcome
+echoReplyTaken node t recovery reply =
+    noReply taken (echoEnded (heardBy recovery node t) .node) (echoEnded (heardBy recovery node t) .table) reply
 
 -- ---- each keeps the rules
 module _ (node : Node) (t : List Session) (e : keepsRules node t ≡ true) where
@@ -86,9 +85,7 @@ ended-keeps a e =
     rules-to (timed (rested (a .node .plan .interval) (a .node .echo)) (a .node .next) (a .node)) (a .table)
     (rules-rested (a .node .plan) (a .node .echo) (a .node .next) (a .table) (rules-of (a .node) (a .table) e))
 
-pub echo-reply-keeps : (node : Node) (t : List Session) (seq : ℕ) (r : EchoReply) (reply : List ℕ) → keepsRules node t ≡ true
-    → keepsRules (echoReplyTaken node t seq r reply .answer .node) (echoReplyTaken node t seq r reply .table) ≡ true
+pub echo-reply-keeps : (node : Node) (t : List Session) (r : Recovery) (reply : List ℕ) → keepsRules node t ≡ true
+    → keepsRules (echoReplyTaken node t r reply .answer .node) (echoReplyTaken node t r reply .table) ≡ true
 unfolding echoReplyTaken noReply
-echo-reply-keeps node t seq E.Unreadable reply e = e
-echo-reply-keeps node t seq (E.Carries recovery) reply e =
-    split (awaits seq (node .echo)) (λ q. rw q (ended-keeps (heardBy recovery node t) (heard-keeps node t e recovery))) (λ q. rw q e)
+echo-reply-keeps node t r reply e = ended-keeps (heardBy r node t) (heard-keeps node t e r)

@@ -1,4 +1,3 @@
-pub mod Kind
 pub mod Echoes
 pub mod Amends
 pub mod AmendsKept

@@ -1,24 +1,23 @@
 // Take control datagram on values: specs/ defines it, message by message and as a whole; here is what of it is worked out on a node, a record
 // or a decoded message alone, and the promise that the table's rules are kept. It is done in place, see crates wishes, single, openings
 // and inplace.
+use messages::MessageType;
 use plan::Plan;
 use readers::Recovery;
 use readers::Refusal;
 use requests::Context;
 use requests::Create;
-use requests::Modify;
 use requests::Peer;
 use session::Opening;
 use session::Peers;
-use session::Request;
 use session::Session;
 use table::Node;
 use tunnel::ControlTeid;
 use tunnel::UserTeid;
 ghost use mathlib.Core.Path.{_≡_};
-ghost use Rattle.session.specs.Request.{awaits};
 ghost use Rattle.control.specs.Echoes.{restartsBy, heardNode};
-ghost use Rattle.control.specs.Amends.{notLive, causeOctets, Wrote, peerTeid, peerAddr, peersOf, modifyOctets};
+ghost use Rattle.octets.specs.Overlay.{Wrote};
+ghost use Rattle.control.specs.Amends.{notLive, causeOctets, peerTeid, peerAddr, peersOf, modifyOctets};
 ghost use Rattle.control.specs.Creates.{openingOf, acceptedOctets, noRoom, isRepeat};
 ghost use Rattle.control.specs.Kept.{ControlKeeps};
 
@@ -42,23 +41,11 @@ pub fn heard(node: Node, recovery: Recovery) -> Node
     node.hearing(value)
 }
 
-// Whether a request awaits a number.
-pub fn awaits(r: Request, number: u32) -> bool
-    ensures { λ q. ⌜ q ≡ awaits number r ⌝ }
-{
-    (r.sends != 0) & (r.number == number)
-}
-
 // No such session: 64, no field named.
 pub fn not_live() -> Refusal
     ensures { λ r. ⌜ r ≡ notLive ⌝ }
 {
-    Refusal {
-        cause: 64,
-        kind: 0,
-        instance: 0,
-        named: false,
-    }
+    Refusal::bare(Refusal::NOT_LIVE)
 }
 
 // A reply with a cause, and the field at fault where one is named; the answer is its length.
@@ -66,11 +53,9 @@ pub fn write_cause(kind: u8, teid: u32, seq: u32, w: Refusal, reply: &mut [u8]) 
     ensures { λ r. ⌜ Wrote r (now (reply .exit)) (now (reply .entry)) (causeOctets kind teid seq w) ⌝ }
 {
     if w.named {
-        messages::fault_reply(reply, kind, teid, seq, w.cause, w.kind, w.instance);
-        return 22;
+        return messages::fault_reply(reply, kind, teid, seq, w.cause, w.kind, w.instance);
     }
-    messages::cause_reply(reply, kind, teid, seq, w.cause);
-    18
+    messages::cause_reply(reply, kind, teid, seq, w.cause)
 }
 
 fn peer_teid(p: Peer, old: u32) -> u32
@@ -92,11 +77,9 @@ fn peer_addr(p: Peer, old: u32) -> u32
 }
 
 // Where the peer is after a Modify.
-pub fn peers_of(m: Modify, s: Session) -> Peers
-    ensures { λ r. ⌜ r ≡ peersOf m s ⌝ }
+pub fn peers_of(c: Peer, u: Peer, s: Session) -> Peers
+    ensures { λ r. ⌜ r ≡ peersOf c u s ⌝ }
 {
-    let c = m.control;
-    let u = m.user;
     let control = peer_teid(c, s.control);
     let controladdr = peer_addr(c, s.controladdr);
     let user = peer_teid(u, s.user);
@@ -115,13 +98,15 @@ pub fn modify_reply(context: Context, teid: u32, seq: u32, ebi: u8, reply: &mut 
 {
     match context {
         Context::Absent => {
-            messages::cause_reply(reply, 35, teid, seq, 16);
-            18
+            messages::cause_reply(
+                reply,
+                MessageType::MODIFY_REPLY,
+                teid,
+                seq,
+                Refusal::ACCEPTED,
+            )
         }
-        Context::Present => {
-            messages::modify_bearer(reply, teid, seq, ebi);
-            33
-        }
+        Context::Present { ebi: _, user: _ } => { messages::modify_bearer(reply, teid, seq, ebi) }
     }
 }
 
@@ -161,19 +146,13 @@ pub fn write_accepted(plan: Plan, seq: u32, place: usize, s: Session, reply: &mu
             ebi: s.ebi,
             recovery: plan.recovery,
         },
-    );
-    78
+    )
 }
 
 pub fn no_room() -> Refusal
     ensures { λ r. ⌜ r ≡ noRoom ⌝ }
 {
-    Refusal {
-        cause: 73,
-        kind: 0,
-        instance: 0,
-        named: false,
-    }
+    Refusal::bare(Refusal::NO_ROOM)
 }
 
 // A repeat of the Create that made the session.

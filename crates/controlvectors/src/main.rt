@@ -1,6 +1,8 @@
 // Runs the decoder over control datagrams. Standard input has a datagram in hex on each line; a line that begins with # is a note and is
 // written as it is. Each datagram's line has the first refusal by its header; where that is 0, type, TEID and sequence number follow, and
 // what the fields give, as numbers, under the trial plan and for a session of EBI 5.
+use messages::MessageType;
+use octets::Number;
 use requestshost::Answer;
 use requestshost::Carried;
 ghost use Prim.Native.Nat.{_<_, _≤_};
@@ -30,15 +32,15 @@ fn show_carried(c: Carried) {
 }
 
 fn show_fields(kind: u32, s: &[u8]) {
-    if kind == 32 {
+    if kind == MessageType::CREATE as u32 {
         show_answer(requestshost::requests_create(s));
         return;
     }
-    if kind == 34 {
+    if kind == MessageType::MODIFY as u32 {
         show_answer(requestshost::requests_modify(s, session_ebi()));
         return;
     }
-    if kind == 36 {
+    if kind == MessageType::DELETE as u32 {
         show_answer(requestshost::requests_delete(s, session_ebi()));
         return;
     }
@@ -48,7 +50,7 @@ fn show_fields(kind: u32, s: &[u8]) {
 fn show(d: &[u8]) {
     let h = requestshost::requests_head(d);
     io::print_decimal(1, h.number as u64);
-    if h.number == 0 {
+    if h.number == Number::TAKEN as u32 {
         let head = [h.kind as u64, h.teid as u64, h.sequence as u64];
         show_row(&head);
         let at = h.fields as usize;

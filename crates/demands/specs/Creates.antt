@@ -37,11 +37,13 @@ use Rattle.requests.specs.declared.Decoded.the-variants as D
 use Rattle.requests.specs.declared.Request.the-variants as Q
 use Rattle.requests.specs.Create.{createOf, create-sound}
 use Rattle.timing.specs.Outcome.{State, Outcome, leastReply, noReply}
-use Rattle.control.specs.Kind.{kindBy}
+use Rattle.header.specs.Types.{kindBy}
+use Rattle.messages.specs.Types.{createReplyType}
+use Rattle.wishes.specs.Asked.{kindAsked, requestAsked, soundAsked, askedOf}
 use Rattle.control.specs.Echoes.{heardBy, heard-keeps}
 use Rattle.control.specs.Amends.{causeTaken}
-use Rattle.control.specs.Creates.{openingOf, acceptedTaken, noRoom, openedAt, shared, isRepeat, settledAt, heardCreate, createBy, createTaken}
-use Rattle.control.specs.Control.{kindTaken, gateTaken, controlTaken}
+use Rattle.control.specs.Creates.{openingOf, acceptedTaken, noRoom, openedAt, shared, isRepeat, settledAt, heardCreate, createTaken}
+use Rattle.control.specs.Control.{askedTaken, controlTaken}
 use Rattle.demands.specs.Run.{control, Kept}
 use Rattle.control.specs.CreatesKept.{heard-plan}
 use Rattle.demands.specs.Bounds.{u}
@@ -82,7 +84,7 @@ acceptedOf seq c s reply =
 
 -- and where it does not: cause 73, to the TEID of the sender
 unfoldable pub refusedOf : ℕ → C.Create → State → List ℕ → Outcome
-refusedOf seq c s reply = causeTaken 33 (c .control) seq noRoom (heard c s .node) (asked c s) reply
+refusedOf seq c s reply = causeTaken createReplyType (c .control) seq noRoom (heard c s .node) (asked c s) reply
 
 -- ---- a Create comes to the sharing rule
 none-found : (p : Session → Bool) (l : List Session) → foundIn p l ≡ F.Nothing → length l ≤ firstOf p l
@@ -115,7 +117,7 @@ module _ (p : Plan) (s : State) (kept : Kept s) (plan : s .node .plan ≡ p) (d 
   decoded = rw plan (n .sound .fields)
 
   comes-to : controlTaken (s .node) (s .table) d reply ≡ shared c seq (heard c s .node) (asked c s) (s .node) (s .table) reply
-  unfolding controlTaken gateTaken kindTaken kindBy createTaken createBy heardCreate leastReply asked
+  unfolding controlTaken askedTaken askedOf kindAsked kindBy requestAsked soundAsked createTaken heardCreate leastReply asked
   comes-to =
       rw (le-ltb (length reply) 128 room, kept, n .sound .header, n .sound .kind, decoded)
       (settled-shared c seq (heard c s .node) (heard c s .table) (s .node) (s .table) reply (foundIn (hasId (c .imsi) (c .ebi)) (heard c s .table)) refl (n .new))

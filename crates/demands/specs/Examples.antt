@@ -25,7 +25,7 @@ use Rattle.readers.specs.Readers.{octetAt, octetIn, ratIn, paaIn, ebiIn, imsiAt
 use Rattle.readers.specs.declared.Recovery.the-variants as R
 use Rattle.header.specs.Types.{bareTypes, tunnelTypes, notTaken, flagOf}
 use Rattle.header.specs.Header.{versionOf, flagP, flagT, kindOf, lengthOf, withTeid, teidOctets, teidOf, sequenceOf, sequenceBehind, headerSize, headerOf}
-use Rattle.header.specs.Gate.{gateOf, controlVersion, createType}
+use Rattle.header.specs.Gate.{gateOf, controlVersion}
 use Rattle.requests.specs.declared.Create as C
 use Rattle.requests.specs.Create.{createOf}
 use Rattle.demands.specs.Creates.{SoundCreate}
@@ -92,11 +92,11 @@ unfolding create headerOf sequenceOf sequenceBehind withTeid flagT numberOf numb
 create-sequence x = refl
 
 pub first-sound : SoundCreate oneParty first (holding firstImsi)
-unfolding create holding oneParty noPoint gateOf createOf overIn overWithin find firstIn named fieldsFrom overFrom fieldsOf overruns imsiSize halves front lastOf isDigit decimalFrom digitsFrom imsiOf tunnelSize wordAt tunnelGood tunnelOf octetAt octetIn ratIn paaIn ebiIn imsiAt imsiIn tunnelAt tunnelIn recoveryOf recoveryIn bareTypes tunnelTypes notTaken flagOf versionOf flagP flagT kindOf lengthOf withTeid teidOctets teidOf headerSize headerOf controlVersion createType numberOf numberFrom namedIn goesBy nameOf sameName sameOctets firstOf used every
+unfolding create holding oneParty noPoint gateOf createOf overIn overWithin find firstIn named fieldsFrom overFrom fieldsOf overruns imsiSize halves front lastOf isDigit decimalFrom digitsFrom imsiOf tunnelSize wordAt tunnelGood tunnelOf octetAt octetIn ratIn paaIn ebiIn imsiAt imsiIn tunnelAt tunnelIn recoveryOf recoveryIn bareTypes tunnelTypes notTaken flagOf versionOf flagP flagT kindOf lengthOf withTeid teidOctets teidOf headerSize headerOf controlVersion numberOf numberFrom namedIn goesBy nameOf sameName sameOctets firstOf used every
 first-sound = record { header = refl; kind = refl; fields = refl }
 
 pub second-sound : SoundCreate oneParty second (holding secondImsi)
-unfolding create holding oneParty noPoint gateOf createOf overIn overWithin find firstIn named fieldsFrom overFrom fieldsOf overruns imsiSize halves front lastOf isDigit decimalFrom digitsFrom imsiOf tunnelSize wordAt tunnelGood tunnelOf octetAt octetIn ratIn paaIn ebiIn imsiAt imsiIn tunnelAt tunnelIn recoveryOf recoveryIn bareTypes tunnelTypes notTaken flagOf versionOf flagP flagT kindOf lengthOf withTeid teidOctets teidOf headerSize headerOf controlVersion createType numberOf numberFrom namedIn goesBy nameOf sameName sameOctets firstOf used every
+unfolding create holding oneParty noPoint gateOf createOf overIn overWithin find firstIn named fieldsFrom overFrom fieldsOf overruns imsiSize halves front lastOf isDigit decimalFrom digitsFrom imsiOf tunnelSize wordAt tunnelGood tunnelOf octetAt octetIn ratIn paaIn ebiIn imsiAt imsiIn tunnelAt tunnelIn recoveryOf recoveryIn bareTypes tunnelTypes notTaken flagOf versionOf flagP flagT kindOf lengthOf withTeid teidOctets teidOf headerSize headerOf controlVersion numberOf numberFrom namedIn goesBy nameOf sameName sameOctets firstOf used every
 second-sound = record { header = refl; kind = refl; fields = refl }
 
 pub first-octets : every isOctet first ≡ true

@@ -30,14 +30,15 @@ use Rattle.table.specs.Room.{freePlace}
 use Rattle.carried.specs.Carried as carried
 use Rattle.header.specs.Types.{bareTypes, tunnelTypes, notTaken, flagOf}
 use Rattle.header.specs.Header.{versionOf, flagP, flagT, kindOf, lengthOf, withTeid, teidOf, sequenceOf, sequenceBare, headerSize, headerOf}
-use Rattle.header.specs.Gate.{gateOf, controlVersion, createType}
+use Rattle.header.specs.Gate.{gateOf, controlVersion}
 use Rattle.messages.specs.Messages as messages
 use Rattle.timing.specs.Outcome.{State, Outcome, leastReply, noReply}
 use Rattle.timing.specs.Timing.{freshState}
-use Rattle.control.specs.Kind.{kindBy}
+use Rattle.header.specs.Types.{kindBy}
+use Rattle.wishes.specs.Asked.{kindAsked, askedOf}
 use Rattle.control.specs.Echoes.{heardBy, echoTaken}
 use Rattle.control.specs.Creates.{openingOf, acceptedTaken}
-use Rattle.control.specs.Control.{kindTaken, gateTaken, controlTaken}
+use Rattle.control.specs.Control.{askedTaken, controlTaken}
 use Rattle.demands.specs.Run.{left, Event, control, tick, step, answered, run, start, reached, ofOctets, Run, Kept, start-keeps, step-keeps, reached-keeps}
 use Rattle.demands.specs.Stays.{start-plan, step-plan}
 use Rattle.demands.specs.Bounds.{at}
@@ -154,7 +155,7 @@ unfoldable pub NotOneReply : Type 0
 NotOneReply = (p : Plan) (es : List Event) → Run p es → (reply : List ℕ) → 128 ≤ length reply → (n : ℕ) → n < 256 → EchoAnswered (reached p es) n reply
 
 echo-gate : (n : ℕ) → gateOf (echo n) ≡ 0
-unfolding echo gateOf bareTypes tunnelTypes notTaken flagOf versionOf flagP flagT kindOf lengthOf withTeid teidOf headerSize controlVersion createType numberOf numberFrom
+unfolding echo gateOf bareTypes tunnelTypes notTaken flagOf versionOf flagP flagT kindOf lengthOf withTeid teidOf headerSize controlVersion numberOf numberFrom
 echo-gate n = refl
 
 echo-kind : (n : ℕ) → headerOf (echo n) .kind ≡ 1
@@ -178,7 +179,7 @@ echo-octet n recovery reply h room = overlay-at (messages.echoOf 2 n recovery) r
 
 echo-answer : (s : State) → Kept s → (reply : List ℕ) → 128 ≤ length reply → (n : ℕ)
     → controlTaken (s .node) (s .table) (echo n) reply ≡ echoTaken (s .node) (s .table) n (carried.echoOf (drop (headerOf (echo n) .fields) (echo n))) reply
-unfolding controlTaken gateTaken kindTaken kindBy leastReply
+unfolding controlTaken askedTaken askedOf kindAsked kindBy leastReply
 echo-answer s k reply room n = rw (le-ltb (length reply) 128 room, k, echo-gate n, echo-kind n, echo-sequence n)
 
 pub not-one-reply : NotOneReply

@@ -18,7 +18,6 @@ use Rattle.sharing.specs.Sharing.{admits}
 use Rattle.session.specs.declared.Session.{Session}
 use Rattle.session.specs.declared.Opening.{Opening}
 use Rattle.session.specs.declared.Peers.{Peers}
-use Rattle.session.specs.Request.{awaits}
 use Rattle.session.specs.Session.{isFree, hasId, waitsFor, blankAt, freed, opened, moved}
 use Rattle.table.specs.declared.Node.{Node}
 use Rattle.table.specs.declared.Found.{Found}
@@ -27,30 +26,27 @@ use Rattle.table.specs.Rules.{keepsRules, live}
 use Rattle.table.specs.Change.{at-changed, nobody, changedAt, length-changed}
 use Rattle.table.specs.Find.{placeFound, foundIn, ownerOf}
 use Rattle.table.specs.Own.{restarted, keptAfter}
-use Rattle.header.specs.declared.HeaderCursor.{HeaderCursor}
-use Rattle.header.specs.Header.{headerOf}
-use Rattle.header.specs.Gate.{gateOf}
 use Rattle.readers.specs.declared.Recovery.{Recovery}
 use Rattle.readers.specs.declared.Recovery.the-variants as R
-use Rattle.carried.specs.Carried as carried
-use Rattle.carried.specs.declared.EchoReply.{EchoReply}
-use Rattle.carried.specs.declared.EchoReply.the-variants as E
 use Rattle.carried.specs.declared.BearerReply.{BearerReply}
 use Rattle.carried.specs.declared.BearerReply.the-variants as B
 use Rattle.requests.specs.declared.Create as C
-use Rattle.requests.specs.declared.Decoded.{Decoded}
-use Rattle.requests.specs.declared.Decoded.the-variants as D
-use Rattle.requests.specs.declared.Request.the-variants as Q
-use Rattle.requests.specs.Create.{createOf, replyTo}
-use Rattle.changes.specs.Change.{modifyOf, deleteOf}
 use Rattle.timing.specs.Outcome.{quiet, onOwner, leastReply, noReply}
 use Rattle.timing.specs.OnSession.{on-at}
-use Rattle.control.specs.Kind.{Kind, kindBy}
-use Rattle.control.specs.Kind as K
+use Rattle.requests.specs.declared.Modify as M
+use Rattle.requests.specs.declared.Delete as D
+use Rattle.changes.specs.declared.Moves.{Moves}
+use Rattle.changes.specs.declared.Moves.the-variants as N
+use Rattle.changes.specs.Change.{movesOf, meansOf}
+use Rattle.wishes.specs.declared.Concern.{Concern}
+use Rattle.wishes.specs.declared.Concern.the-variants as S
+use Rattle.wishes.specs.declared.Asked.{Asked}
+use Rattle.wishes.specs.declared.Asked.the-variants as A
+use Rattle.wishes.specs.Asked.{askedOf}
 use Rattle.control.specs.Echoes.{heardBy, echoTaken, echoEnded, echoReplyTaken}
-use Rattle.control.specs.Amends.{peersOf, causeTaken, causeOn, movedOn, modifyRead, modifyOn, freedOn, deleteRead, deleteOn, bearerBy, bearerOn, sessionOf}
-use Rattle.control.specs.Creates.{openingOf, acceptedTaken, openedAt, shared, isRepeat, settledAt, heardCreate, createBy, createTaken}
-use Rattle.control.specs.Control.{kindTaken, gateTaken, controlTaken}
+use Rattle.control.specs.Amends.{peersOf, causeTaken, causeOn, movedOn, modifyBy, modifyOn, freedOn, deleteOn, bearerOn, liveOn, noneOn, sessionOn}
+use Rattle.control.specs.Creates.{openingOf, acceptedTaken, openedAt, shared, isRepeat, settledAt, heardCreate, createTaken}
+use Rattle.control.specs.Control.{askedTaken, controlTaken}
 
 -- the session that a place had in a use is gone
 unfoldable pub gone : ℕ → Session → Bool
@@ -98,37 +94,44 @@ unfolding gone opened isFree
 opened-after s x o e g = let f : eqb (nextUse (x .usage)) (s .usage) ≡ false = ne-eqb (nextUse (x .usage)) (s .usage) (λ z. next-other (x .usage) (z ∙ sym e)) in impossible (sym (rw f at g))
 
 -- what concerns one session leaves it the same, or frees it
-module _ (s : Session) where
-  modify-after : (seq : ℕ) (rest : List ℕ) → After s (modifyOn seq rest s .session)
-  unfolding modifyOn modifyRead movedOn causeOn
-  modify-after seq rest = split (isFree s) (λ e. rw e (left-same s .after)) (λ e. rw e (by (modifyOf (s .ebi) rest)))
+module _ (s : Session) (seq : ℕ) where
+  same : After s s
+  same = left-same s .after
+
+  modify-after : (m : M.Modify) → After s (modifyOn m seq s .session)
+  unfolding modifyOn modifyBy movedOn causeOn
+  modify-after m = by (movesOf m (s .ebi))
     where
-      by : (d : Decoded) → After s (modifyRead d seq s .session)
-      by (D.Refused w) = left-same s .after
-      by (D.Sound (Q.Modify m)) = moved-after s s (peersOf m s) (left-same s)
-      by (D.Sound (Q.Create c)) = left-same s .after
-      by (D.Sound (Q.Delete d)) = left-same s .after
+      by : (x : Moves) → After s (modifyBy x (m .context) seq s .session)
+      by (N.Refused w) = same
+      by (N.To c u) = moved-after s s (peersOf c u s) (left-same s)
 
-  delete-after : (seq : ℕ) (rest : List ℕ) → After s (deleteOn seq rest s .session)
-  unfolding deleteOn deleteRead freedOn causeOn
-  delete-after seq rest = split (isFree s) (λ e. rw e (left-same s .after)) (λ e. rw e (by (deleteOf (s .ebi) rest)))
-    where
-      by : (d : Decoded) → After s (deleteRead d seq s .session)
-      by (D.Refused w) = left-same s .after
-      by (D.Sound q) = freed-after s s
+  delete-after : (d : D.Delete) → After s (deleteOn d seq s .session)
+  unfolding deleteOn freedOn causeOn
+  delete-after d = split (meansOf d (s .ebi)) (λ e. rw e (freed-after s s)) (λ e. rw e same)
 
-  bearer-after : (b : BearerReply) (mine : Bool) → After s (bearerBy b mine s .session)
-  unfolding bearerBy quiet
-  bearer-after B.Unreadable mine = left-same s .after
-  bearer-after (B.Cause c) true = freed-after s s
-  bearer-after (B.Cause c) false = left-same s .after
+  bearer-after : (b : BearerReply) → After s (bearerOn b seq s .session)
+  unfolding bearerOn quiet
+  bearer-after B.Unreadable = same
+  bearer-after (B.Cause c) = split (waitsFor seq s) (λ e. rw e (freed-after s s)) (λ e. rw e same)
 
-  session-after : (x : HeaderCursor) (rest : List ℕ) → After s (sessionOf x rest s .session)
-  unfolding sessionOf bearerOn
-  session-after x rest =
-      split (eqb (x .kind) 34) (λ a. rw a (modify-after (x .sequence) rest))
-      (λ a. split (eqb (x .kind) 36) (λ b. rw (a, b) (delete-after (x .sequence) rest))
-      (λ b. rw (a, b) (bearer-after (carried.bearerReplyOf rest) (waitsFor (x .sequence) s))))
+  live-after : (x : Concern) → After s (liveOn x seq s .session)
+  unfolding liveOn causeOn
+  live-after (S.Modify m) = modify-after m
+  live-after (S.Delete d) = delete-after d
+  live-after (S.Refused type w) = same
+  live-after (S.Bearer b) = bearer-after b
+
+  none-after : (x : Concern) → After s (noneOn x seq s .session)
+  unfolding noneOn causeOn quiet
+  none-after (S.Modify m) = same
+  none-after (S.Delete d) = same
+  none-after (S.Refused type w) = same
+  none-after (S.Bearer b) = same
+
+  session-after : (x : Concern) → After s (sessionOn x seq s .session)
+  unfolding sessionOn
+  session-after x = split (isFree s) (λ e. rw e (none-after x)) (λ e. rw e (live-after x))
 
 module _ (i : ℕ) (l₀ : List Session) where
   abbrev s₀ : Session
@@ -156,10 +159,9 @@ module _ (i : ℕ) (node : Node) (t : List Session) (h : i < length t) where
   abbrev here : Session
   here = getD t i nobody
 
-  echo-reply-at : (seq : ℕ) (r : EchoReply) (reply : List ℕ) → After here (getD (echoReplyTaken node t seq r reply .table) i nobody)
+  echo-reply-at : (r : Recovery) (reply : List ℕ) → After here (getD (echoReplyTaken node t r reply .table) i nobody)
   unfolding echoReplyTaken echoEnded noReply
-  echo-reply-at seq E.Unreadable reply = left-same here .after
-  echo-reply-at seq (E.Carries r) reply = split (awaits seq (node .echo)) (λ a. rw a (heard-at i t r node t refl h .after)) (λ a. rw a (left-same here .after))
+  echo-reply-at r reply = heard-at i t r node t refl h .after
 
   -- Create: what Recovery and the replaced session left, and the place that is taken
   module _ (c : C.Create) (seq : ℕ) (reply : List ℕ) where
@@ -180,33 +182,25 @@ module _ (i : ℕ) (node : Node) (t : List Session) (h : i < length t) where
         split (isRepeat c seq (getD b j nobody)) (λ x. rw x (q .after))
         (λ x. rw x (shared-at n (changedAt freed j b) (let z = length-changed freed j b in omega arith) (freed-at i t b j k q)))
 
-  create-at : (seq : ℕ) (rest reply : List ℕ) → After here (getD (createTaken node t seq rest reply .table) i nobody)
-  unfolding createTaken createBy heardCreate causeTaken
-  create-at seq rest reply = by (createOf (node .plan) rest)
-    where
-      by : (d : Decoded) → After here (getD (createBy d seq (replyTo rest) node t reply .table) i nobody)
-      by (D.Refused w) = left-same here .after
-      by (D.Sound (Q.Create c)) =
-          settled-at c seq reply (heardBy (c .recovery) node t .node) (heardBy (c .recovery) node t .table) (let z = heard-length (c .recovery) node t in omega arith)
-          (heard-at i t (c .recovery) node t refl h) (foundIn (hasId (c .imsi) (c .ebi)) (heardBy (c .recovery) node t .table))
-      by (D.Sound (Q.Modify m)) = left-same here .after
-      by (D.Sound (Q.Delete d)) = left-same here .after
+  create-at : (c : C.Create) (seq : ℕ) (reply : List ℕ) → After here (getD (createTaken c seq node t reply .table) i nobody)
+  unfolding createTaken heardCreate
+  create-at c seq reply =
+      settled-at c seq reply (heardBy (c .recovery) node t .node) (heardBy (c .recovery) node t .table) (let z = heard-length (c .recovery) node t in omega arith)
+      (heard-at i t (c .recovery) node t refl h) (foundIn (hasId (c .imsi) (c .ebi)) (heardBy (c .recovery) node t .table))
 
-  kind-at : (k : Kind) (x : HeaderCursor) (rest reply : List ℕ) → After here (getD (kindTaken k x rest node t reply .table) i nobody)
-  unfolding kindTaken echoTaken onOwner noReply
-  kind-at K.Echo x rest reply = heard-at i t (carried.echoOf rest) node t refl h .after
-  kind-at K.EchoReply x rest reply = echo-reply-at (x .sequence) (carried.echoReplyOf rest) reply
-  kind-at K.Create x rest reply = create-at (x .sequence) rest reply
-  kind-at K.Named x rest reply =
-      on-at node t (placeFound (ownerOf controlOffset (x .teid) t) t) (sessionOf x rest) reply (After here) i h
-      (left-same here .after) (λ e. session-after here x rest)
-  kind-at K.Other x rest reply = left-same here .after
+  asked-at : (a : Asked) (reply : List ℕ) → After here (getD (askedTaken node t a reply .table) i nobody)
+  unfolding askedTaken echoTaken causeTaken onOwner noReply
+  asked-at (A.Silent number) reply = left-same here .after
+  asked-at A.Version reply = left-same here .after
+  asked-at (A.Echo r seq) reply = heard-at i t r node t refl h .after
+  asked-at (A.EchoReply r) reply = echo-reply-at r reply
+  asked-at (A.Create c seq) reply = create-at c seq reply
+  asked-at (A.Refused w to seq) reply = left-same here .after
+  asked-at (A.Session teid seq x) reply =
+      on-at node t (placeFound (ownerOf controlOffset (teid .0) t) t) (sessionOn x seq) reply (After here) i h (left-same here .after) (λ e. session-after here seq x)
 
   pub control-at : (d reply : List ℕ) → After here (getD (controlTaken node t d reply .table) i nobody)
-  unfolding controlTaken gateTaken noReply
+  unfolding controlTaken noReply
   control-at d reply =
       split (ltb (length reply) leastReply) (λ a. rw a (left-same here .after))
-      (λ a. split (keepsRules node t)
-      (λ e. split (eqb (gateOf d) 0) (λ b. rw (a, e, b) (kind-at (kindBy (headerOf d .kind)) (headerOf d) (drop (headerOf d .fields) d) reply))
-      (λ b. split (eqb (gateOf d) 5) (λ c. rw (a, e, b, c) (left-same here .after)) (λ c. rw (a, e, b, c) (left-same here .after))))
-      (λ e. rw (a, e) (left-same here .after)))
+      (λ a. split (keepsRules node t) (λ e. rw (a, e) (asked-at (askedOf node d) reply)) (λ e. rw (a, e) (left-same here .after)))

@@ -23,8 +23,9 @@ use Rattle.session.specs.Session.{hasId, isFree, opened}
 use Rattle.table.specs.Change.{nobody, changedAt, changed-here, length-changed}
 use Rattle.table.specs.Own.{hearing, keptAfter, restarted}
 use Rattle.table.specs.Room.{freePlace}
-use Rattle.control.specs.Kind.{kindBy}
-use Rattle.control.specs.Creates.{openingOf, acceptedTaken, isRepeat, settledAt, heardCreate, createBy, createTaken}
+use Rattle.header.specs.Types.{kindBy}
+use Rattle.wishes.specs.Asked.{kindAsked, requestAsked, soundAsked, askedOf}
+use Rattle.control.specs.Creates.{openingOf, acceptedTaken, isRepeat, settledAt, heardCreate, createTaken}
 use Rattle.timing.specs.Outcome.{State, Outcome, leastReply, noReply}
 use Rattle.session.specs.declared.Session.{Session}
 use Rattle.table.specs.declared.Node.{Node}
@@ -37,7 +38,7 @@ use Rattle.requests.specs.declared.Decoded.the-variants as D
 use Rattle.requests.specs.declared.Request.the-variants as Q
 use Rattle.requests.specs.Create.{createOf}
 use Rattle.control.specs.Echoes.{heardBy, heard-keeps}
-use Rattle.control.specs.Control.{kindTaken, gateTaken, controlTaken}
+use Rattle.control.specs.Control.{askedTaken, controlTaken}
 use Rattle.demands.specs.Run.{left, Event, control, step, reached, ofOctets, Run, Kept, step-keeps, reached-keeps}
 use Rattle.control.specs.CreatesKept.{heard-plan}
 use Rattle.demands.specs.Stays.{reached-plan}
@@ -76,7 +77,7 @@ module _ (p : Plan) (s : State) (kept : Kept s) (plan : s .node .plan ≡ p) (d 
 
   repeated : (i : ℕ) → i < 64 → repeats c (headerOf d .sequence) (getD (heard c s .table) i nobody) ≡ true
       → controlTaken (s .node) (s .table) d reply ≡ acceptedTaken (headerOf d .sequence) i (getD (heard c s .table) i nobody) (heard c s .node) (heard c s .table) reply
-  unfolding controlTaken gateTaken kindTaken kindBy createTaken createBy heardCreate settledAt leastReply repeats places
+  unfolding controlTaken askedTaken askedOf kindAsked kindBy requestAsked soundAsked createTaken heardCreate settledAt leastReply repeats places
   repeated i h e =
       let a = and-left (hasId (c .imsi) (c .ebi) (getD (heard c s .table) i nobody)) (isRepeat c (headerOf d .sequence) (getD (heard c s .table) i nobody)) e in
       let b = and-right (hasId (c .imsi) (c .ebi) (getD (heard c s .table) i nobody)) (isRepeat c (headerOf d .sequence) (getD (heard c s .table) i nobody)) e in

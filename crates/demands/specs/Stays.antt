@@ -11,7 +11,6 @@ use Rattle.octets.specs.Choice.{split}
 use Rattle.plan.specs.declared.Plan.{Plan}
 use Rattle.plan.specs.Plan.{accepted}
 use Rattle.sharing.specs.Sharing.{admits}
-use Rattle.session.specs.Request.{awaits}
 use Rattle.session.specs.Session.{isFree, hasId, freed}
 use Rattle.table.specs.declared.Node.{Node}
 use Rattle.table.specs.declared.Found.{Found}
@@ -20,32 +19,23 @@ use Rattle.table.specs.Rules.{keepsRules, live}
 use Rattle.table.specs.Change.{nobody, changedAt}
 use Rattle.table.specs.Find.{foundIn}
 use Rattle.table.specs.Own.{freshNode, duePlace}
-use Rattle.header.specs.declared.HeaderCursor.{HeaderCursor}
-use Rattle.header.specs.Header.{headerOf}
-use Rattle.header.specs.Gate.{gateOf}
-use Rattle.carried.specs.Carried as carried
-use Rattle.carried.specs.declared.EchoReply.{EchoReply}
-use Rattle.carried.specs.declared.EchoReply.the-variants as E
 use Rattle.requests.specs.declared.Create as C
-use Rattle.requests.specs.declared.Decoded.{Decoded}
-use Rattle.requests.specs.declared.Decoded.the-variants as D
-use Rattle.requests.specs.declared.Request.the-variants as Q
-use Rattle.requests.specs.Create.{createOf, replyTo}
 use Rattle.timing.specs.Outcome.{State, onSession, onOwner, leastReply, noReply}
 use Rattle.timing.specs.Timing.{freshAnswer, timed, freshState, tickOf, closeOf, echoSent, placeSent, dueSent, sendOf}
-use Rattle.control.specs.Kind.{Kind, kindBy}
-use Rattle.control.specs.Kind as K
 use Rattle.control.specs.Echoes.{heardBy, echoTaken, echoEnded, echoReplyTaken}
 use Rattle.control.specs.Amends.{causeTaken}
-use Rattle.control.specs.Creates.{acceptedTaken, openedAt, shared, isRepeat, settledAt, heardCreate, createBy, createTaken}
+use Rattle.control.specs.Creates.{acceptedTaken, openedAt, shared, isRepeat, settledAt, heardCreate, createTaken}
 use Rattle.control.specs.CreatesKept.{heard-plan}
-use Rattle.control.specs.Control.{kindTaken, gateTaken, controlTaken}
 use Rattle.demands.specs.Run.{left, Event, control, user, tick, send, close, line, step, run, line-step, start, reached}
+use Rattle.readers.specs.declared.Recovery.{Recovery}
+use Rattle.wishes.specs.declared.Asked.{Asked}
+use Rattle.wishes.specs.declared.Asked.the-variants as A
+use Rattle.wishes.specs.Asked.{askedOf}
+use Rattle.control.specs.Control.{askedTaken, controlTaken}
 
-echo-reply-plan : (node : Node) (t : List Session) (seq : ℕ) (r : EchoReply) (reply : List ℕ) → echoReplyTaken node t seq r reply .answer .node .plan ≡ node .plan
+echo-reply-plan : (node : Node) (t : List Session) (r : Recovery) (reply : List ℕ) → echoReplyTaken node t r reply .answer .node .plan ≡ node .plan
 unfolding echoReplyTaken echoEnded timed noReply
-echo-reply-plan node t seq E.Unreadable reply = refl
-echo-reply-plan node t seq (E.Carries r) reply = split (awaits seq (node .echo)) (λ a. rw a (heard-plan r node t)) (λ a. rw a)
+echo-reply-plan node t r reply = heard-plan r node t
 
 module _ (c : C.Create) (seq : ℕ) (node₀ : Node) (t₀ : List Session) (reply : List ℕ) where
   shared-plan : (node : Node) (t : List Session) → node .plan ≡ node₀ .plan → shared c seq node t node₀ t₀ reply .answer .node .plan ≡ node₀ .plan
@@ -62,35 +52,28 @@ module _ (c : C.Create) (seq : ℕ) (node₀ : Node) (t₀ : List Session) (repl
   settled-plan node t e (F.At i) =
       split (isRepeat c seq (getD t i nobody)) (λ x. rw x e) (λ x. rw x (shared-plan node (changedAt freed i t) e))
 
-create-plan : (node : Node) (t : List Session) (seq : ℕ) (rest reply : List ℕ) → createTaken node t seq rest reply .answer .node .plan ≡ node .plan
-unfolding createTaken createBy heardCreate causeTaken
-create-plan node t seq rest reply = by (createOf (node .plan) rest)
-  where
-    by : (d : Decoded) → createBy d seq (replyTo rest) node t reply .answer .node .plan ≡ node .plan
-    by (D.Refused w) = refl
-    by (D.Sound (Q.Create c)) =
-        settled-plan c seq node t reply (heardBy (c .recovery) node t .node) (heardBy (c .recovery) node t .table) (heard-plan (c .recovery) node t)
-        (foundIn (hasId (c .imsi) (c .ebi)) (heardBy (c .recovery) node t .table))
-    by (D.Sound (Q.Modify m)) = refl
-    by (D.Sound (Q.Delete d)) = refl
+create-plan : (node : Node) (t : List Session) (c : C.Create) (seq : ℕ) (reply : List ℕ) → createTaken c seq node t reply .answer .node .plan ≡ node .plan
+unfolding createTaken heardCreate
+create-plan node t c seq reply =
+    settled-plan c seq node t reply (heardBy (c .recovery) node t .node) (heardBy (c .recovery) node t .table) (heard-plan (c .recovery) node t)
+    (foundIn (hasId (c .imsi) (c .ebi)) (heardBy (c .recovery) node t .table))
 
 module _ (node : Node) (t : List Session) where
-  kind-plan : (k : Kind) (h : HeaderCursor) (rest reply : List ℕ) → kindTaken k h rest node t reply .answer .node .plan ≡ node .plan
-  unfolding kindTaken echoTaken onOwner onSession noReply
-  kind-plan K.Echo h rest reply = heard-plan (carried.echoOf rest) node t
-  kind-plan K.EchoReply h rest reply = echo-reply-plan node t (h .sequence) (carried.echoReplyOf rest) reply
-  kind-plan K.Create h rest reply = create-plan node t (h .sequence) rest reply
-  kind-plan K.Named h rest reply = refl
-  kind-plan K.Other h rest reply = refl
+  asked-plan : (a : Asked) (reply : List ℕ) → askedTaken node t a reply .answer .node .plan ≡ node .plan
+  unfolding askedTaken echoTaken causeTaken onOwner onSession noReply
+  asked-plan (A.Silent number) reply = refl
+  asked-plan A.Version reply = refl
+  asked-plan (A.Echo r seq) reply = heard-plan r node t
+  asked-plan (A.EchoReply r) reply = echo-reply-plan node t r reply
+  asked-plan (A.Create c seq) reply = create-plan node t c seq reply
+  asked-plan (A.Refused w to seq) reply = refl
+  asked-plan (A.Session teid seq x) reply = refl
 
   control-plan : (d reply : List ℕ) → controlTaken node t d reply .answer .node .plan ≡ node .plan
-  unfolding controlTaken gateTaken noReply
+  unfolding controlTaken noReply
   control-plan d reply =
       split (ltb (length reply) leastReply) (λ a. rw a)
-      (λ a. split (keepsRules node t)
-      (λ e. split (eqb (gateOf d) 0) (λ b. rw (a, e, b) (kind-plan (kindBy (headerOf d .kind)) (headerOf d) (drop (headerOf d .fields) d) reply))
-      (λ b. split (eqb (gateOf d) 5) (λ c. rw (a, e, b, c)) (λ c. rw (a, e, b, c))))
-      (λ e. rw (a, e)))
+      (λ a. split (keepsRules node t) (λ e. rw (a, e) (asked-plan (askedOf node d) reply)) (λ e. rw (a, e)))
 
   tick-plan : tickOf node t .answer .node .plan ≡ node .plan
   unfolding tickOf timed noReply

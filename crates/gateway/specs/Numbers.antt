@@ -26,10 +26,14 @@ use Rattle.table.specs.Change.{nobody, changedAt, rules-freed}
 use Rattle.table.specs.Find.{placeFound, foundIn, ownerOf}
 use Rattle.table.specs.Own.{duePlace}
 use Rattle.table.specs.Room.{freePlace, place-free}
+use Rattle.readers.specs.declared.Refusal.{Refusal}
 use Rattle.header.specs.declared.HeaderCursor.{HeaderCursor}
-use Rattle.header.specs.Types.{among, flagOf, notTaken}
+use Rattle.header.specs.declared.Kind.{Kind}
+use Rattle.header.specs.declared.Kind.the-variants as K
+use Rattle.header.specs.Types.{among, flagOf, notTaken, kindBy}
+use Rattle.messages.specs.Types.{createType, modifyReplyType, deleteReplyType}
 use Rattle.header.specs.Header.{headerOf, versionOf, flagP, flagT, kindOf, lengthOf, teidOf, headerSize}
-use Rattle.header.specs.Gate.{refuse, gateOf, controlVersion, createType}
+use Rattle.header.specs.Gate.{refuse, gateOf, controlVersion}
 use Rattle.carried.specs.Carried as carried
 use Rattle.carried.specs.declared.EchoReply.{EchoReply}
 use Rattle.carried.specs.declared.EchoReply.the-variants as E
@@ -37,20 +41,29 @@ use Rattle.carried.specs.declared.BearerReply.{BearerReply}
 use Rattle.carried.specs.declared.BearerReply.the-variants as B
 use Rattle.requests.specs.declared.Create as C
 use Rattle.requests.specs.declared.Decoded.{Decoded}
-use Rattle.requests.specs.declared.Decoded.the-variants as D
+use Rattle.requests.specs.declared.Decoded.the-variants as R
 use Rattle.requests.specs.declared.Request.the-variants as Q
-use Rattle.requests.specs.Create.{createOf, replyTo}
-use Rattle.changes.specs.Change.{modifyOf, deleteOf}
+use Rattle.requests.specs.Create.{createOf}
+use Rattle.requests.specs.declared.Modify as M
+use Rattle.requests.specs.declared.Delete as D
+use Rattle.requests.specs.declared.Context.{Context}
+use Rattle.requests.specs.declared.Context.the-variants as X
+use Rattle.values.specs.declared.Tunnel.{Tunnel}
+use Rattle.values.specs.declared.Tunnel.the-variants as T
+use Rattle.changes.specs.Change.{modifyOf, deleteOf, endMoves, contextMoves, movesOf, meansOf}
 use Rattle.requestclaims.specs.Answers.{numberFor, CreateAnswers, ModifyAnswers, DeleteAnswers, createNumbers, modifyNumbers, deleteNumbers, create-answers, modify-answers, delete-answers}
 use Rattle.timing.specs.Outcome.{Outcome, Done, quiet, onSession, onOwner, leastReply, noReply}
 use Rattle.timing.specs.Kept.{fresh-leaves}
 use Rattle.timing.specs.Timing.{freshAnswer, freshOf, tickOf, closeOn, closeOf, echoSent, placeSent, dueSent, sendOf}
-use Rattle.control.specs.Kind.{Kind, kindBy}
-use Rattle.control.specs.Kind as K
-use Rattle.control.specs.Echoes.{heardBy, echoTaken, echoEnded, echoReplyTaken, heard-keeps}
-use Rattle.control.specs.Amends.{causeTaken, causeOn, notLive, movedOn, modifyRead, modifyOn, freedOn, deleteRead, deleteOn, bearerBy, bearerOn, sessionOf}
-use Rattle.control.specs.Creates.{acceptedTaken, noRoom, openedAt, shared, isRepeat, settledAt, heardCreate, createBy, createTaken}
-use Rattle.control.specs.Control.{kindTaken, gateTaken, controlTaken}
+use Rattle.wishes.specs.declared.Concern.{Concern}
+use Rattle.wishes.specs.declared.Concern.the-variants as S
+use Rattle.wishes.specs.declared.Asked.{Asked}
+use Rattle.wishes.specs.declared.Asked.the-variants as A
+use Rattle.wishes.specs.Asked.{endAsked, sessionAsked, createRefused, changeRefused, soundAsked, requestAsked, kindAsked, askedOf}
+use Rattle.control.specs.Echoes.{heardBy, echoTaken, echoReplyTaken, heard-keeps}
+use Rattle.control.specs.Amends.{causeTaken, causeOn, notLive, movedOn, modifyBy, modifyOn, freedOn, deleteOn, bearerOn, liveOn, noneOn, sessionOn}
+use Rattle.control.specs.Creates.{acceptedTaken, noRoom, openedAt, shared, isRepeat, settledAt, heardCreate, createTaken}
+use Rattle.control.specs.Control.{askedTaken, controlTaken}
 use Rattle.placeline.specs.Line.{lineBy, lineOf}
 
 -- the numbers that each call may answer, of a table that keeps its rules
@@ -117,48 +130,58 @@ module _ (node : Node) (t : List Session) (e : keepsRules node t ≡ true) where
 abbrev Answered : Outcome → Type 0
 Answered o = among (o .answer .number) controlNumbers ≡ true
 
-echo-reply-number : (node : Node) (t : List Session) (seq : ℕ) (r : EchoReply) (reply : List ℕ) → Answered (echoReplyTaken node t seq r reply)
-unfolding echoReplyTaken noReply controlNumbers
-echo-reply-number node t seq E.Unreadable reply = refl
-echo-reply-number node t seq (E.Carries recovery) reply = split (awaits seq (node .echo)) (λ q. rw q) (λ q. rw q)
-
 -- what concerns one session
 abbrev AnsweredOn : Done → Type 0
 AnsweredOn d = among (d .number) controlNumbers ≡ true
 
-module _ (seq : ℕ) (rest : List ℕ) (s : Session) where
-  modify-number : AnsweredOn (modifyOn seq rest s)
-  unfolding modifyOn modifyRead movedOn causeOn notLive numberFor ModifyAnswers modifyNumbers controlNumbers every
-  modify-number = split (isFree s) (λ e. rw e) (λ e. rw e (by (modifyOf (s .ebi) rest) (modify-answers (s .ebi) rest .number)))
-    where
-      by : (d : Decoded) → among (numberFor d) modifyNumbers ≡ true → AnsweredOn (modifyRead d seq s)
-      by (D.Refused w) h = among-more (w .cause) modifyNumbers controlNumbers refl h
-      by (D.Sound (Q.Modify m)) h = refl
-      by (D.Sound (Q.Create c)) h = refl
-      by (D.Sound (Q.Delete d)) h = refl
+-- a cause that was read is one of the list
+unfoldable ConcernKnown : Concern → Type 0
+ConcernKnown (S.Modify m) = Unit {0}
+ConcernKnown (S.Delete d) = Unit {0}
+ConcernKnown (S.Refused type w) = among (w .cause) controlNumbers ≡ true
+ConcernKnown (S.Bearer b) = Unit {0}
 
-  delete-number : AnsweredOn (deleteOn seq rest s)
-  unfolding deleteOn deleteRead freedOn causeOn notLive numberFor DeleteAnswers deleteNumbers controlNumbers every
-  delete-number = split (isFree s) (λ e. rw e) (λ e. rw e (by (deleteOf (s .ebi) rest) (delete-answers (s .ebi) rest .number)))
+module _ (seq : ℕ) (s : Session) where
+  modify-number : (m : M.Modify) → AnsweredOn (modifyOn m seq s)
+  unfolding modifyOn modifyBy movedOn causeOn movesOf contextMoves endMoves controlNumbers
+  modify-number m = by (m .context) (m .context)
     where
-      by : (d : Decoded) → among (numberFor d) deleteNumbers ≡ true → AnsweredOn (deleteRead d seq s)
-      by (D.Refused w) h = among-more (w .cause) deleteNumbers controlNumbers refl h
-      by (D.Sound q) h = refl
+      end : (x : Context) (f : Tunnel) → AnsweredOn (modifyBy (endMoves (m .control) f) x seq s)
+      end x (T.Value teid address) = refl
+      end x T.Missing = refl
+      end x T.Short = refl
+      end x T.Wrong = refl
 
-  bearer-number : AnsweredOn (bearerOn seq rest s)
-  unfolding bearerOn bearerBy quiet controlNumbers
-  bearer-number = by (carried.bearerReplyOf rest) (waitsFor seq s)
-    where
-      by : (b : BearerReply) (mine : Bool) → AnsweredOn (bearerBy b mine s)
-      by B.Unreadable mine = refl
-      by (B.Cause cause) true = refl
-      by (B.Cause cause) false = refl
+      by : (x y : Context) → AnsweredOn (modifyBy (contextMoves (m .control) y (s .ebi)) x seq s)
+      by x X.Absent = refl
+      by x (X.Present ebi f) = split (eqb ebi (s .ebi)) (λ e. rw e (end x f)) (λ e. rw e)
 
-session-number : (h : HeaderCursor) (rest : List ℕ) (s : Session) → AnsweredOn (sessionOf h rest s)
-unfolding sessionOf
-session-number h rest s =
-    split (eqb (h .kind) 34) (λ a. rw a (modify-number (h .sequence) rest s))
-    (λ a. split (eqb (h .kind) 36) (λ b. rw (a, b) (delete-number (h .sequence) rest s)) (λ b. rw (a, b) (bearer-number (h .sequence) rest s)))
+  delete-number : (d : D.Delete) → AnsweredOn (deleteOn d seq s)
+  unfolding deleteOn freedOn causeOn notLive controlNumbers
+  delete-number d = split (meansOf d (s .ebi)) (λ e. rw e) (λ e. rw e)
+
+  bearer-number : (b : BearerReply) → AnsweredOn (bearerOn b seq s)
+  unfolding bearerOn quiet controlNumbers
+  bearer-number B.Unreadable = refl
+  bearer-number (B.Cause cause) = split (waitsFor seq s) (λ e. rw e) (λ e. rw e)
+
+  live-number : (x : Concern) → ConcernKnown x → AnsweredOn (liveOn x seq s)
+  unfolding liveOn causeOn ConcernKnown
+  live-number (S.Modify m) h = modify-number m
+  live-number (S.Delete d) h = delete-number d
+  live-number (S.Refused type w) h = h
+  live-number (S.Bearer b) h = bearer-number b
+
+  none-number : (x : Concern) → AnsweredOn (noneOn x seq s)
+  unfolding noneOn causeOn notLive quiet controlNumbers
+  none-number (S.Modify m) = refl
+  none-number (S.Delete d) = refl
+  none-number (S.Refused type w) = refl
+  none-number (S.Bearer b) = refl
+
+  session-number : (x : Concern) → ConcernKnown x → AnsweredOn (sessionOn x seq s)
+  unfolding sessionOn
+  session-number x h = split (isFree s) (λ e. rw e (none-number x)) (λ e. rw e (live-number x h))
 
 -- whoever the sharing rule admits finds a place: this is where 11 falls away
 free-found : (node : Node) (l : List Session) (a : ℕ) → keepsRules node l ≡ true → admits (node .plan) (live l) a ≡ true → foundIn isFree l ≡ F.At (freePlace l)
@@ -180,17 +203,11 @@ module _ (c : C.Create) (seq : ℕ) (node₀ : Node) (t₀ : List Session) (repl
       (λ x. rw x (shared-number node (changedAt freed i t)
       (rules-to node (changedAt freed i t) (rules-freed (node .plan) (node .echo) (node .next) t (rules-of node t e) i))))
 
-create-number : (node : Node) (t : List Session) (seq : ℕ) (rest reply : List ℕ) → keepsRules node t ≡ true → Answered (createTaken node t seq rest reply)
-unfolding createTaken createBy heardCreate causeTaken notLive numberFor CreateAnswers createNumbers controlNumbers every
-create-number node t seq rest reply e = by (createOf (node .plan) rest) (create-answers (node .plan) rest .number)
-  where
-    by : (d : Decoded) → among (numberFor d) createNumbers ≡ true → Answered (createBy d seq (replyTo rest) node t reply)
-    by (D.Refused w) h = among-more (w .cause) createNumbers controlNumbers refl h
-    by (D.Sound (Q.Create c)) h =
-        settled-number c seq node t reply (heardBy (c .recovery) node t .node) (heardBy (c .recovery) node t .table) (heard-keeps node t e (c .recovery))
-        (foundIn (hasId (c .imsi) (c .ebi)) (heardBy (c .recovery) node t .table))
-    by (D.Sound (Q.Modify m)) h = refl
-    by (D.Sound (Q.Delete d)) h = refl
+create-number : (node : Node) (t : List Session) (c : C.Create) (seq : ℕ) (reply : List ℕ) → keepsRules node t ≡ true → Answered (createTaken c seq node t reply)
+unfolding createTaken heardCreate
+create-number node t c seq reply e =
+    settled-number c seq node t reply (heardBy (c .recovery) node t .node) (heardBy (c .recovery) node t .table) (heard-keeps node t e (c .recovery))
+    (foundIn (hasId (c .imsi) (c .ebi)) (heardBy (c .recovery) node t .table))
 
 -- the header's refusals
 refuse-among : (n : ℕ) (t : Bool) (rest : ℕ) (l : List ℕ) → among n l ≡ true → among rest l ≡ true → among (refuse n t rest) l ≡ true
@@ -216,21 +233,63 @@ gate-number d =
     (not (eqb (flagOf (kindOf d)) (flagT d))) (not (eqb (lengthOf d + 4) (length d))) (ltb (length d) (headerSize d))
     (eqb (kindOf d) createType && ltb 0 (teidOf d))
 
+-- ---- what is asked for: the numbers and causes that were read are of the list
+unfoldable AskedKnown : Asked → Type 0
+AskedKnown (A.Silent number) = among number controlNumbers ≡ true
+AskedKnown A.Version = Unit {0}
+AskedKnown (A.Echo recovery seq) = Unit {0}
+AskedKnown (A.EchoReply recovery) = Unit {0}
+AskedKnown (A.Create c seq) = Unit {0}
+AskedKnown (A.Refused w to seq) = among (w .cause) controlNumbers ≡ true
+AskedKnown (A.Session teid seq x) = ConcernKnown x
+
+module _ (node : Node) (h : HeaderCursor) (rest : List ℕ) where
+  request-known : (d : Decoded) (refused : Refusal → Asked) → ((w : Refusal) → among (w .cause) controlNumbers ≡ true → AskedKnown (refused w))
+      → among (numberFor d) controlNumbers ≡ true → AskedKnown (requestAsked h d refused)
+  unfolding AskedKnown ConcernKnown requestAsked soundAsked sessionAsked numberFor
+  request-known (R.Refused w) refused k e = k w e
+  request-known (R.Sound (Q.Create c)) refused k e = tt
+  request-known (R.Sound (Q.Modify m)) refused k e = tt
+  request-known (R.Sound (Q.Delete d)) refused k e = tt
+
+  end-known : (r : EchoReply) → AskedKnown (endAsked r (h .sequence) node)
+  unfolding AskedKnown endAsked controlNumbers
+  end-known E.Unreadable = refl
+  end-known (E.Carries recovery) = split (awaits (h .sequence) (node .echo)) (λ q. rw q tt) (λ q. rw q)
+
+  kind-known : (k : Kind) → AskedKnown (kindAsked k h rest node)
+  unfolding AskedKnown ConcernKnown kindAsked createRefused changeRefused sessionAsked CreateAnswers ModifyAnswers DeleteAnswers createNumbers modifyNumbers deleteNumbers controlNumbers every
+  kind-known K.Echo = tt
+  kind-known K.EchoReply = end-known (carried.echoReplyOf rest)
+  kind-known K.Create =
+      let d = createOf (node .plan) rest in request-known d (createRefused h rest) (λ w k. k) (among-more (numberFor d) createNumbers controlNumbers refl (create-answers (node .plan) rest .number))
+  kind-known K.Modify =
+      let d = modifyOf rest in request-known d (changeRefused h modifyReplyType) (λ w k. k) (among-more (numberFor d) modifyNumbers controlNumbers refl (modify-answers rest .number))
+  kind-known K.Delete =
+      let d = deleteOf rest in request-known d (changeRefused h deleteReplyType) (λ w k. k) (among-more (numberFor d) deleteNumbers controlNumbers refl (delete-answers rest .number))
+  kind-known K.BearerReply = tt
+  kind-known K.Other = refl
+
+asked-known : (node : Node) (d : List ℕ) → AskedKnown (askedOf node d)
+unfolding AskedKnown askedOf
+asked-known node d =
+    split (eqb (gateOf d) 0) (λ b. rw b (kind-known node (headerOf d) (drop (headerOf d .fields) d) (kindBy (headerOf d .kind))))
+    (λ b. split (eqb (gateOf d) 5) (λ c. rw (b, c) tt) (λ c. rw (b, c) (gate-number d)))
+
 module _ (node : Node) (t : List Session) (e : keepsRules node t ≡ true) (reply : List ℕ) where
-  kind-number : (k : Kind) (h : HeaderCursor) (rest : List ℕ) → Answered (kindTaken k h rest node t reply)
-  unfolding kindTaken echoTaken onOwner onSession noReply controlNumbers
-  kind-number K.Echo h rest = refl
-  kind-number K.EchoReply h rest = echo-reply-number node t (h .sequence) (carried.echoReplyOf rest) reply
-  kind-number K.Create h rest = create-number node t (h .sequence) rest reply e
-  kind-number K.Named h rest = session-number h rest (getD t (placeFound (ownerOf controlOffset (h .teid) t) t) nobody)
-  kind-number K.Other h rest = refl
+  asked-number : (a : Asked) → AskedKnown a → Answered (askedTaken node t a reply)
+  unfolding askedTaken AskedKnown echoTaken echoReplyTaken causeTaken onOwner onSession noReply controlNumbers
+  asked-number (A.Silent number) h = h
+  asked-number A.Version h = refl
+  asked-number (A.Echo recovery seq) h = refl
+  asked-number (A.EchoReply recovery) h = refl
+  asked-number (A.Create c seq) h = create-number node t c seq reply e
+  asked-number (A.Refused w to seq) h = h
+  asked-number (A.Session teid seq x) h = session-number seq (getD t (placeFound (ownerOf controlOffset (teid .0) t) t) nobody) x h
 
   control-number : (d : List ℕ) → Answered (controlTaken node t d reply)
-  unfolding controlTaken gateTaken noReply controlNumbers
-  control-number d =
-      split (ltb (length reply) leastReply) (λ a. rw a)
-      (λ a. split (eqb (gateOf d) 0) (λ b. rw (a, e, b) (kind-number (kindBy (headerOf d .kind)) (headerOf d) (drop (headerOf d .fields) d)))
-      (λ b. split (eqb (gateOf d) 5) (λ c. rw (a, e, b, c)) (λ c. rw (a, e, b, c) (gate-number d))))
+  unfolding controlTaken noReply controlNumbers
+  control-number d = split (ltb (length reply) leastReply) (λ a. rw a) (λ a. rw (a, e) (asked-number (askedOf node d) (asked-known node d)))
 
 -- ---- the claims
 unfoldable pub FreshNumbers : Type 0

@@ -15,7 +15,7 @@ use Rattle.session.specs.declared.Request.{Request}
 use Rattle.session.specs.declared.Session.{Session}
 use Rattle.session.specs.declared.Bounds.{Bounds}
 use Rattle.session.specs.Request.{idle, lastNumber, requestOk}
-use Rattle.session.specs.Session.{isFree, isClosing, isDue, blank, recordOk, heldOk, phaseOk, readOk, imsis, blankAt}
+use Rattle.session.specs.Session.{freeOk, isFree, isClosing, isDue, blank, recordOk, heldOk, phaseOk, readOk, imsis, blankAt}
 use Rattle.session.specs.Keep.{live-of}
 use Rattle.session.specs.Phase.{live-phase, other-phase}
 use Rattle.session.specs.Wide.{or-none}
@@ -33,15 +33,15 @@ unfoldable pub digestOf : Bounds → Session → ℕ
 digestOf b s = pick {A = ℕ} (recordOk b s) (pick {A = ℕ} (isFree s) 0 (keyOf s % 288230376151711744 + flagsOf s)) spoilt
 
 -- the two ways to it, by whether the record is free
-unfoldable pub freeDigest : Session → ℕ
-freeDigest s = pick {A = ℕ} (leb (s .usage) lastUse && blank s) 0 spoilt
+unfoldable pub freeDigest : Bool → ℕ
+freeDigest ok = pick {A = ℕ} ok 0 spoilt
 
 unfoldable pub takenDigest : Bounds → Session → ℕ
 takenDigest b s = pick {A = ℕ} (leb (s .usage) lastUse && (heldOk b s && phaseOk b s)) (keyOf s % 288230376151711744 + flagsOf s) spoilt
 
-pub digest-free : (b : Bounds) (s : Session) → isFree s ≡ true → freeDigest s ≡ digestOf b s
-unfolding digestOf freeDigest recordOk
-digest-free b s n = rw n
+pub digest-free : (b : Bounds) (s : Session) (ok : Bool) → ok ≡ freeOk s → isFree s ≡ true → freeDigest ok ≡ digestOf b s
+unfolding digestOf freeDigest freeOk recordOk
+digest-free b s ok e n = rw (e, n)
 
 pub digest-taken : (b : Bounds) (s : Session) → isFree s ≡ false → takenDigest b s ≡ digestOf b s
 unfolding digestOf takenDigest recordOk

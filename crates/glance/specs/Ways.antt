@@ -1,4 +1,4 @@
--- The digest of a record that is taken, and that of a free one, by the tests that make it, in their order.
+-- The digest of a record that is taken, by the tests that make it, in their order.
 -- Assumes nothing.
 use Prim.Native.Nat.{ℕ, _+_, _*_, _/_, _%_, _<_, _≤_}
 use mathlib.Core.Bool.{Bool, true, false, not, _&&_}
@@ -17,7 +17,7 @@ use Rattle.session.specs.Session.{isFree, isClosing, isDue, blank, heldOk, phas
 use Rattle.session.specs.Phase.{live-phase, other-phase}
 use Rattle.session.specs.Wide.{or-none, both-ways, blank-bits}
 use Rattle.rules.specs.Survey.{keyOf, silent}
-use Rattle.glance.specs.Digest.{flagsOf, spoilt, freeDigest, takenDigest, restsOk, rests-bits}
+use Rattle.glance.specs.Digest.{flagsOf, spoilt, takenDigest, restsOk, rests-bits}
 
 -- ---- a record that is taken
 -- what a session holds has a key of 58 bits
@@ -159,65 +159,6 @@ module _ (b : Bounds) (s : Session) (held : Bool) (is : held ≡ heldOk b s) whe
         pub taken-waits : (s .own .timer ≡ 0 → ⊥) → (quiet + 1152921504606846976) % 18446744073709551616 ≡ takenDigest b s
         unfolding flagsOf
         taken-waits h = let k = small in rw (phased, phase-fit, not-false fit fits, loud, due-later s closing h) (omega arith)
-
--- ---- a free record: the use and the control TEID as one number, the other fields by their bits
-first-fits : (u c : ℕ) → u < 4294967296 → leb (u + c * 4294967296) 16777215 ≡ (leb u 16777215 && eqb c 0)
-first-fits u c h = both-ways (leb (u + c * 4294967296) 16777215) (leb u 16777215 && eqb c 0) there back
-  where
-    there : leb (u + c * 4294967296) 16777215 ≡ true → (leb u 16777215 && eqb c 0) ≡ true
-    there e = let l = leb-true (u + c * 4294967296) 16777215 e in rw (le-leb u 16777215 (omega arith), eq-eqb c 0 (omega arith))
-
-    back : (leb u 16777215 && eqb c 0) ≡ true → leb (u + c * 4294967296) 16777215 ≡ true
-    back e =
-        let l = leb-true u 16777215 (and-left (leb u 16777215) (eqb c 0) e) in
-        let z = eqb-true c 0 (and-right (leb u 16777215) (eqb c 0) e) in
-        le-leb (u + c * 4294967296) 16777215 (omega arith)
-
--- all fields but the use, the control TEID and the state, by their bits
-abbrev pub restBits : Session → ℕ
-restBits s =
-    bitOr (bitOr (s .imsi) (bitOr (bitOr (bitOr (bitOr (s .controladdr) (s .user)) (s .useraddr)) (s .created)) (s .own .number)))
-    (bitOr (bitOr (bitOr (s .point) (s .ebi)) (s .own .timer)) (s .own .sends))
-
-control-first : (c i a u x r n o : Bool) → (c && (i && (a && u && x && r && n) && o)) ≡ (i && (c && a && u && x && r && n) && o)
-control-first true i a u x r n o = refl
-control-first false true a u x r n o = refl
-control-first false false a u x r n o = refl
-
-rest-bits : (s : Session) → (eqb (s .control) 0 && eqb (restBits s) 0) ≡ blank s
-rest-bits s = simp or-none (control-first (eqb (s .control) 0) (eqb (s .imsi) 0) (eqb (s .controladdr) 0) (eqb (s .user) 0) (eqb (s .useraddr) 0) (eqb (s .created) 0) (eqb (s .own .number) 0)
-    (eqb (s .point) 0 && eqb (s .ebi) 0 && eqb (s .own .timer) 0 && eqb (s .own .sends) 0))
-    ∙ (simp or-none at (blank-bits s))
-
-pub words-fit : (s : Session) → s .controladdr < 4294967296 → s .user < 4294967296 → s .useraddr < 4294967296 → s .created < 4294967296 → s .own .number < 4294967296
-    → bitOr (bitOr (bitOr (bitOr (s .controladdr) (s .user)) (s .useraddr)) (s .created)) (s .own .number) < 18446744073709551616
-words-fit s a b c d e =
-    let w = or-lt 32 (bitOr (bitOr (bitOr (s .controladdr) (s .user)) (s .useraddr)) (s .created)) (s .own .number)
-    (or-lt 32 (bitOr (bitOr (s .controladdr) (s .user)) (s .useraddr)) (s .created)
-    (or-lt 32 (bitOr (s .controladdr) (s .user)) (s .useraddr) (or-lt 32 (s .controladdr) (s .user) a b) c) d) e in
-    omega arith
-
--- the three ways of the two tests
-module _ (s : Session) (word : s .usage < 4294967296) where
-  vacant-is : (leb (s .usage) lastUse && blank s) ≡ (leb (s .usage + s .control * 4294967296) 16777215 && eqb (restBits s) 0)
-  unfolding lastUse
-  vacant-is = rw (← rest-bits s, first-fits (s .usage) (s .control) word) (three (leb (s .usage) 16777215) (eqb (s .control) 0) (eqb (restBits s) 0))
-    where
-      three : (a b c : Bool) → (a && (b && c)) ≡ (a && b && c)
-      three true b c = refl
-      three false b c = refl
-
-  pub free-blank : s .usage + s .control * 4294967296 ≤ 16777215 → restBits s ≡ 0 → 0 ≡ freeDigest s
-  unfolding freeDigest
-  free-blank l e = rw (vacant-is, le-leb (s .usage + s .control * 4294967296) 16777215 l, eq-eqb (restBits s) 0 e)
-
-  pub free-filled : (restBits s ≡ 0 → ⊥) → spoilt ≡ freeDigest s
-  unfolding freeDigest
-  free-filled e = rw (vacant-is, ne-eqb (restBits s) 0 e, and-no (leb (s .usage + s .control * 4294967296) 16777215))
-
-  pub free-used : 16777215 < s .usage + s .control * 4294967296 → spoilt ≡ freeDigest s
-  unfolding freeDigest
-  free-used l = rw (vacant-is, lt-leb (s .usage + s .control * 4294967296) 16777215 l)
 
 -- what is under way, as one number
 pub rests-yes : (r : Request) → bitOr (bitOr (r .number / 8388608 * 36028797018963968) (r .sends * 256)) (r .timer) ≡ 0 → restsOk r ≡ true

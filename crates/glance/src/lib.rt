@@ -62,19 +62,12 @@ pub fn bounds_of(node: Node) -> Bounds
     rules::bounds(plan)
 }
 
-// The digest of a free record: zero but for its use. The use and the control TEID are tested as one number, then the others by their
-// bits.
-pub fn free_digest(s: Session) -> u64
-    ensures { λ r. ⌜ r ≡ freeDigest s ⌝ }
+// The digest of a free record, by whether it is as a free one has to be.
+pub fn free_digest(ok: bool) -> u64
+    ensures { λ r. ⌜ r ≡ freeDigest ok ⌝ }
 {
-    let own = s.own;
-    let first = s.usage as u64 + s.control as u64 * 4294967296;
-    let words = s.controladdr | s.user | s.useraddr | s.created | own.number;
-    let octets = s.point | s.ebi | own.timer | own.sends;
-    if first <= tunnel::Holder::LAST_USE as u64 {
-        if s.imsi | words as u64 | octets as u64 == 0 {
-            return 0;
-        }
+    if ok {
+        return 0;
     }
     Glance::SPOILT
 }

@@ -9,6 +9,7 @@ use native.Mathlib.Omega.{arith}
 use lib.ListN.{length, drop, getD, length-drop}
 use lib.Dec.{eqb, leb, ltb}
 use borrow.Author.Tests.{eq-eqb, ne-eqb, le-leb, lt-leb, ltb-false}
+use Rattle.octets.specs.Number.{taken, partCut, mustUnderstand}
 use Rattle.octets.specs.Choice.{pick, split, tests, impossible}
 
 -- the number and how many octets lie before the payload: all of them where there is a refusal
@@ -44,13 +45,13 @@ beyond n w = record { number = w .number; size = n + w .size }
 
 -- the type is judged before the length
 abbrev pub byType : ℕ → List ℕ → Walk → Walk
-byType type l w = pick (eqb type 0) (record { number = 0; size = 0 }) (pick (leb firstMust type) (refused 14 l) w)
+byType type l w = pick (eqb type 0) (record { number = taken; size = 0 }) (pick (leb firstMust type) (refused mustUnderstand l) w)
 
 -- at most n headers
 unfoldable pub walkOf : ℕ → List ℕ → ℕ → Walk
-walkOf zero l type = byType type l (refused 13 l)
+walkOf zero l type = byType type l (refused partCut l)
 walkOf (suc n) l type =
-    byType type l (pick (unfit l) (refused 13 l) (beyond (extent l) (walkOf n (drop (extent l) l) (nextType l))))
+    byType type l (pick (unfit l) (refused partCut l) (beyond (extent l) (walkOf n (drop (extent l) l) (nextType l))))
 
 -- the walk over l, whose first extension header has this type; there are never more headers than octets
 unfoldable pub extensionsOf : List ℕ → ℕ → Walk
@@ -88,18 +89,18 @@ enough (suc n) (suc m) l type a b =
     let s = length-drop (extent l) l in
     rw (enough n m (drop (extent l) l) (nextType l) (omega arith) (omega arith)))
 
-pub ext-end : (l : List ℕ) (type : ℕ) → type ≡ 0 → extensionsOf l type ≡ record { number = 0; size = 0 }
+pub ext-end : (l : List ℕ) (type : ℕ) → type ≡ 0 → extensionsOf l type ≡ record { number = taken; size = 0 }
 unfolding extensionsOf walkOf
 ext-end [] type e = rw (eq-eqb type 0 e)
 ext-end (x ∷ l) type e = rw (eq-eqb type 0 e)
 
 module _ (type : ℕ) (some : type ≡ 0 → ⊥) where
-  pub ext-must : (l : List ℕ) → firstMust ≤ type → extensionsOf l type ≡ refused 14 l
+  pub ext-must : (l : List ℕ) → firstMust ≤ type → extensionsOf l type ≡ refused mustUnderstand l
   unfolding extensionsOf walkOf
   ext-must [] h = rw (ne-eqb type 0 some, le-leb firstMust type h)
   ext-must (x ∷ l) h = rw (ne-eqb type 0 some, le-leb firstMust type h)
 
-  pub ext-unfit : (l : List ℕ) (n : ℕ) → type < firstMust → n ≡ extent l → (eqb n 0 || ltb (length l) n) ≡ true → extensionsOf l type ≡ refused 13 l
+  pub ext-unfit : (l : List ℕ) (n : ℕ) → type < firstMust → n ≡ extent l → (eqb n 0 || ltb (length l) n) ≡ true → extensionsOf l type ≡ refused partCut l
   unfolding extensionsOf walkOf unfit
   ext-unfit [] n h e u = rw (ne-eqb type 0 some, lt-leb firstMust type h)
   ext-unfit (x ∷ l) n h e u = let v = rw e at u in rw (ne-eqb type 0 some, lt-leb firstMust type h, v)
@@ -144,7 +145,7 @@ unfolding extensionsOf
 ext-within l type = within (length l) l type
 
 -- and where it is refused it has them all
-all-of : (n : ℕ) (l : List ℕ) (type : ℕ) → (walkOf n l type .number ≡ 0 → ⊥) → walkOf n l type .size ≡ length l
+all-of : (n : ℕ) (l : List ℕ) (type : ℕ) → (walkOf n l type .number ≡ taken → ⊥) → walkOf n l type .size ≡ length l
 unfolding walkOf
 all-of zero l type h =
     split (eqb type 0) (λ a. absurd (h (rw a)))
@@ -159,6 +160,6 @@ all-of (suc n) l type h =
     let r = all-of n (drop (extent l) l) (nextType l) (λ z. h (rw (a, b, u) z)) in
     rw (a, b, u) (omega arith))))
 
-pub ext-refused : (l : List ℕ) (type : ℕ) → (extensionsOf l type .number ≡ 0 → ⊥) → extensionsOf l type .size ≡ length l
+pub ext-refused : (l : List ℕ) (type : ℕ) → (extensionsOf l type .number ≡ taken → ⊥) → extensionsOf l type .size ≡ length l
 unfolding extensionsOf
 ext-refused l type h = all-of (length l) l type h

@@ -9,6 +9,7 @@ use native.Mathlib.Omega.{arith}
 use lib.ListN.{length, getD}
 use lib.Dec.{eqb, ltb}
 use borrow.Author.Tests.{eq-eqb, ne-eqb, eqb-true, le-ltb, ltb-false}
+use Rattle.octets.specs.Number.{taken, underEight, lengthUnfit, typeNotTaken, notUser, partCut}
 use Rattle.octets.specs.BigEndian.{numberOf}
 use Rattle.octets.specs.Choice.{pick, split, impossible}
 use Rattle.gpdu.specs.declared.Header.{Header}
@@ -72,11 +73,11 @@ sequenceOf d = pick {A = ℕ} (ltb (length d) wholeSize) 0 (pick (sequenced (oct
 -- the number of the first refusal that the header meets, or 0
 unfoldable pub refusalOf : List ℕ → ℕ
 refusalOf d =
-    pick {A = ℕ} (ltb (length d) fixedSize) 3
-    (pick (not (ours (octet d 0))) 12
-    (pick (not (eqb (lengthOf d) (length d - fixedSize))) 6
-    (pick (not (typeTaken (typeOf d))) 7
-    (pick (optional (octet d 0) && ltb (length d) wholeSize) 13 0))))
+    pick {A = ℕ} (ltb (length d) fixedSize) underEight
+    (pick (not (ours (octet d 0))) notUser
+    (pick (not (eqb (lengthOf d) (length d - fixedSize))) lengthUnfit
+    (pick (not (typeTaken (typeOf d))) typeNotTaken
+    (pick (optional (octet d 0) && ltb (length d) wholeSize) partCut taken))))
 
 -- what a datagram is that is not refused, as its first 12 octets say
 unfoldable pub headerOf : List ℕ → Header
@@ -109,7 +110,7 @@ whole-size first n f e =
     (λ a. let b : ltb n wholeSize ≡ false = rw a at e in rw (size-optional first a) (ltb-false n wholeSize b))
     (λ a. rw (size-plain first a) f)
 
-pub header-passed : (d : List ℕ) → refusalOf d ≡ 0 → Passed d
+pub header-passed : (d : List ℕ) → refusalOf d ≡ taken → Passed d
 unfolding refusalOf
 header-passed d e =
     split (ltb (length d) fixedSize) (λ a. let z = rw a at e in absurd (omega arith))

@@ -10,6 +10,7 @@ use lib.ListN.{length, drop, getD, length-drop}
 use lib.Seq.{drop-drop}
 use lib.Dec.{eqb, leb, ltb}
 use borrow.Author.Tests.{eq-eqb, ne-eqb, le-leb, lt-leb, eqb-true, eqb-false, leb-true, leb-false}
+use Rattle.octets.specs.Number.{taken, partCut, mustUnderstand}
 use Rattle.octets.specs.Choice.{pick, split}
 use Rattle.gpdu.specs.Extensions.{Walk, beyond, firstMust, extent, unfit, nextType, extensionsOf, ext-end, ext-must, ext-unfit, ext-next, fit-extent}
 
@@ -27,11 +28,11 @@ ended number left = stretch number 0 left
 
 abbrev pub judged : List ℕ → ℕ → Stretch → Stretch
 judged l type s =
-    pick (eqb type 0) (ended 0 (length l)) (pick (leb firstMust type) (ended 14 0) (pick (unfit l) (ended 13 0) s))
+    pick (eqb type 0) (ended taken (length l)) (pick (leb firstMust type) (ended mustUnderstand 0) (pick (unfit l) (ended partCut 0) s))
 
 -- past the header in front and at most n more
 unfoldable pub stretchOf : ℕ → List ℕ → ℕ → Stretch
-stretchOf zero l type = judged l type (stretch 0 (nextType l) (length l - extent l))
+stretchOf zero l type = judged l type (stretch taken (nextType l) (length l - extent l))
 stretchOf (suc n) l type = judged l type (stretchOf n (drop (extent l) l) (nextType l))
 
 -- the walk over l where a stretch of it has come to s
@@ -41,25 +42,25 @@ resumed l s =
     (beyond (length l - s .left) (extensionsOf (drop (length l - s .left) l) (s .next)))
 
 -- ---- laws of one call
-pub stretch-end : (n : ℕ) (l : List ℕ) (type : ℕ) → type ≡ 0 → stretchOf n l type ≡ stretch 0 type (length l)
+pub stretch-end : (n : ℕ) (l : List ℕ) (type : ℕ) → type ≡ 0 → stretchOf n l type ≡ stretch taken type (length l)
 unfolding stretchOf
 stretch-end zero l type e = rw (eq-eqb type 0 e, e)
 stretch-end (suc n) l type e = rw (eq-eqb type 0 e, e)
 
 module _ (l : List ℕ) (type : ℕ) (some : type ≡ 0 → ⊥) where
-  pub stretch-must : (n : ℕ) → firstMust ≤ type → stretchOf n l type ≡ ended 14 0
+  pub stretch-must : (n : ℕ) → firstMust ≤ type → stretchOf n l type ≡ ended mustUnderstand 0
   unfolding stretchOf
   stretch-must zero h = rw (ne-eqb type 0 some, le-leb firstMust type h)
   stretch-must (suc n) h = rw (ne-eqb type 0 some, le-leb firstMust type h)
 
   module _ (e : ℕ) (lower : type < firstMust) (is : e ≡ extent l) where
-    pub stretch-unfit : (n : ℕ) → (eqb e 0 || ltb (length l) e) ≡ true → stretchOf n l type ≡ ended 13 0
+    pub stretch-unfit : (n : ℕ) → (eqb e 0 || ltb (length l) e) ≡ true → stretchOf n l type ≡ ended partCut 0
     unfolding stretchOf unfit
     stretch-unfit zero u = let v = rw is at u in rw (ne-eqb type 0 some, lt-leb firstMust type lower, v)
     stretch-unfit (suc n) u = let v = rw is at u in rw (ne-eqb type 0 some, lt-leb firstMust type lower, v)
 
     pub stretch-pause : (n : ℕ) → n ≡ 0 → (eqb e 0 || ltb (length l) e) ≡ false
-        → stretchOf n l type ≡ stretch 0 (getD l (e - 1) 0) (length l - e)
+        → stretchOf n l type ≡ stretch taken (getD l (e - 1) 0) (length l - e)
     unfolding stretchOf unfit
     stretch-pause zero z u = let v = rw is at u in rw (ne-eqb type 0 some, lt-leb firstMust type lower, v, is)
     stretch-pause (suc n) z u = absurd (omega arith)
@@ -96,7 +97,7 @@ stretch-nearer (suc n) l type =
     nearer l type _ (λ u. let s = length-drop (extent l) l in let r = stretch-nearer n (drop (extent l) l) (nextType l) in omega arith)
 
 -- a walk that is to begin
-pub resumed-start : (l : List ℕ) (type : ℕ) → resumed l (stretch 0 type (length l)) ≡ extensionsOf l type
+pub resumed-start : (l : List ℕ) (type : ℕ) → resumed l (stretch taken type (length l)) ≡ extensionsOf l type
 unfolding resumed
 resumed-start l type =
     let z : length l - length l ≡ 0 = omega arith in
@@ -133,7 +134,7 @@ stretch-whole zero l type =
     whole l type _ (λ u.
     let s = length-drop (extent l) l in
     rw (← s)
-    (resumed-past l (extent l) (stretch 0 (nextType l) (length (drop (extent l) l))) (fit-extent l u .1) (omega arith)
+    (resumed-past l (extent l) (stretch taken (nextType l) (length (drop (extent l) l))) (fit-extent l u .1) (omega arith)
     ∙ rw (resumed-start (drop (extent l) l) (nextType l))))
 stretch-whole (suc n) l type =
     whole l type _ (λ u.

@@ -9,6 +9,7 @@ use native.Mathlib.Omega.{arith}
 use lib.ListN.{length, drop, take, length-take, length-drop, take-append-drop}
 use lib.Dec.{eqb}
 use borrow.Author.Tests.{eq-eqb, ne-eqb, eqb-true}
+use Rattle.octets.specs.Number.{taken}
 use Rattle.octets.specs.Choice.{pick, split}
 use Rattle.gpdu.specs.Header.{refusalOf, sizeOf, extended, octet, header-passed}
 use Rattle.gpdu.specs.Extensions.{Walk, refused, beyond, extensionsOf, ext-end, ext-within, ext-refused}
@@ -21,37 +22,37 @@ firstType d = pick {A = ℕ} (extended (octet d 0)) (octet d 11) 0
 -- come first, then those of its extension headers. A datagram that is refused has no payload: the size is that of the whole datagram.
 unfoldable pub userOf : List ℕ → Walk
 userOf d =
-    pick (eqb (refusalOf d) 0)
+    pick (eqb (refusalOf d) taken)
     (beyond (sizeOf (octet d 0)) (extensionsOf (drop (sizeOf (octet d 0)) d) (firstType d)))
     (refused (refusalOf d) d)
 
 -- ---- laws
 -- the ways to the answer: what a reader that goes that way hands back
 module _ (d : List ℕ) where
-  pub user-refused : (refusalOf d ≡ 0 → ⊥) → (userOf d .number ≡ refusalOf d) × (userOf d .size ≡ length d)
+  pub user-refused : (refusalOf d ≡ taken → ⊥) → (userOf d .number ≡ refusalOf d) × (userOf d .size ≡ length d)
   unfolding userOf
-  user-refused h = rw (ne-eqb (refusalOf d) 0 h) (refl, refl)
+  user-refused h = rw (ne-eqb (refusalOf d) taken h) (refl, refl)
 
-  pub user-plain : (n : ℕ) → n ≡ sizeOf (octet d 0) → refusalOf d ≡ 0 → extended (octet d 0) ≡ false
-      → (userOf d .number ≡ 0) × (userOf d .size ≡ n)
+  pub user-plain : (n : ℕ) → n ≡ sizeOf (octet d 0) → refusalOf d ≡ taken → extended (octet d 0) ≡ false
+      → (userOf d .number ≡ taken) × (userOf d .size ≡ n)
   unfolding userOf firstType
-  user-plain n s h e = rw (eq-eqb (refusalOf d) 0 h, e, ext-end (drop (sizeOf (octet d 0)) d) 0 refl, add-zero, s) (refl, refl)
+  user-plain n s h e = rw (eq-eqb (refusalOf d) taken h, e, ext-end (drop (sizeOf (octet d 0)) d) 0 refl, add-zero, s) (refl, refl)
 
-  pub user-extended : (n : ℕ) → n ≡ sizeOf (octet d 0) → refusalOf d ≡ 0 → extended (octet d 0) ≡ true
+  pub user-extended : (n : ℕ) → n ≡ sizeOf (octet d 0) → refusalOf d ≡ taken → extended (octet d 0) ≡ true
       → (userOf d .number ≡ extensionsOf (drop n d) (octet d 11) .number) × (userOf d .size ≡ n + extensionsOf (drop n d) (octet d 11) .size)
   unfolding userOf firstType
-  user-extended n s h e = rw (eq-eqb (refusalOf d) 0 h, e, s) (refl, refl)
+  user-extended n s h e = rw (eq-eqb (refusalOf d) taken h, e, s) (refl, refl)
 
 -- a datagram that is taken has a header that is
-pub user-passed : (d : List ℕ) → userOf d .number ≡ 0 → refusalOf d ≡ 0
+pub user-passed : (d : List ℕ) → userOf d .number ≡ taken → refusalOf d ≡ taken
 unfolding userOf
 user-passed d e =
-    split (eqb (refusalOf d) 0) (λ a. eqb-true _ _ a) (λ a. rw a at e)
+    split (eqb (refusalOf d) taken) (λ a. eqb-true _ _ a) (λ a. rw a at e)
 
 pub user-within : (d : List ℕ) → userOf d .size ≤ length d
 unfolding userOf
 user-within d =
-    split (eqb (refusalOf d) 0)
+    split (eqb (refusalOf d) taken)
     (λ a.
     let p = header-passed d (eqb-true _ _ a) in
     let w = ext-within (drop (sizeOf (octet d 0)) d) (firstType d) in
@@ -59,13 +60,13 @@ user-within d =
     rw a (omega (arith, p .whole)))
     (λ a. rw a (omega arith))
 
-pub user-none : (d : List ℕ) → (userOf d .number ≡ 0 → ⊥) → userOf d .size ≡ length d
+pub user-none : (d : List ℕ) → (userOf d .number ≡ taken → ⊥) → userOf d .size ≡ length d
 unfolding userOf
 user-none d n =
-    split (eqb (refusalOf d) 0)
+    split (eqb (refusalOf d) taken)
     (λ a.
     let p = header-passed d (eqb-true _ _ a) in
-    let m : extensionsOf (drop (sizeOf (octet d 0)) d) (firstType d) .number ≡ 0 → ⊥ = rw a at n in
+    let m : extensionsOf (drop (sizeOf (octet d 0)) d) (firstType d) .number ≡ taken → ⊥ = rw a at n in
     let w = ext-refused (drop (sizeOf (octet d 0)) d) (firstType d) m in
     let s = length-drop (sizeOf (octet d 0)) d in
     rw a (omega (arith, p .whole)))

@@ -2,11 +2,13 @@
 ghost use mathlib.Core.Path.{_≡_};
 ghost use Prim.Native.Nat.{_*_};
 ghost use lib.ListN.{length};
+ghost use Rattle.octets.specs.Number.{taken};
 ghost use Rattle.gpdu.specs.Header.{ours, extended, sequenced, optional, typeTaken, typeOf, teidOf, sequenceOf, refusalOf, headerOf};
 ghost use Rattle.gpdu.specs.Extensions.{extent, extensionsOf};
 ghost use Rattle.gpdu.specs.Stretch.{stretch, stretchOf};
 ghost use Rattle.gpdu.specs.User.{userOf};
 ghost use Rattle.gpdu.specs.Part.{Reads};
+use octets::Number;
 use tunnel::UserTeid;
 
 // What a user datagram is, as its first 12 octets say: that it is not refused is another question.
@@ -33,19 +35,6 @@ impl Header {
 
     // How deep the calls of a walk go, less one: it is the unit's stack that this bounds, and not the number of headers.
     pub const STRETCH: usize = 15;
-
-    // The refusals' numbers.
-    pub const SHORT: u8 = 3;
-
-    pub const UNEQUAL: u8 = 6;
-
-    pub const NOT_TAKEN: u8 = 7;
-
-    pub const NOT_OURS: u8 = 12;
-
-    pub const CUT: u8 = 13;
-
-    pub const MUST: u8 = 14;
 
     // What the datagram says; no refusal is judged here.
     pub fn of(d: &[u8]) -> Self
@@ -96,26 +85,26 @@ fn refusal(d: &[u8]) -> u8
     ensures { λ r. ⌜ r ≡ refusalOf (now (d .entry)) ⌝ }
 {
     if d.len() < Header::FIXED {
-        return Header::SHORT;
+        return Number::UNDER_EIGHT;
     }
     let first = d[0];
     if !ours(first) {
-        return Header::NOT_OURS;
+        return Number::NOT_USER;
     }
     let length = octets::be16(d[2], d[3]);
     if length as usize != d.len() - Header::FIXED {
-        return Header::UNEQUAL;
+        return Number::LENGTH_UNFIT;
     }
     if !type_taken(d[1]) {
-        return Header::NOT_TAKEN;
+        return Number::TYPE_NOT_TAKEN;
     }
     if !optional(first) {
-        return 0;
+        return Number::TAKEN;
     }
     if d.len() < Header::WHOLE {
-        return Header::CUT;
+        return Number::PART_CUT;
     }
-    0
+    Number::TAKEN
 }
 
 // The message type, the tunnel number and the sequence number (0 if S is unset); each is 0 where the datagram is too short for it.
@@ -174,23 +163,23 @@ fn walk(rest: &[u8], more: usize, next: &mut u8, number: &mut u8) -> usize
 {
     let kind = *next;
     if kind == 0 {
-        *number = 0;
+        *number = Number::TAKEN;
         return rest.len();
     }
     if Header::FIRST_MUST <= kind {
         *next = 0;
-        *number = Header::MUST;
+        *number = Number::MUST_UNDERSTAND;
         return 0;
     }
     let n = extent(rest);
     if (n == 0) | (rest.len() < n) {
         *next = 0;
-        *number = Header::CUT;
+        *number = Number::PART_CUT;
         return 0;
     }
     *next = rest[n - 1];
     if more == 0 {
-        *number = 0;
+        *number = Number::TAKEN;
         return rest.len() - n;
     }
     walk(&rest[n..], more - 1, next, number)
@@ -203,7 +192,7 @@ fn past_extensions<'a>(d: &'a [u8], first: u8, number: &mut u8) -> &'a [u8]
 {
     let mut next = first;
     let mut left = d.len();
-    *number = 0;
+    *number = Number::TAKEN;
     while next != 0 {
         left = walk(&d[d.len() - left..], Header::STRETCH, &mut next, number);
     }
@@ -212,16 +201,16 @@ fn past_extensions<'a>(d: &'a [u8], first: u8, number: &mut u8) -> &'a [u8]
 
 // What lies past a header that meets no refusal, and past its extension headers.
 fn past_header<'a>(d: &'a [u8], number: &mut u8) -> &'a [u8]
-    requires { ⌜ refusalOf (now d) ≡ 0 ⌝ }
+    requires { ⌜ refusalOf (now d) ≡ taken ⌝ }
     ensures { λ r. ⌜ Reads (now (number .exit)) r (d .entry) (userOf (now (d .entry)) .number) (userOf (now (d .entry)) .size) ⌝ }
 {
     let first = d[0];
     if !optional(first) {
-        *number = 0;
+        *number = Number::TAKEN;
         return &d[Header::FIXED..];
     }
     if !extended(first) {
-        *number = 0;
+        *number = Number::TAKEN;
         return &d[Header::WHOLE..];
     }
     let next = d[11];
@@ -233,7 +222,7 @@ pub fn payload<'a>(d: &'a [u8], number: &mut u8) -> &'a [u8]
     ensures { λ r. ⌜ Reads (now (number .exit)) r (d .entry) (userOf (now (d .entry)) .number) (userOf (now (d .entry)) .size) ⌝ }
 {
     let why = refusal(d);
-    if why != 0 {
+    if why != Number::TAKEN {
         return refuse(d, why, number);
     }
     past_header(d, number)

@@ -8,19 +8,17 @@ use native.Mathlib.Omega.{arith}
 use lib.ListN.{length, getD}
 use lib.Dec.{eqb, ltb}
 use borrow.Author.Tests.{eq-eqb, eqb-true, ltb-true, ltb-false}
+use Rattle.octets.specs.Number.{taken, underEight, flagPSet, otherVersion, lengthUnfit, typeNotTaken, teidUnfit}
 use Rattle.octets.specs.Choice.{differs}
 use Rattle.octets.specs.Every.{every, every-at}
 use Rattle.octets.specs.BigEndian.{isOctet, numberOf, numberFrom}
 use Rattle.header.specs.Types.{flagOf, notTaken}
+use Rattle.messages.specs.Types.{createType}
 use Rattle.header.specs.Header.{versionOf, flagP, flagT, kindOf, lengthOf, teidOf, headerSize}
 
 -- the version that control datagrams have
 unfoldable pub controlVersion : ℕ
 controlVersion = 2
-
--- Create, the one type whose header TEID has to be 0
-unfoldable pub createType : ℕ
-createType = 32
 
 -- a number where the test holds, else what comes next
 abbrev pub refuse : ℕ → Bool → ℕ → ℕ
@@ -29,15 +27,15 @@ refuse n false rest = rest
 
 unfoldable pub gateOf : List ℕ → ℕ
 gateOf d =
-    refuse 3 (ltb (length d) 8) (
-    refuse 5 (not (eqb (versionOf d) controlVersion)) (
-    refuse 4 (eqb (flagP d) 1) (
-    refuse 7 (eqb (flagOf (kindOf d)) notTaken) (
-    refuse 8 (not (eqb (flagOf (kindOf d)) (flagT d))) (
-    refuse 6 (not (eqb (lengthOf d + 4) (length d))) (
-    refuse 6 (ltb (length d) (headerSize d)) (
-    refuse 8 (eqb (kindOf d) createType && ltb 0 (teidOf d))
-    0)))))))
+    refuse underEight (ltb (length d) 8) (
+    refuse otherVersion (not (eqb (versionOf d) controlVersion)) (
+    refuse flagPSet (eqb (flagP d) 1) (
+    refuse typeNotTaken (eqb (flagOf (kindOf d)) notTaken) (
+    refuse teidUnfit (not (eqb (flagOf (kindOf d)) (flagT d))) (
+    refuse lengthUnfit (not (eqb (lengthOf d + 4) (length d))) (
+    refuse lengthUnfit (ltb (length d) (headerSize d)) (
+    refuse teidUnfit (eqb (kindOf d) createType && ltb 0 (teidOf d))
+    taken)))))))
 
 -- ---- what passing tells
 pub record Passed (d : List ℕ) : Type 0 where
@@ -62,17 +60,17 @@ not-false-true false e = let z : _≡_ {A = ℕ} 0 1 = cc in absurd (omega arith
 no-teid : (a b n : ℕ) → (eqb a b && ltb 0 n) ≡ false → a ≡ b → n ≡ 0
 no-teid a b n e f = let g = rw (eq-eqb a b f) at e in omega (arith, ltb-false 0 n g)
 
-pub gate-passed : (d : List ℕ) → gateOf d ≡ 0 → Passed d
+pub gate-passed : (d : List ℕ) → gateOf d ≡ taken → Passed d
 unfolding gateOf
 gate-passed d e =
-    refused-not 3 _ _ (omega arith) e λ t1 e1.
-    refused-not 5 _ _ (omega arith) e1 λ t2 e2.
-    refused-not 4 _ _ (omega arith) e2 λ t3 e3.
-    refused-not 7 _ _ (omega arith) e3 λ t4 e4.
-    refused-not 8 _ _ (omega arith) e4 λ t5 e5.
-    refused-not 6 _ _ (omega arith) e5 λ t6 e6.
-    refused-not 6 _ _ (omega arith) e6 λ t7 e7.
-    refused-not 8 _ _ (omega arith) e7 λ t8 e8.
+    refused-not underEight _ _ (omega arith) e λ t1 e1.
+    refused-not otherVersion _ _ (omega arith) e1 λ t2 e2.
+    refused-not flagPSet _ _ (omega arith) e2 λ t3 e3.
+    refused-not typeNotTaken _ _ (omega arith) e3 λ t4 e4.
+    refused-not teidUnfit _ _ (omega arith) e4 λ t5 e5.
+    refused-not lengthUnfit _ _ (omega arith) e5 λ t6 e6.
+    refused-not lengthUnfit _ _ (omega arith) e6 λ t7 e7.
+    refused-not teidUnfit _ _ (omega arith) e7 λ t8 e8.
     record {
       size = ltb-false (length d) 8 t1;
       version = eqb-true (versionOf d) controlVersion (not-false-true _ t2);
@@ -85,7 +83,7 @@ gate-passed d e =
     }
 
 -- a datagram that no 16-bit length can state never passes
-pub gate-longest : (d : List ℕ) → every isOctet d ≡ true → gateOf d ≡ 0 → length d < 65540
+pub gate-longest : (d : List ℕ) → every isOctet d ≡ true → gateOf d ≡ taken → length d < 65540
 unfolding lengthOf numberOf numberFrom isOctet
 gate-longest d o e =
     let p = gate-passed d e in

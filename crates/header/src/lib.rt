@@ -1,7 +1,9 @@
 // The header of a control datagram: the table of message types, the first refusals, and what the header says.
+use messages::MessageType;
+use octets::Number;
 ghost use mathlib.Core.Path.{_≡_};
 ghost use lib.ListN.{drop};
-ghost use Rattle.header.specs.Types.{flagOf};
+ghost use Rattle.header.specs.Types.{flagOf, kindBy};
 ghost use Rattle.header.specs.Header.{headerOf, teidOctets, sequenceBehind, sequenceBare};
 ghost use Rattle.header.specs.Gate.{gateOf};
 
@@ -265,6 +267,45 @@ const FLAGS: [u8; 256] = [
     2,
 ];
 
+// The kinds of control messages: what is taken is one of these.
+pub enum Kind {
+    Echo,
+    EchoReply,
+    Create,
+    Modify,
+    Delete,
+    // the reply to the unit's own Delete Bearer
+    BearerReply,
+    Other,
+}
+
+impl Kind {
+    // The kind of a message by its type.
+    pub fn by(n: u8) -> Self
+        ensures { λ r. ⌜ r ≡ kindBy n ⌝ }
+    {
+        if n == MessageType::MODIFY {
+            return Kind::Modify;
+        }
+        if n == MessageType::DELETE {
+            return Kind::Delete;
+        }
+        if n == MessageType::CREATE {
+            return Kind::Create;
+        }
+        if n == MessageType::BEARER_REPLY {
+            return Kind::BearerReply;
+        }
+        if n == MessageType::ECHO {
+            return Kind::Echo;
+        }
+        if n == MessageType::ECHO_REPLY {
+            return Kind::EchoReply;
+        }
+        Kind::Other
+    }
+}
+
 // What a header says, and where the fields start behind it.
 pub struct HeaderCursor {
     pub kind: u8,
@@ -331,8 +372,6 @@ impl HeaderCursor {
 
     pub const NOT_TAKEN: u8 = 2;
 
-    pub const CREATE: u8 = 32;
-
     // The header at the front of a datagram.
     pub fn of(d: &[u8]) -> Self
         ensures { λ r. ⌜ r ≡ headerOf (now (d .entry)) ⌝ }
@@ -370,37 +409,37 @@ impl HeaderCursor {
     }
 }
 
-// The first refusal of a datagram by its header: 3, 5, 4, 7, 8, 6, or 0 where it passes.
+// The first refusal of a datagram by its header, or 0 where it passes.
 pub fn gate(d: &[u8]) -> u8
     ensures { λ r. ⌜ r ≡ gateOf (now (d .entry)) ⌝ }
 {
     if d.len() < HeaderCursor::BARE {
-        return 3;
+        return Number::UNDER_EIGHT;
     }
     let first = d[0];
     if first / 32 != HeaderCursor::VERSION {
-        return 5;
+        return Number::OTHER_VERSION;
     }
     if first / 16 % 2 == 1 {
-        return 4;
+        return Number::FLAG_P_SET;
     }
     let flag = flag_of(d[1]);
     if flag == HeaderCursor::NOT_TAKEN {
-        return 7;
+        return Number::TYPE_NOT_TAKEN;
     }
     if flag != first / 8 % 2 {
-        return 8;
+        return Number::TEID_UNFIT;
     }
     let stated = octets::be16(d[2], d[3]) as usize;
     if stated + HeaderCursor::NOT_COUNTED != d.len() {
-        return 6;
+        return Number::LENGTH_UNFIT;
     }
     let h = HeaderCursor::of(d);
     if d.len() < h.fields {
-        return 6;
+        return Number::LENGTH_UNFIT;
     }
-    if (h.kind == HeaderCursor::CREATE) & (0 < h.teid) {
-        return 8;
+    if (h.kind == MessageType::CREATE) & (0 < h.teid) {
+        return Number::TEID_UNFIT;
     }
-    0
+    Number::TAKEN
 }

@@ -31,11 +31,14 @@ use Rattle.readers.specs.declared.Recovery.the-variants as R
 use Rattle.requests.specs.declared.Create as C
 use Rattle.timing.specs.Outcome.{Outcome, outcome}
 use Rattle.control.specs.Echoes.{heardNode}
+use Rattle.messages.specs.Types.{createReplyType}
 use Rattle.control.specs.Amends.{causeTaken}
 use Rattle.control.specs.Creates.{openingOf, acceptedTaken, noRoom, openedAt, shared, isRepeat, settledAt}
 use Rattle.openings.specs.declared.Sight.{Sight}
 use Rattle.openings.specs.declared.Pair.{Pair}
-use Rattle.openings.specs.Openings.{repeatsAt, roomFor, openPlace, pairBy, pairWith, Made, unmovedOn, fullOn, enteredOn, openOn}
+use Rattle.openings.specs.declared.Verdict.{Verdict}
+use Rattle.openings.specs.declared.Verdict.the-variants as Y
+use Rattle.openings.specs.Openings.{repeatsAt, roomFor, lower, verdictOf, opensAt, pairBy, pairWith, Made, unmovedOn, fullOn, enteredOn, openBy, openOn}
 use Rattle.openings.specs.Places.{free-then, room-then}
 
 -- the answer with the Recovery stored, and with the two records put back in their places
@@ -84,15 +87,15 @@ module _ (node : Node) (l : List Session) (k : keepsRules node l ≡ true) (c : 
   abbrev after : Node
   after = heardNode (c .recovery) node
 
-  abbrev new : ℕ
-  new = openPlace g node c seq s
+  abbrev verdict : Verdict
+  verdict = verdictOf g node c seq s
 
-  -- the two records where q is the place that is opened, and what that comes to
-  abbrev pairAt : ℕ → Pair
-  pairAt q = pairWith g l q
+  -- the two records by what is opened, and what that comes to
+  abbrev pairAt : Verdict → Pair
+  pairAt v = pairWith g l v
 
-  abbrev comes : ℕ → Outcome
-  comes q = placedTwo node (pairAt q) l (openOn c seq node (pairAt q) reply)
+  abbrev comes : Verdict → Outcome
+  comes v = placedTwo node (pairAt v) l (openOn c seq node (pairAt v) reply)
 
   abbrev o : Opening
   o = openingOf c seq
@@ -116,34 +119,33 @@ module _ (node : Node) (l : List Session) (k : keepsRules node l ≡ true) (c : 
       rw counts (room-then l (g .old) inside (omega arith) (node .plan) (c .point) (parties-four (node .plan) (rules .planned)))
 
   -- ---- the three ways that it can go
-  repeat-same : repeatsAt (g .old) c seq s ≡ true → acceptedTaken seq (g .old) s after l reply ≡ comes places
-  unfolding acceptedTaken openOn pairBy unmovedOn placedTwo
-  repeat-same r = rw (r, stays l (g .old) places, heard-plan (c .recovery) node)
+  repeat-same : acceptedTaken seq (g .old) s after l reply ≡ comes Y.Still
+  unfolding acceptedTaken openOn openBy opensAt pairBy unmovedOn placedTwo
+  repeat-same = rw (stays l (g .old) places, heard-plan (c .recovery) node)
 
-  entered-same : (q : ℕ) → repeatsAt (g .old) c seq s ≡ false → q < places
-      → acceptedTaken seq q (opened o (getD then′ q nobody)) after (changedAt (opened o) q then′) reply ≡ comes q
-  unfolding acceptedTaken openOn pairBy enteredOn placedTwo changedAt
-  entered-same q r h = rw (r, lt-ltb q places h, opened-then o l (g .old) q, heard-plan (c .recovery) node)
+  entered-same : (q : ℕ) → acceptedTaken seq q (opened o (getD then′ q nobody)) after (changedAt (opened o) q then′) reply ≡ comes (Y.Opens q)
+  unfolding acceptedTaken openOn openBy opensAt pairBy enteredOn placedTwo changedAt
+  entered-same q = rw (opened-then o l (g .old) q, heard-plan (c .recovery) node)
 
-  full-same : repeatsAt (g .old) c seq s ≡ false → causeTaken 33 (c .control) seq noRoom after then′ reply ≡ comes places
-  unfolding causeTaken openOn pairBy fullOn placedTwo changedAt
-  full-same r =
+  full-same : causeTaken createReplyType (c .control) seq noRoom after then′ reply ≡ comes Y.Full
+  unfolding causeTaken openOn openBy opensAt pairBy fullOn placedTwo changedAt
+  full-same =
       let n = rules .size in
       let m = length-set l (g .old) (freed s) in
-      rw (r, le-ltb places places (omega arith), set-out (set l (g .old) (freed s)) places (getD l places nobody) (omega arith))
+      rw (set-out (set l (g .old) (freed s)) places (getD l places nobody) (omega arith))
 
   -- ---- which way: the sharing rule, and the place
-  new-repeat : repeatsAt (g .old) c seq s ≡ true → new ≡ places
-  unfolding openPlace
-  new-repeat r = rw r
+  verdict-repeat : repeatsAt (g .old) c seq s ≡ true → verdict ≡ Y.Still
+  unfolding verdictOf
+  verdict-repeat r = rw r
 
-  new-in : repeatsAt (g .old) c seq s ≡ false → admits (node .plan) (live then′) (c .point) ≡ true → new ≡ firstOf isFree then′
-  unfolding openPlace
-  new-in r a = rw (r, room ∙ a, free) (sym (free-then l (g .old) inside))
+  verdict-in : repeatsAt (g .old) c seq s ≡ false → admits (node .plan) (live then′) (c .point) ≡ true → verdict ≡ Y.Opens (firstOf isFree then′)
+  unfolding verdictOf
+  verdict-in r a = rw (r, room ∙ a, free) (ap (λ (q : ℕ). Y.Opens q) (sym (free-then l (g .old) inside)))
 
-  new-out : repeatsAt (g .old) c seq s ≡ false → admits (node .plan) (live then′) (c .point) ≡ false → new ≡ places
-  unfolding openPlace
-  new-out r a = rw (r, room ∙ a)
+  verdict-out : repeatsAt (g .old) c seq s ≡ false → admits (node .plan) (live then′) (c .point) ≡ false → verdict ≡ Y.Full
+  unfolding verdictOf
+  verdict-out r a = rw (r, room ∙ a)
 
   place-in : admits (node .plan) (live then′) (c .point) ≡ true → firstOf isFree then′ < length then′
   unfolding freePlace
@@ -157,16 +159,14 @@ module _ (node : Node) (l : List Session) (k : keepsRules node l ≡ true) (c : 
   shared-in a = rw (heard-plan (c .recovery) node, a, lt-ltb (firstOf isFree then′) (length then′) (place-in a))
 
   shared-out : admits (node .plan) (live then′) (c .point) ≡ false
-      → shared c seq after then′ node₀ t₀ reply ≡ causeTaken 33 (c .control) seq noRoom after then′ reply
+      → shared c seq after then′ node₀ t₀ reply ≡ causeTaken createReplyType (c .control) seq noRoom after then′ reply
   unfolding shared
   shared-out a = rw (heard-plan (c .recovery) node, a)
 
-  shared-same : repeatsAt (g .old) c seq s ≡ false → shared c seq after then′ node₀ t₀ reply ≡ comes new
+  shared-same : repeatsAt (g .old) c seq s ≡ false → shared c seq after then′ node₀ t₀ reply ≡ comes verdict
   shared-same r = split (admits (node .plan) (live then′) (c .point))
-      (λ a. let h = place-in a in
-      let n = rules-then .size in
-      shared-in a ∙ entered-same (firstOf isFree then′) r (omega arith) ∙ ap (λ (q : ℕ). comes q) (sym (new-in r a)))
-      (λ a. shared-out a ∙ full-same r ∙ ap (λ (q : ℕ). comes q) (sym (new-out r a)))
+      (λ a. shared-in a ∙ entered-same (firstOf isFree then′) ∙ ap (λ (v : Verdict). comes v) (sym (verdict-in r a)))
+      (λ a. shared-out a ∙ full-same ∙ ap (λ (v : Verdict). comes v) (sym (verdict-out r a)))
 
   -- ---- whether there is such a session
   met : ltb (g .old) (length l) ≡ true → repeatsAt (g .old) c seq s ≡ isRepeat c seq s
@@ -185,12 +185,12 @@ module _ (node : Node) (l : List Session) (k : keepsRules node l ≡ true) (c : 
   unfolding foundIn
   found-no e = rw (← old, e)
 
-  pub settled-same : settledAt (foundIn (hasId (c .imsi) (c .ebi)) l) c seq after l node₀ t₀ reply ≡ comes new
+  pub settled-same : settledAt (foundIn (hasId (c .imsi) (c .ebi)) l) c seq after l node₀ t₀ reply ≡ comes verdict
   unfolding settledAt
   settled-same = split (ltb (g .old) (length l))
       (λ e. rw (found-at e)
       (split (isRepeat c seq s)
-      (λ r. let t = met e ∙ r in rw r (repeat-same t ∙ ap (λ (q : ℕ). comes q) (sym (new-repeat t))))
+      (λ r. let t = met e ∙ r in rw r (repeat-same ∙ ap (λ (v : Verdict). comes v) (sym (verdict-repeat t))))
       (λ r. rw r (shared-same (met e ∙ r)))))
       (λ e. rw (found-no e)
       (ap (λ (x : List Session). shared c seq after x node₀ t₀ reply)

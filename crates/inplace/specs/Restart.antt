@@ -32,7 +32,9 @@ use Rattle.control.specs.Creates.{openingOf, settledAt, heardCreate}
 use Rattle.openings.specs.declared.Sight.{Sight}
 use Rattle.openings.specs.declared.Pair.{Pair}
 use Rattle.openings.specs.declared.Opened.{Opened}
-use Rattle.openings.specs.Openings.{repeatsAt, openPlace, pairBy, pairWith, Made, unmovedOn, fullOn, enteredOn, openOn, nodeAfter, freedCount, pairPut, placedPair}
+use Rattle.openings.specs.declared.Verdict.{Verdict}
+use Rattle.openings.specs.declared.Verdict.the-variants as Y
+use Rattle.openings.specs.Openings.{repeatsAt, verdictOf, opensAt, pairBy, pairWith, Made, unmovedOn, fullOn, enteredOn, openBy, openOn, nodeAfter, freedCount, pairPut, placedPair}
 use Rattle.openings.specs.Places.{freed-free, freed-weight}
 use Rattle.inplace.specs.Create.{placedTwo, heard-plan, opened-freed, settled-same}
 
@@ -90,13 +92,25 @@ module _ (node : Node) (l : List Session) (p : Pair) (m : Made) (e : m .answer .
 
 -- ---- a Create says nothing of the unit's own echo, and its Recovery is stored
 module _ (c : C.Create) (seq : ℕ) (node : Node) (p : Pair) (reply : List ℕ) where
+  by-ended : (v : Verdict) → openBy v c seq node p reply .answer .ended ≡ false
+  unfolding openBy unmovedOn enteredOn fullOn
+  by-ended Y.Still = refl
+  by-ended (Y.Opens q) = refl
+  by-ended Y.Full = refl
+
+  by-heard : (v : Verdict) → openBy v c seq node p reply .answer .heard ≡ c .recovery
+  unfolding openBy unmovedOn enteredOn fullOn
+  by-heard Y.Still = refl
+  by-heard (Y.Opens q) = refl
+  by-heard Y.Full = refl
+
   pub open-ended : openOn c seq node p reply .answer .ended ≡ false
-  unfolding openOn unmovedOn enteredOn fullOn
-  open-ended = split (repeatsAt (p .old) c seq (p .oldrecord)) (λ e. rw e) (λ e. split (ltb (p .new) places) (λ f. rw (e, f)) (λ f. rw (e, f)))
+  unfolding openOn
+  open-ended = by-ended (p .verdict)
 
   open-heard : openOn c seq node p reply .answer .heard ≡ c .recovery
-  unfolding openOn unmovedOn enteredOn fullOn
-  open-heard = split (repeatsAt (p .old) c seq (p .oldrecord)) (λ e. rw e) (λ e. split (ltb (p .new) places) (λ f. rw (e, f)) (λ f. rw (e, f)))
+  unfolding openOn
+  open-heard = by-heard (p .verdict)
 
 -- ---- a Create after a restart
 module _ (node : Node) (l : List Session) (k : keepsRules node l ≡ true) (c : C.Create) (seq : ℕ) (again : restartsBy (c .recovery) node ≡ true)
@@ -126,50 +140,57 @@ module _ (node : Node) (l : List Session) (k : keepsRules node l ≡ true) (c : 
   old-gone : getD gone (g .old) nobody ≡ nobody
   old-gone = past gone (g .old) size-gone (omega arith)
 
+  -- it is no repeat
   no-repeat : (s : Session) → repeatsAt (g .old) c seq s ≡ false
   unfolding repeatsAt
   no-repeat s = rw (le-ltb (g .old) places (omega arith))
 
-  abbrev new : ℕ
-  new = openPlace g node c seq (getD l (g .old) nobody)
+  abbrev verdict : Verdict
+  verdict = verdictOf g node c seq (getD l (g .old) nobody)
 
-  new-same : openPlace g after c seq (getD gone (g .old) nobody) ≡ new
-  unfolding openPlace
-  new-same = rw (old-gone, old-here, heard-plan (c .recovery) node)
+  verdict-same : verdictOf g after c seq (getD gone (g .old) nobody) ≡ verdict
+  unfolding verdictOf
+  verdict-same = rw (old-gone, old-here, heard-plan (c .recovery) node)
 
   -- the record of a place, once it is opened
-  opened-here : (q : ℕ) → q < places → opened (openingOf c seq) (getD gone q nobody) ≡ opened (openingOf c seq) (getD l q nobody)
-  opened-here q h =
+  opened-here : (q : ℕ) → opened (openingOf c seq) (getD gone q nobody) ≡ opened (openingOf c seq) (getD l q nobody)
+  opened-here q =
+      split (ltb q (length l))
+      (λ e. rw (map-at freed l q nobody nobody (ltb-true q (length l) e)) (opened-freed (openingOf c seq) (getD l q nobody)))
+      (λ e. let h = ltb-false q (length l) e in
       let n = size in
-      rw (map-at freed l q nobody nobody (omega arith)) (opened-freed (openingOf c seq) (getD l q nobody))
+      rw (past gone q size-gone (omega arith), past l q size (omega arith)))
 
-  made-same : (q : ℕ) → openOn c seq after (pairWith g gone q) reply ≡ openOn c seq node (pairWith g l q) reply
-  unfolding openOn pairBy enteredOn fullOn
-  made-same q = rw (no-repeat (getD gone (g .old) nobody), no-repeat (getD l (g .old) nobody), old-gone, old-here)
-      (split (ltb q places)
-      (λ e. rw (e, opened-here q (ltb-true q places e), heard-plan (c .recovery) node))
-      (λ e. let h = ltb-false q places e in rw (e, past gone q size-gone h, past l q size h)))
+  made-by : (v : Verdict) → openBy v c seq after (pairWith g gone v) reply ≡ openBy v c seq node (pairWith g l v) reply
+  unfolding openBy opensAt pairBy unmovedOn enteredOn fullOn
+  made-by Y.Still = rw (old-gone, old-here, heard-plan (c .recovery) node, past gone places size-gone (omega arith), past l places size (omega arith))
+  made-by (Y.Opens q) = rw (old-gone, old-here, opened-here q, heard-plan (c .recovery) node)
+  made-by Y.Full = rw (old-gone, old-here, past gone places size-gone (omega arith), past l places size (omega arith))
+
+  made-same : (v : Verdict) → openOn c seq after (pairWith g gone v) reply ≡ openOn c seq node (pairWith g l v) reply
+  unfolding openOn pairBy
+  made-same v = made-by v
 
   -- the places are those of the records before
-  places-same : (q : ℕ) (m : Made) → placedTwo after (pairWith g gone q) gone m ≡ placedTwo after (pairWith g l q) gone m
+  places-same : (v : Verdict) (m : Made) → placedTwo after (pairWith g gone v) gone m ≡ placedTwo after (pairWith g l v) gone m
   unfolding placedTwo pairBy
-  places-same q m = refl
+  places-same v m = refl
 
   abbrev comes : Made
-  comes = openOn c seq node (pairWith g l new) reply
+  comes = openOn c seq node (pairWith g l verdict) reply
 
-  put-same : placedPair node (pairWith g l new) l comes ≡ placedTwo after (pairWith g l new) gone comes
+  put-same : placedPair node (pairWith g l verdict) l comes ≡ placedTwo after (pairWith g l verdict) gone comes
   unfolding pairBy
   put-same =
-      let h = open-heard c seq node (pairWith g l new) reply in
+      let h = open-heard c seq node (pairWith g l verdict) reply in
       let n = size in
-      placed-all node l (pairWith g l new) comes (open-ended c seq node (pairWith g l new) reply) all (omega arith)
+      placed-all node l (pairWith g l verdict) comes (open-ended c seq node (pairWith g l verdict) reply) all (omega arith)
       (rw h (heard-twice (c .recovery) node))
       ∙ rw h
 
   settled-gone : settledAt (foundIn (hasId (c .imsi) (c .ebi)) gone) c seq (heardNode (c .recovery) after) gone node l reply
-      ≡ placedTwo after (pairWith g gone (openPlace g after c seq (getD gone (g .old) nobody))) gone
-      (openOn c seq after (pairWith g gone (openPlace g after c seq (getD gone (g .old) nobody))) reply)
+      ≡ placedTwo after (pairWith g gone (verdictOf g after c seq (getD gone (g .old) nobody))) gone
+      (openOn c seq after (pairWith g gone (verdictOf g after c seq (getD gone (g .old) nobody))) reply)
   settled-gone =
       settled-same after gone kept-gone c seq g
       (old ∙ sym size ∙ sym (first-no (hasId (c .imsi) (c .ebi)) (freed-nobody (c .imsi) (c .ebi)) l))
@@ -177,13 +198,13 @@ module _ (node : Node) (l : List Session) (k : keepsRules node l ≡ true) (c : 
       (counts ∙ sym (freed-sum l))
       reply node l
 
-  pub restart-same : heardCreate c seq (heardBy (c .recovery) node l) node l reply ≡ placedPair node (pairWith g l new) l comes
+  pub restart-same : heardCreate c seq (heardBy (c .recovery) node l) node l reply ≡ placedPair node (pairWith g l verdict) l comes
   unfolding heardCreate
   restart-same =
       rw (heard-freed (c .recovery) node l again)
       (ap (λ (x : Node). settledAt (foundIn (hasId (c .imsi) (c .ebi)) gone) c seq x gone node l reply) (sym (heard-twice (c .recovery) node))
       ∙ settled-gone
-      ∙ ap (λ (q : ℕ). placedTwo after (pairWith g gone q) gone (openOn c seq after (pairWith g gone q) reply)) new-same
-      ∙ ap (λ (m : Made). placedTwo after (pairWith g gone new) gone m) (made-same new)
-      ∙ places-same new comes
+      ∙ ap (λ (v : Verdict). placedTwo after (pairWith g gone v) gone (openOn c seq after (pairWith g gone v) reply)) verdict-same
+      ∙ ap (λ (m : Made). placedTwo after (pairWith g gone verdict) gone m) (made-same verdict)
+      ∙ places-same verdict comes
       ∙ sym put-same)

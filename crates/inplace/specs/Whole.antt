@@ -1,134 +1,45 @@
 -- Take control datagram on two records is take control datagram on the whole table, for any datagram, any table and any reply buffer.
 -- Assumes nothing.
 use Prim.Native.Nat.{ℕ}
-use mathlib.Core.Bool.{Bool, true, false}
+use mathlib.Core.Bool.{Bool, true, false, _&&_}
 use mathlib.Core.List.{List, map}
 use mathlib.Core.Path.{_≡_, refl, sym, ap, _∙_}
 use native.Mathlib.Omega.{arith}
-use lib.ListN.{length, drop, getD, set, length-set, length-map}
+use lib.ListN.{length, getD, set, length-set, length-map}
 use lib.Seq.{set-out}
-use lib.Dec.{eqb, ltb}
+use lib.Dec.{ltb}
+use borrow.Author.Tests.{ltb-true, ltb-false}
 use Rattle.octets.specs.Choice.{pick, split}
 use Rattle.octets.specs.Overlay.{overlay}
 use Rattle.tunnel.specs.Numbering.{places}
+use Rattle.tunnel.specs.declared.ControlTeid.{ControlTeid}
 use Rattle.session.specs.declared.Session.{Session}
-use Rattle.session.specs.Request.{awaits}
 use Rattle.session.specs.Session.{freed}
 use Rattle.table.specs.declared.Node.{Node}
 use Rattle.table.specs.Rules.{keepsRules, rules-of}
 use Rattle.table.specs.Change.{nobody}
 use Rattle.messages.specs.Messages.{versionNotSupported, echoOf}
-use Rattle.header.specs.declared.HeaderCursor.{HeaderCursor}
-use Rattle.header.specs.Header.{headerOf}
-use Rattle.header.specs.Gate.{gateOf}
+use Rattle.messages.specs.Types.{echoReplyType}
 use Rattle.readers.specs.declared.Recovery.{Recovery}
 use Rattle.readers.specs.declared.Recovery.the-variants as R
-use Rattle.carried.specs.Carried as carried
-use Rattle.carried.specs.declared.EchoReply.{EchoReply}
-use Rattle.carried.specs.declared.EchoReply.the-variants as E
 use Rattle.requests.specs.declared.Create as C
-use Rattle.requests.specs.declared.Decoded.{Decoded}
-use Rattle.requests.specs.declared.Decoded.the-variants as D
-use Rattle.requests.specs.declared.Request.the-variants as Q
-use Rattle.requests.specs.Create.{createOf, replyTo}
-use Rattle.timing.specs.Outcome.{Outcome, outcome, replied, onOwner, leastReply, noReply}
+use Rattle.wishes.specs.declared.Concern.{Concern}
+use Rattle.wishes.specs.declared.Asked.{Asked}
+use Rattle.wishes.specs.declared.Asked.the-variants as A
+use Rattle.wishes.specs.Asked.{askedOf}
+use Rattle.timing.specs.Outcome.{Outcome, outcome, onOwner, leastReply, noReply}
 use Rattle.control.specs.Echoes.{restartsBy, heardNode, heardBy, heard-same as heard-still, echoTaken, echoEnded, echoReplyTaken}
-use Rattle.control.specs.Kind.{Kind, kindBy}
-use Rattle.control.specs.Kind as K
-use Rattle.control.specs.Amends.{causeTaken, sessionOf}
-use Rattle.control.specs.Creates.{heardCreate, createBy, createTaken}
-use Rattle.control.specs.Control.{kindTaken, gateTaken, controlTaken}
-use Rattle.single.specs.Single.{Singled, singleOf}
-use Rattle.wishes.specs.declared.Wish.{Wish}
-use Rattle.wishes.specs.declared.Wish.the-variants as W
-use Rattle.wishes.specs.Wishes.{asksEnd, asksOpen, asksBy, asksKind, asksPast, asksFor, restartsIn, brokenBy}
+use Rattle.control.specs.Amends.{causeTaken, sessionOn}
+use Rattle.control.specs.Creates.{heardCreate, createTaken}
+use Rattle.control.specs.Control.{askedTaken, controlTaken}
+use Rattle.single.specs.Single.{Singled, doneWith, ofNumber}
 use Rattle.openings.specs.declared.Sight.{Sight}
 use Rattle.openings.specs.declared.Pair.{Pair}
-use Rattle.openings.specs.Openings.{newPlace, openPlace, pairBy, pairWith, pairIn, Made, made, unmovedOn, namedMade, namedOn, openOn, wishTaken, takenOn, taken-broken, taken-kept, restedNode, nodeAfter, pairPut, placedPair}
-use Rattle.inplace.specs.Single.{placedOne, named-same}
+use Rattle.openings.specs.Openings.{restartsIn, restartsNow, verdictOf, verdictIn, opensAt, pairBy, pairWith, pairIn, Made, made, unmovedOn, namedMade, namedOn, openOn, askedOn, takenOn, taken-short, taken-broken, taken-kept, restedNode, nodeAfter, pairPut, placedPair}
+use Rattle.inplace.specs.Single.{placedOne, owner-same}
 use Rattle.inplace.specs.Create.{stays, settled-same}
 use Rattle.inplace.specs.Restart.{heard-either, put-none, put-all, placed-none, open-ended, restart-same}
 use Rattle.inplace.specs.Seen.{Cleared, Sees}
-
--- ---- what is asked for, on the whole table
-unfoldable pub askedTaken : Node → List Session → Wish → List ℕ → List ℕ → Outcome
-askedTaken node t W.Short d reply = noReply 1 node t reply
-askedTaken node t (W.Silent number) d reply = noReply number node t reply
-askedTaken node t W.Version d reply = replied 5 node t versionNotSupported reply
-askedTaken node t (W.Echo recovery seq) d reply = echoTaken node t seq recovery reply
-askedTaken node t (W.Ended recovery) d reply =
-    noReply 0 (echoEnded (heardBy recovery node t) .node) (echoEnded (heardBy recovery node t) .table) reply
-askedTaken node t (W.Named h) d reply = onOwner node t (h .teid) (sessionOf h (drop (h .fields) d)) reply
-askedTaken node t (W.Refused w to seq) d reply = causeTaken 33 to seq w node t reply
-askedTaken node t (W.Open c seq) d reply = heardCreate c seq (heardBy (c .recovery) node t) node t reply
-
--- that it is what take control datagram does
-module _ (node : Node) (t : List Session) (reply : List ℕ) where
-  end-asked : (d : List ℕ) (seq : ℕ) (a : EchoReply) → echoReplyTaken node t seq a reply ≡ askedTaken node t (asksEnd a seq node) d reply
-  unfolding echoReplyTaken asksEnd askedTaken
-  end-asked d seq E.Unreadable = refl
-  end-asked d seq (E.Carries recovery) = split (awaits seq (node .echo)) (λ e. rw e) (λ e. rw e)
-
-  open-asked : (d : List ℕ) (seq : ℕ) (rest : List ℕ) (x : Decoded) → createBy x seq (replyTo rest) node t reply ≡ askedTaken node t (asksOpen x seq rest) d reply
-  unfolding createBy asksOpen askedTaken
-  open-asked d seq rest (D.Refused w) = refl
-  open-asked d seq rest (D.Sound (Q.Create c)) = refl
-  open-asked d seq rest (D.Sound (Q.Modify m)) = refl
-  open-asked d seq rest (D.Sound (Q.Delete x)) = refl
-
-  kind-asked : (d : List ℕ) (h : HeaderCursor) (k : Kind) → kindTaken k h (drop (h .fields) d) node t reply ≡ askedTaken node t (asksBy k h (drop (h .fields) d) node) d reply
-  unfolding kindTaken asksBy askedTaken createTaken
-  kind-asked d h K.Echo = refl
-  kind-asked d h K.EchoReply = end-asked d (h .sequence) (carried.echoReplyOf (drop (h .fields) d))
-  kind-asked d h K.Create = open-asked d (h .sequence) (drop (h .fields) d) (createOf (node .plan) (drop (h .fields) d))
-  kind-asked d h K.Named = refl
-  kind-asked d h K.Other = refl
-
-  gate-asked : (d : List ℕ) (number : ℕ) → gateTaken number d node t reply ≡ askedTaken node t (asksPast number node d) d reply
-  unfolding gateTaken asksPast asksKind askedTaken
-  gate-asked d number =
-      split (eqb number 0) (λ a. rw a (kind-asked d (headerOf d) (kindBy (headerOf d .kind)))) (λ a. split (eqb number 5) (λ b. rw (a, b)) (λ b. rw (a, b)))
-
--- with room for the reply a broken table is number 2
-module _ (node : Node) where
-  end-broken : (seq : ℕ) (a : EchoReply) → brokenBy (asksEnd a seq node) ≡ 2
-  unfolding asksEnd brokenBy
-  end-broken seq E.Unreadable = refl
-  end-broken seq (E.Carries recovery) = split (awaits seq (node .echo)) (λ e. rw e) (λ e. rw e)
-
-  open-broken : (seq : ℕ) (rest : List ℕ) (x : Decoded) → brokenBy (asksOpen x seq rest) ≡ 2
-  unfolding asksOpen brokenBy
-  open-broken seq rest (D.Refused w) = refl
-  open-broken seq rest (D.Sound (Q.Create c)) = refl
-  open-broken seq rest (D.Sound (Q.Modify m)) = refl
-  open-broken seq rest (D.Sound (Q.Delete x)) = refl
-
-  kind-broken : (h : HeaderCursor) (rest : List ℕ) (k : Kind) → brokenBy (asksBy k h rest node) ≡ 2
-  unfolding asksBy brokenBy
-  kind-broken h rest K.Echo = refl
-  kind-broken h rest K.EchoReply = end-broken (h .sequence) (carried.echoReplyOf rest)
-  kind-broken h rest K.Create = open-broken (h .sequence) rest (createOf (node .plan) rest)
-  kind-broken h rest K.Named = refl
-  kind-broken h rest K.Other = refl
-
-  past-broken : (d : List ℕ) (number : ℕ) → brokenBy (asksPast number node d) ≡ 2
-  unfolding asksPast asksKind brokenBy
-  past-broken d number =
-      split (eqb number 0) (λ a. rw a (kind-broken (headerOf d) (drop (headerOf d .fields) d) (kindBy (headerOf d .kind))))
-      (λ a. split (eqb number 5) (λ b. rw (a, b)) (λ b. rw (a, b)))
-
--- take control datagram by what is asked for
-control-asked : (node : Node) (l : List Session) (d reply : List ℕ)
-    → controlTaken node l d reply
-    ≡ pick (keepsRules node l) (askedTaken node l (asksFor node d (length reply)) d reply)
-    (noReply (brokenBy (asksFor node d (length reply))) node l reply)
-unfolding controlTaken asksFor askedTaken brokenBy
-control-asked node l d reply =
-    split (ltb (length reply) leastReply)
-    (λ a. rw a (split (keepsRules node l) (λ k. rw k) (λ k. rw k)))
-    (λ a. rw a (split (keepsRules node l)
-    (λ k. rw k (gate-asked node l reply d (gateOf d)))
-    (λ k. rw (k, past-broken node d (gateOf d)))))
 
 -- ---- on two records
 -- the two put back as they were, the others freed or as they were
@@ -155,36 +66,36 @@ unfolding placedPair
 placed-by node p l m x e =
     ap (λ (y : List Session). outcome (record { number = m .answer .number; size = m .answer .size; node = nodeAfter (m .answer) node }) y (m .reply)) e
 
-module _ (node : Node) (l : List Session) (d reply : List ℕ) (g : Sight) where
-  abbrev pairFor : Wish → Pair
+module _ (node : Node) (l : List Session) (reply : List ℕ) (g : Sight) where
+  abbrev pairFor : Asked → Pair
   pairFor w = pairIn g node l w
 
-  abbrev comesTo : Wish → Outcome
-  comesTo w = placedPair node (pairFor w) l (wishTaken node w (pairFor w) d reply)
+  abbrev comesTo : Asked → Outcome
+  comesTo w = placedPair node (pairFor w) l (askedOn node w (pairFor w) reply)
 
   -- the two records are those of their places
-  old-at : (w : Wish) → pairFor w .oldrecord ≡ getD l (pairFor w .old) nobody
+  old-at : (w : Asked) → pairFor w .oldrecord ≡ getD l (pairFor w .old) nobody
   unfolding pairIn pairBy
   old-at w = refl
 
-  new-at : (w : Wish) → pairFor w .newrecord ≡ getD l (pairFor w .new) nobody
+  new-at : (w : Asked) → pairFor w .newrecord ≡ getD l (pairFor w .new) nobody
   unfolding pairIn pairBy
   new-at w = refl
 
-  all-at : (w : Wish) → pairFor w .all ≡ g .all
+  all-at : (w : Asked) → pairFor w .all ≡ g .all
   unfolding pairIn pairBy
   all-at w = refl
 
-  place-at : (w : Wish) → pairFor w .old ≡ g .old
+  place-at : (w : Asked) → pairFor w .old ≡ g .old
   unfolding pairIn pairBy
   place-at w = refl
 
-  kept-at : (w : Wish) → pairFor w .kept ≡ g .kept
+  kept-at : (w : Asked) → pairFor w .kept ≡ g .kept
   unfolding pairIn pairBy
   kept-at w = refl
 
   -- nothing moves
-  still-same : (w : Wish) (number size : ℕ) (left : List ℕ) → g .all ≡ false
+  still-same : (w : Asked) (number size : ℕ) (left : List ℕ) → g .all ≡ false
       → outcome (record { number = number; size = size; node = node }) l left
       ≡ placedPair node (pairFor w) l (made (unmovedOn number size false R.None (pairFor w)) left)
   unfolding unmovedOn nodeAfter heardNode
@@ -193,7 +104,7 @@ module _ (node : Node) (l : List Session) (d reply : List ℕ) (g : Sight) where
       (put-still l (pairFor w) (old-at w) (new-at w) number size false R.None (all-at w ∙ a)))
 
   -- a Recovery is stored, and all are freed or nothing moves
-  put-heard : (w : Wish) (size : ℕ) (ended : Bool) (heard : Recovery) → length l ≡ places → pairFor w .new ≡ places → (g .all ≡ true → Cleared g)
+  put-heard : (w : Asked) (size : ℕ) (ended : Bool) (heard : Recovery) → length l ≡ places → pairFor w .new ≡ places → (g .all ≡ true → Cleared g)
       → pairPut l (pairFor w) (unmovedOn 0 size ended heard (pairFor w)) ≡ pick (g .all) (map freed l) l
   put-heard w size ended heard n j clear = by (g .all) refl
     where
@@ -201,100 +112,103 @@ module _ (node : Node) (l : List Session) (d reply : List ℕ) (g : Sight) where
       by true a = put-freed l (pairFor w) (old-at w) (new-at w) 0 size ended heard (all-at w ∙ a) n (place-at w ∙ clear a .old) j
       by false a = put-still l (pairFor w) (old-at w) (new-at w) 0 size ended heard (all-at w ∙ a)
 
-  module _ (k : keepsRules node l ≡ true) where
-    none : (w : Wish) → Sees node l w g → restartsIn w node ≡ false → g .all ≡ false
-    none w sees e = sees .all ∙ rw (k, e)
+  module _ (k : keepsRules node l ≡ true) (room : ltb (length reply) leastReply ≡ false) where
+    all-of : (w : Asked) → Sees node l w (length reply) g → g .all ≡ restartsIn w node
+    unfolding restartsNow
+    all-of w sees = sees .all ∙ rw (k, room)
 
-    all-of : (w : Wish) → Sees node l w g → g .all ≡ restartsIn w node
-    all-of w sees = sees .all ∙ rw k
+    none : (w : Asked) → Sees node l w (length reply) g → restartsIn w node ≡ false → g .all ≡ false
+    none w sees e = all-of w sees ∙ e
 
-    echo-same : (r : Recovery) (seq : ℕ) → Sees node l (W.Echo r seq) g → echoTaken node l seq r reply ≡ comesTo (W.Echo r seq)
-    unfolding echoTaken wishTaken unmovedOn nodeAfter restartsIn newPlace pairIn pairBy
+    echo-same : (r : Recovery) (seq : ℕ) → Sees node l (A.Echo r seq) (length reply) g → echoTaken node l seq r reply ≡ comesTo (A.Echo r seq)
+    unfolding echoTaken askedOn unmovedOn nodeAfter restartsIn verdictIn opensAt pairIn pairBy
     echo-same r seq sees =
-        let w = W.Echo r seq in
+        let w = A.Echo r seq in
         rw (heard-either r node l, ← all-of w sees)
-        (sym (placed-by node (pairFor w) l (wishTaken node w (pairFor w) d reply) (pick (g .all) (map freed l) l)
-        (put-heard w (length (echoOf 2 seq (node .plan .recovery))) false r (rules-of node l k .size) refl (sees .cleared))))
+        (sym (placed-by node (pairFor w) l (askedOn node w (pairFor w) reply) (pick (g .all) (map freed l) l)
+        (put-heard w (length (echoOf echoReplyType seq (node .plan .recovery))) false r (rules-of node l k .size) refl (sees .cleared))))
 
-    ended-same : (r : Recovery) → Sees node l (W.Ended r) g
-        → noReply 0 (echoEnded (heardBy r node l) .node) (echoEnded (heardBy r node l) .table) reply ≡ comesTo (W.Ended r)
-    unfolding noReply echoEnded wishTaken unmovedOn nodeAfter restedNode restartsIn newPlace pairIn pairBy
+    ended-same : (r : Recovery) → Sees node l (A.EchoReply r) (length reply) g → echoReplyTaken node l r reply ≡ comesTo (A.EchoReply r)
+    unfolding echoReplyTaken noReply echoEnded askedOn unmovedOn nodeAfter restedNode restartsIn verdictIn opensAt pairIn pairBy
     ended-same r sees =
-        let w = W.Ended r in
+        let w = A.EchoReply r in
         rw (heard-either r node l, ← all-of w sees)
-        (sym (placed-by node (pairFor w) l (wishTaken node w (pairFor w) d reply) (pick (g .all) (map freed l) l)
+        (sym (placed-by node (pairFor w) l (askedOn node w (pairFor w) reply) (pick (g .all) (map freed l) l)
         (put-heard w 0 true r (rules-of node l k .size) refl (sees .cleared))))
 
-    one-put : (h : HeaderCursor) (q : Singled) → g .all ≡ false
-        → pairPut l (pairFor (W.Named h)) (namedMade q (pairFor (W.Named h)) .answer) ≡ set l (g .old) (q .answer .session)
-    unfolding namedMade newPlace pairIn pairBy
-    one-put h q a =
-        let n = rules-of node l k .size in
-        let m = length-set l (g .old) (q .answer .session) in
-        put-none l (pairFor (W.Named h)) (namedMade q (pairFor (W.Named h)) .answer) a
-        ∙ set-out (set l (g .old) (q .answer .session)) places (getD l places nobody) (omega arith)
+    module _ (teid : ControlTeid) (seq : ℕ) (x : Concern) where
+      abbrev w : Asked
+      w = A.Session teid seq x
 
-    one-same : (h : HeaderCursor) (q : Singled) → g .all ≡ false
-        → placedOne node (g .old) l q ≡ placedPair node (pairFor (W.Named h)) l (namedMade q (pairFor (W.Named h)))
-    unfolding placedOne namedMade nodeAfter heardNode
-    one-same h q a =
-        sym (placed-by node (pairFor (W.Named h)) l (namedMade q (pairFor (W.Named h))) (set l (g .old) (q .answer .session)) (one-put h q a))
+      one-put : (q : Singled) → g .all ≡ false → pairPut l (pairFor w) (namedMade q (pairFor w) .answer) ≡ set l (g .old) (q .answer .session)
+      unfolding namedMade verdictIn opensAt pairIn pairBy
+      one-put q a =
+          let n = rules-of node l k .size in
+          let m = length-set l (g .old) (q .answer .session) in
+          put-none l (pairFor w) (namedMade q (pairFor w) .answer) a
+          ∙ set-out (set l (g .old) (q .answer .session)) places (getD l places nobody) (omega arith)
 
-    single-same : (h : HeaderCursor) → Sees node l (W.Named h) g → onOwner node l (h .teid) (sessionOf h (drop (h .fields) d)) reply ≡ comesTo (W.Named h)
-    unfolding wishTaken namedOn restartsIn
-    single-same h sees =
-        let i = sees .named h refl in
-        named-same node l reply (rules-of node l k .size) h (drop (h .fields) d)
-        ∙ ap (λ (x : ℕ). placedOne node x l (singleOf h (drop (h .fields) d) (getD l x nobody) reply)) (sym i)
-        ∙ one-same h (singleOf h (drop (h .fields) d) (getD l (g .old) nobody) reply) (none (W.Named h) sees refl)
-        ∙ at-old h
-      where
-        at-old : (h : HeaderCursor) → placedPair node (pairFor (W.Named h)) l (namedMade (singleOf h (drop (h .fields) d) (getD l (g .old) nobody) reply) (pairFor (W.Named h)))
-            ≡ placedPair node (pairFor (W.Named h)) l (namedMade (singleOf h (drop (h .fields) d) (pairFor (W.Named h) .oldrecord) reply) (pairFor (W.Named h)))
-        at-old h = rw (old-at (W.Named h), place-at (W.Named h))
+      one-same : (q : Singled) → g .all ≡ false → placedOne node (g .old) l q ≡ placedPair node (pairFor w) l (namedMade q (pairFor w))
+      unfolding placedOne namedMade nodeAfter heardNode
+      one-same q a = sym (placed-by node (pairFor w) l (namedMade q (pairFor w)) (set l (g .old) (q .answer .session)) (one-put q a))
 
-    open-same : (c : C.Create) (seq : ℕ) → Sees node l (W.Open c seq) g
-        → heardCreate c seq (heardBy (c .recovery) node l) node l reply ≡ comesTo (W.Open c seq)
-    unfolding wishTaken newPlace pairIn restartsIn heardCreate
-    open-same c seq sees =
-        let w = W.Open c seq in
+      at-old : placedPair node (pairFor w) l (namedMade (doneWith (ofNumber (teid .0) x seq (getD l (g .old) nobody)) reply) (pairFor w))
+          ≡ placedPair node (pairFor w) l (namedMade (doneWith (ofNumber (teid .0) x seq (pairFor w .oldrecord)) reply) (pairFor w))
+      at-old = rw (old-at w, place-at w)
+
+      session-same : Sees node l w (length reply) g → onOwner node l (teid .0) (sessionOn x seq) reply ≡ comesTo w
+      unfolding askedOn namedOn restartsIn
+      session-same sees =
+          let i = sees .named teid seq x refl in
+          owner-same node l reply (rules-of node l k .size) (teid .0) x seq
+          ∙ ap (λ (y : ℕ). placedOne node y l (doneWith (ofNumber (teid .0) x seq (getD l y nobody)) reply)) (sym i)
+          ∙ one-same (doneWith (ofNumber (teid .0) x seq (getD l (g .old) nobody)) reply) (none w sees refl)
+          ∙ at-old
+
+    create-same : (c : C.Create) (seq : ℕ) → Sees node l (A.Create c seq) (length reply) g → createTaken c seq node l reply ≡ comesTo (A.Create c seq)
+    unfolding createTaken askedOn verdictIn pairIn restartsIn heardCreate
+    create-same c seq sees =
+        let w = A.Create c seq in
         let a = all-of w sees in
         split (restartsBy (c .recovery) node)
         (λ e. let z = sees .cleared (a ∙ e) in restart-same node l k c seq e g (z .old) (z .free) (z .counts) (a ∙ e) reply)
         (λ e. let f = sees .known c seq refl k (a ∙ e) in
-        let q = openPlace g node c seq (getD l (g .old) nobody) in
+        let v = verdictOf g node c seq (getD l (g .old) nobody) in
         rw (heard-still (c .recovery) node l e)
         (settled-same node l k c seq g (f .old) (f .free) (f .counts) reply node l
-        ∙ sym (placed-none node l (pairWith g l q) (openOn c seq node (pairWith g l q) reply) (open-ended c seq node (pairWith g l q) reply) (all-at w ∙ a ∙ e))))
+        ∙ sym (placed-none node l (pairWith g l v) (openOn c seq node (pairWith g l v) reply) (open-ended c seq node (pairWith g l v) reply) (all-at w ∙ a ∙ e))))
 
-    wish-same : (w : Wish) → Sees node l w g → askedTaken node l w d reply ≡ comesTo w
-    unfolding askedTaken wishTaken restartsIn noReply causeTaken
-    wish-same W.Short sees = still-same W.Short 1 0 reply (none W.Short sees refl)
-    wish-same (W.Silent number) sees = still-same (W.Silent number) number 0 reply (none (W.Silent number) sees refl)
-    wish-same W.Version sees = still-same W.Version 5 (length versionNotSupported) (overlay versionNotSupported reply) (none W.Version sees refl)
-    wish-same (W.Echo r seq) sees = echo-same r seq sees
-    wish-same (W.Ended r) sees = ended-same r sees
-    wish-same (W.Named h) sees = single-same h sees
-    wish-same (W.Refused w to seq) sees = still-same (W.Refused w to seq) _ _ _ (none (W.Refused w to seq) sees refl)
-    wish-same (W.Open c seq) sees = open-same c seq sees
-
-  -- whatever the table
-  settled : (w : Wish) → Sees node l w g
-      → pick (keepsRules node l) (askedTaken node l w d reply) (noReply (brokenBy w) node l reply)
-      ≡ placedPair node (pairFor w) l (takenOn node w (pairFor w) d reply)
-  unfolding noReply
-  settled w sees = split (keepsRules node l)
-      (λ k. rw (k, taken-kept node w (pairFor w) d reply (kept-at w ∙ sees .kept ∙ k)) (wish-same k w sees))
-      (λ k. rw (k, taken-broken node w (pairFor w) d reply (kept-at w ∙ sees .kept ∙ k))
-      (still-same w (brokenBy w) 0 reply (sees .all ∙ rw k)))
+    asked-same : (w : Asked) → Sees node l w (length reply) g → askedTaken node l w reply ≡ comesTo w
+    unfolding askedTaken askedOn restartsIn noReply causeTaken
+    asked-same (A.Silent number) sees = still-same (A.Silent number) number 0 reply (none (A.Silent number) sees refl)
+    asked-same A.Version sees = still-same A.Version 5 (length versionNotSupported) (overlay versionNotSupported reply) (none A.Version sees refl)
+    asked-same (A.Echo r seq) sees = echo-same r seq sees
+    asked-same (A.EchoReply r) sees = ended-same r sees
+    asked-same (A.Create c seq) sees = create-same c seq sees
+    asked-same (A.Refused w to seq) sees = still-same (A.Refused w to seq) _ _ _ (none (A.Refused w to seq) sees refl)
+    asked-same (A.Session teid seq x) sees = session-same teid seq x sees
 
 -- ---- take control datagram
 unfoldable pub InPlace : Type 0
-InPlace = (node : Node) (l : List Session) (d reply : List ℕ) (g : Sight) → Sees node l (asksFor node d (length reply)) g
-    → controlTaken node l d reply
-    ≡ placedPair node (pairIn g node l (asksFor node d (length reply))) l
-    (takenOn node (asksFor node d (length reply)) (pairIn g node l (asksFor node d (length reply))) d reply)
+InPlace = (node : Node) (l : List Session) (d reply : List ℕ) (g : Sight) → Sees node l (askedOf node d) (length reply) g
+    → controlTaken node l d reply ≡ placedPair node (pairIn g node l (askedOf node d)) l (takenOn node (askedOf node d) (pairIn g node l (askedOf node d)) reply)
 
+-- where the reply buffer is short or the rules are broken, nothing moves
 pub control-same : InPlace
-unfolding InPlace
-control-same node l d reply g sees = control-asked node l d reply ∙ settled node l d reply g (asksFor node d (length reply)) sees
+unfolding InPlace controlTaken noReply restartsNow
+control-same node l d reply g sees =
+    split (ltb (length reply) leastReply)
+    (λ s. rw (s, ← taken-short node w p reply (ltb-true (length reply) leastReply s)) (still-same node l reply g w 1 0 reply (sees .all ∙ off-short s)))
+    (λ s. let room = ltb-false (length reply) leastReply s in
+    split (keepsRules node l)
+    (λ k. rw (s, k, ← taken-kept node w p reply room (kept-at node l reply g w ∙ sees .kept ∙ k)) (asked-same node l reply g k s w sees))
+    (λ k. rw (s, k, ← taken-broken node w p reply room (kept-at node l reply g w ∙ sees .kept ∙ k)) (still-same node l reply g w 2 0 reply (sees .all ∙ rw k))))
+  where
+    w : Asked
+    w = askedOf node d
+
+    p : Pair
+    p = pairIn g node l (askedOf node d)
+
+    off-short : ltb (length reply) leastReply ≡ true → (keepsRules node l && restartsNow (length reply) (askedOf node d) node) ≡ false
+    off-short s = rw s (split (keepsRules node l) (λ k. rw k) (λ k. rw k))

@@ -18,12 +18,13 @@ use Rattle.timing.specs.declared.Answer.{Answer}
 use Rattle.glance.specs.declared.Seen.{Seen}
 use Rattle.glance.specs.Glance.{standsBy, stands-kept}
 use Rattle.lentrules.specs.Kept.{seenOf, seen-how, seen-packed, seen-old, seen-free}
-use Rattle.wishes.specs.declared.Wish.{Wish}
-use Rattle.wishes.specs.Wishes.{asksFor, aimOf}
+use Rattle.wishes.specs.declared.Asked.{Asked}
+use Rattle.wishes.specs.Asked.{askedOf}
 use Rattle.openings.specs.declared.Sight.{Sight}
 use Rattle.openings.specs.declared.Pair.{Pair}
 use Rattle.openings.specs.declared.Opened.{Opened}
-use Rattle.openings.specs.Openings.{sightOf, newPlace, pairBy, pairIn, made, takenOn, nodeAfter, freedCount, pairPut, placedPair}
+use Rattle.openings.specs.declared.Verdict.{Verdict}
+use Rattle.openings.specs.Openings.{aimOf, sightOf, verdictIn, opensAt, pairBy, pairIn, made, takenOn, nodeAfter, freedCount, pairPut, placedPair}
 use Rattle.inplace.specs.Seen.{Told, sight-sees}
 use Rattle.inplace.specs.Whole.{InPlace, control-same}
 
@@ -41,8 +42,11 @@ unfoldable pub leftOpened : Node → Opened → Answer
 leftOpened node o = record { number = o .number; size = o .size; node = nodeAfter o node }
 
 -- the two records that are concerned
-unfoldable pub pairLent : Node → List Session → Wish → Pair
-pairLent node l w = pairIn (sightOf (seenOf node (aimOf w .key) l) node w) node l w
+unfoldable pub sightLent : Node → List Session → Asked → ℕ → Sight
+sightLent node l a room = sightOf (seenOf node (aimOf a .key) l) node a room
+
+unfoldable pub pairLent : Node → List Session → Asked → ℕ → Pair
+pairLent node l a room = pairIn (sightLent node l a room) node l a
 
 -- all freed where the exchange restarted, and the two put back
 unfoldable pub freedLent : List Session → Pair → List Session
@@ -51,15 +55,20 @@ freedLent l p = mapFirst (changedBy Ch.Free) (freedCount p) l
 unfoldable pub twoPut : List Session → Pair → Opened → List Session
 twoPut l p o = set (set l (p .old) (o .old)) (p .new) (o .new)
 
-unfoldable pub settledLent : Node → List Session → Wish → List ℕ → List ℕ → Outcome
-settledLent node l w d reply = placedPair node (pairLent node l w) l (takenOn node w (pairLent node l w) d reply)
+unfoldable pub settledLent : Node → List Session → Asked → List ℕ → Outcome
+settledLent node l a reply = placedPair node (pairLent node l a (length reply)) l (takenOn node a (pairLent node l a (length reply)) reply)
 
 -- ---- in the words of the code
-pub pair-lent : (node : Node) (l : List Session) (w : Wish) (key : ℕ) (v : Seen) (g : Sight) (old new : ℕ) (s t : Session) (r : Pair)
-    → key ≡ aimOf w .key → v ≡ seenOf node key l → g ≡ sightOf v node w → old ≡ g .old → s ≡ getD l old nobody → new ≡ newPlace g node w s → t ≡ getD l new nobody
-    → r ≡ pairBy g s new t → r ≡ pairLent node l w
+pub sight-lent : (node : Node) (l : List Session) (a : Asked) (room key : ℕ) (v : Seen) (r : Sight)
+    → key ≡ aimOf a .key → v ≡ seenOf node key l → r ≡ sightOf v node a room → r ≡ sightLent node l a room
+unfolding sightLent
+sight-lent node l a room key v r e-k e-v e-r = rw (e-r, e-v, e-k)
+
+pub pair-lent : (node : Node) (l : List Session) (a : Asked) (room : ℕ) (g : Sight) (old new : ℕ) (y : Verdict) (s t : Session) (r : Pair)
+    → g ≡ sightLent node l a room → old ≡ g .old → s ≡ getD l old nobody → y ≡ verdictIn g node a s → new ≡ opensAt y → t ≡ getD l new nobody
+    → r ≡ pairBy g s y t → r ≡ pairLent node l a room
 unfolding pairLent pairIn
-pair-lent node l w key v g old new s t r e-k e-v e-g e-old e-s e-new e-t e-r = rw (e-r, e-t, e-new, e-s, e-old, e-g, e-v, e-k)
+pair-lent node l a room g old new y s t r e-g e-old e-s e-y e-new e-t e-r = rw (e-r, e-t, e-new, e-y, e-s, e-old, e-g)
 
 pub freed-lent : (l xs : List Session) (p : Pair) (n : ℕ) (c : Change) → n ≡ freedCount p → c ≡ Ch.Free → xs ≡ mapFirst (changedBy c) n l → xs ≡ freedLent l p
 unfolding freedLent
@@ -75,17 +84,16 @@ pub pair-put : (l xs zs : List Session) (p : Pair) (o : Opened) → xs ≡ freed
 unfolding freedLent twoPut pairPut
 pair-put l xs zs p o e-xs e-zs = rw (e-zs, e-xs)
 
-pub settled-lent : (node : Node) (l zs : List Session) (w : Wish) (d reply after : List ℕ) (p : Pair) (o : Opened) (r : Answer)
-    → p ≡ pairLent node l w → made o after ≡ takenOn node w p d reply → zs ≡ pairPut l p o → r ≡ leftOpened node o
-    → outcome r zs after ≡ settledLent node l w d reply
+pub settled-lent : (node : Node) (l zs : List Session) (a : Asked) (reply after : List ℕ) (p : Pair) (o : Opened) (r : Answer)
+    → p ≡ pairLent node l a (length reply) → made o after ≡ takenOn node a p reply → zs ≡ pairPut l p o → r ≡ leftOpened node o
+    → outcome r zs after ≡ settledLent node l a reply
 unfolding settledLent placedPair leftOpened
-settled-lent node l zs w d reply after p o r e-p e-o e-zs e-r = rw (e-r, e-zs, ← e-p, ← e-o)
+settled-lent node l zs a reply after p o r e-p e-o e-zs e-r = rw (e-r, e-zs, ← e-p, ← e-o)
 
 -- ---- in place as on all
-pub control-lent : (node : Node) (l : List Session) (d reply : List ℕ) (x : Outcome) (w : Wish)
-    → w ≡ asksFor node d (length reply) → x ≡ settledLent node l w d reply → x ≡ controlTaken node l d reply
-unfolding settledLent pairLent InPlace
-control-lent node l d reply x w e-w e-x =
-    let a = asksFor node d (length reply) in
-    let v = seenOf node (aimOf a .key) l in
-    e-x ∙ rw e-w (sym (control-same node l d reply (sightOf v node a) (sight-sees node l v d (length reply) (seen-told node (aimOf a .key) l))))
+pub control-lent : (node : Node) (l : List Session) (d reply : List ℕ) (x : Outcome) (a : Asked)
+    → a ≡ askedOf node d → x ≡ settledLent node l a reply → x ≡ controlTaken node l d reply
+unfolding settledLent pairLent sightLent InPlace
+control-lent node l d reply x a e-a e-x =
+    let v = seenOf node (aimOf (askedOf node d) .key) l in
+    e-x ∙ rw e-a (sym (control-same node l d reply (sightOf v node (askedOf node d) (length reply)) (sight-sees node l v d (length reply) (seen-told node (aimOf (askedOf node d) .key) l))))

@@ -2,15 +2,16 @@
 // once, and what it asks for is done where the two records lie that it can concern.
 use openings::Opened;
 use openings::Pair;
+use openings::Sight;
 use session::Session;
 use table::Node;
 use timing::Answer;
-use wishes::Wish;
+use wishes::Asked;
 ghost use mathlib.Core.Path.{_≡_};
 ghost use Rattle.timing.specs.Outcome.{outcome};
 ghost use Rattle.control.specs.Control.{controlTaken};
 ghost use Rattle.openings.specs.Openings.{pairPut};
-ghost use Rattle.lentcontrol.specs.Lent.{leftOpened, pairLent, freedLent, twoPut, settledLent};
+ghost use Rattle.lentcontrol.specs.Lent.{leftOpened, sightLent, pairLent, freedLent, twoPut, settledLent};
 
 fn left_opened(node: Node, o: Opened) -> Answer
     ensures { λ r. ⌜ r ≡ leftOpened node o ⌝ }
@@ -23,18 +24,26 @@ fn left_opened(node: Node, o: Opened) -> Answer
     }
 }
 
-// The two records that are concerned.
-fn pair_lent(node: Node, recs: &[Session], w: Wish) -> Pair
-    ensures { λ r. ⌜ r ≡ pairLent node (now (recs .entry)) w ⌝ }
+// The records are checked, with what is gone by of them.
+fn sight_lent(node: Node, recs: &[Session], asked: Asked, room: usize) -> Sight
+    ensures { λ r. ⌜ r ≡ sightLent node (now (recs .entry)) asked room ⌝ }
 {
-    let key = wishes::key_of(w);
+    let key = openings::key_of(asked);
     let seen = lentrules::seen(node, recs, key);
-    let g = openings::sight_of(seen, node, w);
+    openings::sight_of(seen, node, asked, room)
+}
+
+// The two records that are concerned, found and read.
+fn pair_lent(node: Node, recs: &[Session], asked: Asked, room: usize) -> Pair
+    ensures { λ r. ⌜ r ≡ pairLent node (now (recs .entry)) asked room ⌝ }
+{
+    let g = sight_lent(node, recs, asked, room);
     let old = openings::old_place(g);
     let s = lentedit::read(recs, old);
-    let new = openings::new_place(g, node, w, s);
+    let v = openings::verdict_in(g, node, asked, s);
+    let new = openings::opens_at(v);
     let t = lentedit::read(recs, new);
-    openings::pair_of(g, s, new, t)
+    openings::pair_of(g, s, v, t)
 }
 
 // Where the exchange restarted all are freed.
@@ -66,17 +75,17 @@ fn put_pair(recs: &mut [Session], p: Pair, o: Opened)
     put_two(recs, p, o);
 }
 
-// What is asked, on the two records that it concerns, where they lie.
-fn settled_lent(node: Node, recs: &mut [Session], w: Wish, d: &[u8], reply: &mut [u8]) -> Answer
-    ensures { λ r. ⌜ outcome r (now (recs .exit)) (now (reply .exit)) ≡ settledLent node (now (recs .entry)) w (now (d .entry)) (now (reply .entry)) ⌝ }
+// What is asked: the records are checked and the two that are concerned found, what becomes of them and the reply is made, and they are put back.
+fn settled_lent(node: Node, recs: &mut [Session], asked: Asked, reply: &mut [u8]) -> Answer
+    ensures { λ r. ⌜ outcome r (now (recs .exit)) (now (reply .exit)) ≡ settledLent node (now (recs .entry)) asked (now (reply .entry)) ⌝ }
 {
-    let p = pair_lent(node, recs, w);
-    let o = openings::take(node, w, p, d, reply);
+    let p = pair_lent(node, recs, asked, reply.len());
+    let o = openings::take(node, asked, p, reply);
     put_pair(recs, p, o);
     left_opened(node, o)
 }
 
-// Take control datagram.
+// Take control datagram: it is read, and what it asks for is done.
 #[no_mangle]
 pub extern "C" fn grugavorn_control(
     node: Node,
@@ -86,6 +95,6 @@ pub extern "C" fn grugavorn_control(
 ) -> Answer
     ensures { λ r. ⌜ outcome r (now (recs .exit)) (now (reply .exit)) ≡ controlTaken node (now (recs .entry)) (now (d .entry)) (now (reply .entry)) ⌝ }
 {
-    let w = wishes::asks(node, d, reply.len());
-    settled_lent(node, recs, w, d, reply)
+    let asked = wishes::asks(node, d);
+    settled_lent(node, recs, asked, reply)
 }

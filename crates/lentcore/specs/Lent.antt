@@ -7,6 +7,7 @@ use mathlib.Core.List.{List, []}
 use mathlib.Core.Path.{_≡_, sym, _∙_}
 use lib.ListN.{length}
 use lib.Dec.{eqb, ltb}
+use Rattle.octets.specs.Number.{replyShort, rulesBroken}
 use Rattle.octets.specs.Choice.{pick, split, impossible, and-left, and-right}
 use Rattle.tunnel.specs.Numbering.{places}
 use Rattle.session.specs.declared.Session.{Session}
@@ -17,18 +18,18 @@ use Rattle.timing.specs.Timing.{tickOf, closeOf, sendOf}
 
 -- 1 comes before 2; the number is by the reply buffer's length
 unfoldable pub uncounted : ℕ → ℕ
-uncounted room = pick {A = ℕ} (ltb room leastReply) 1 2
+uncounted room = pick {A = ℕ} (ltb room leastReply) replyShort rulesBroken
 
 module _ (node : Node) (t : List Session) (other : eqb (length t) places ≡ false) where
   pub rules-other : keepsRules node t ≡ false
   unfolding keepsRules
   rules-other = split (keepsRules node t) (λ e. let h : eqb (length t) places ≡ true = search (and-left, and-right) depth 9 in impossible (sym other ∙ h)) (λ e. e)
 
-  pub tick-other : tickOf node t ≡ noReply 2 node t []
+  pub tick-other : tickOf node t ≡ noReply rulesBroken node t []
   unfolding tickOf
   tick-other = rw rules-other
 
-  pub close-other : (place : ℕ) → closeOf node t place ≡ noReply 2 node t []
+  pub close-other : (place : ℕ) → closeOf node t place ≡ noReply rulesBroken node t []
   unfolding closeOf
   close-other place = rw rules-other
 

@@ -1,4 +1,5 @@
 // The line of a place, as firmware calls it: the caller lends its records to be read, and one of them is written.
+use octets::Number;
 use session::Session;
 use table::Node;
 use table::Table;
@@ -14,17 +15,17 @@ pub fn line_by(kept: bool, node: Node, place: usize, s: Session, reply: &mut [u8
     ensures { λ r. ⌜ back r (now (reply .exit)) ≡ lineBy kept (ltb place places) node place s (now (reply .entry)) ⌝ }
 {
     if reply.len() < Answer::LEAST_REPLY {
-        return Answer::bare(1, node);
+        return Answer::bare(Number::REPLY_SHORT, node);
     }
     if !kept {
-        return Answer::bare(2, node);
+        return Answer::bare(Number::RULES_BROKEN, node);
     }
     if Table::PLACES <= place {
-        return Answer::bare(10, node);
+        return Answer::bare(Number::NO_PLACE, node);
     }
     let size = placeline::put_line(reply, place, s);
     Answer {
-        number: 0,
+        number: Number::TAKEN,
         size,
         node,
     }

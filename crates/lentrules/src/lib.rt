@@ -50,7 +50,8 @@ pub fn digest_at(recs: &[Session], i: usize, b: Bounds) -> u64
     }
     let free = Session::is_free(recs[i]);
     if free {
-        return glance::free_digest(recs[i]);
+        let ok = Session::free_ok(recs[i]);
+        return glance::free_digest(ok);
     }
     glance::taken_digest(b, recs[i])
 }

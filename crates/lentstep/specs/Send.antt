@@ -8,6 +8,7 @@ use lib.ListN.{length, getD, set}
 use lib.Seq.{set-getD}
 use lib.Dec.{eqb, ltb}
 use borrow.Author.Tests.{not-true, not-false}
+use Rattle.octets.specs.Number.{taken, replyShort, rulesBroken, nothingDue}
 use Rattle.octets.specs.Choice.{pick, split, and-left, and-right}
 use Rattle.octets.specs.Every.{every}
 use Rattle.octets.specs.Overlay.{overlay}
@@ -24,6 +25,7 @@ use Rattle.table.specs.Number.{takenNumber}
 use Rattle.table.specs.Own.{duePlace}
 use Rattle.rules.specs.Survey.{waitOf}
 use Rattle.tally.specs.Tally.{freeAmong, free-among}
+use Rattle.messages.specs.Types.{echoType}
 use Rattle.messages.specs.Messages.{echoOf, deleteBearer}
 use Rattle.timing.specs.Outcome.{outcome, leastReply, bare, noReply, Back, back}
 use Rattle.timing.specs.Timing.{timed, stepped, echoSent, placeSent, dueSent, sendOf}
@@ -49,10 +51,10 @@ loudIn v = eqb (v .how) 2
 -- who is sent next
 unfoldable pub nextDue : ℕ → Node → Seen → List ℕ → Sending
 nextDue room node v waits =
-    pick (ltb room leastReply) (Nothing 1)
-    (pick (eqb (v .how) 0) (Nothing 2)
+    pick (ltb room leastReply) (Nothing replyShort)
+    (pick (eqb (v .how) 0) (Nothing rulesBroken)
     (pick (eqb (node .echo .timer) 0) (Echo (takenAmong node waits))
-    (pick (ltb (v .look .due) places) (At (v .look .due) (takenAmong node waits)) (Nothing 17))))
+    (pick (ltb (v .look .due) places) (At (v .look .due) (takenAmong node waits)) (Nothing nothingDue))))
 
 -- ---- what is done with it
 unfoldable pub placeOf : Sending → ℕ
@@ -68,16 +70,16 @@ sentBy (At i k) node s = sent (node .plan .resend) k s
 unfoldable pub echoLeft : Node → ℕ → List ℕ → Back
 echoLeft node k reply = back
     (record {
-      number = 0;
-      size = length (echoOf 1 (sentOnce (node .plan .resend) k (node .echo) .number) (node .plan .recovery));
+      number = taken;
+      size = length (echoOf echoType (sentOnce (node .plan .resend) k (node .echo) .number) (node .plan .recovery));
       node = timed (sentOnce (node .plan .resend) k (node .echo)) (stepped (node .echo .sends) k (node .next)) node;
     })
-    (overlay (echoOf 1 (sentOnce (node .plan .resend) k (node .echo) .number) (node .plan .recovery)) reply)
+    (overlay (echoOf echoType (sentOnce (node .plan .resend) k (node .echo) .number) (node .plan .recovery)) reply)
 
 unfoldable pub placeLeft : Node → ℕ → Session → List ℕ → Back
 placeLeft node k s reply = back
     (record {
-      number = 0;
+      number = taken;
       size = length (deleteBearer (s .control) (sentOnce (node .plan .resend) k (s .own) .number) (s .ebi));
       node = timed (node .echo) (stepped (s .own .sends) k (node .next)) node;
     })
@@ -160,7 +162,7 @@ module _ (node : Node) (l zs : List Session) (reply after : List ℕ) (p : Sendi
       let w : waits ≡ readOf (λ z. waitOf (z .own)) (loudIn (seenOf node 0 l)) l = e-w ∙ rw (e-l, e-v) in
       let q = rw e-v at e-p in
       split (ltb (length reply) leastReply)
-      (λ b. rw b (sends-nothing 1 (rw b at q)))
+      (λ b. rw b (sends-nothing replyShort (rw b at q)))
       (λ b. split (keepsRules node l)
       (λ m. let n = kept-long node l m in
       let y = stands-yes node l m in
@@ -170,5 +172,5 @@ module _ (node : Node) (l zs : List Session) (reply after : List ℕ) (p : Sendi
       (λ f. rw (b, m, f) (sends-echo (takenNumber (node .next) (node .echo) l) (rw (b, y, f, k) at q)))
       (λ f. split (ltb (firstOf isDue l) places)
       (λ h. rw (b, m, f, n, h) (sends-place (firstOf isDue l) (takenNumber (node .next) (node .echo) l) (rw (b, y, f, k, d, h) at q)))
-      (λ h. rw (b, m, f, n, h) (sends-nothing 17 (rw (b, y, f, d, h) at q)))))
-      (λ m. rw (b, m) (sends-nothing 2 (rw (b, stands-no node l m) at q))))
+      (λ h. rw (b, m, f, n, h) (sends-nothing nothingDue (rw (b, y, f, d, h) at q)))))
+      (λ m. rw (b, m) (sends-nothing rulesBroken (rw (b, stands-no node l m) at q))))

@@ -10,6 +10,7 @@ use lib.Seq.{set-getD}
 use lib.Dec.{eqb, leb}
 use borrow.Author.Tests.{eqb-true}
 use Rattle.octets.specs.Overlay.{overlay}
+use Rattle.octets.specs.Number.{taken, rulesBroken}
 use Rattle.octets.specs.Choice.{pick, split, impossible, and-left, and-right, tests}
 use Rattle.octets.specs.Every.{every}
 use Rattle.octets.specs.Places.{mapFirst, map-none, map-all}
@@ -41,14 +42,14 @@ unfoldable pub tickCount : ℕ → Node → ℕ
 tickCount how node = pick {A = ℕ} (eqb how 0 || eqb how 1 && not (spent (node .plan .sends) (node .echo))) 0 64
 
 unfoldable pub tickLeft : ℕ → Node → Answer
-tickLeft how node = pick (eqb how 0) (bare 2 node) (bare 0 (timed (echoTicked (node .plan) (node .echo)) (node .next) node))
+tickLeft how node = pick (eqb how 0) (bare rulesBroken node) (bare taken (timed (echoTicked (node .plan) (node .echo)) (node .next) node))
 
 -- ---- close: what is said of the record, where the rules are kept
 unfoldable pub closedBy : Bool → Session → Session
 closedBy kept s = pick kept (closeOn s .session) s
 
 unfoldable pub closeLeft : Bool → Node → Session → Answer
-closeLeft kept node s = bare (pick {A = ℕ} kept (closeOn s .number) 2) node
+closeLeft kept node s = bare (pick {A = ℕ} kept (closeOn s .number) rulesBroken) node
 
 -- ---- laws
 -- the rules count the records

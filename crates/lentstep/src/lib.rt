@@ -1,6 +1,8 @@
 // What tick, close and send do beside reading and changing the lent records where they lie, on values: which change is made of how many
 // records or of which one, what becomes of it, and what goes back by value.
 use glance::Seen;
+use messages::MessageType;
+use octets::Number;
 use session::Session;
 use table::Change;
 use table::Node;
@@ -50,11 +52,11 @@ pub fn tick_left(how: u8, mut node: Node) -> Answer
     ensures { λ r. ⌜ r ≡ tickLeft how node ⌝ }
 {
     if how == 0 {
-        return Answer::bare(2, node);
+        return Answer::bare(Number::RULES_BROKEN, node);
     }
     let next = node.echo_ticked();
     node.echo = next;
-    Answer::bare(0, node)
+    Answer::bare(Number::TAKEN, node)
 }
 
 // The record of a place to close: a free one stays as it is, and so does every one where the rules fail.
@@ -72,13 +74,13 @@ pub fn close_left(kept: bool, node: Node, s: Session) -> Answer
     ensures { λ r. ⌜ r ≡ closeLeft kept node s ⌝ }
 {
     if !kept {
-        return Answer::bare(2, node);
+        return Answer::bare(Number::RULES_BROKEN, node);
     }
     let free = s.is_free();
     if free {
-        return Answer::bare(10, node);
+        return Answer::bare(Number::NO_PLACE, node);
     }
-    Answer::bare(0, node)
+    Answer::bare(Number::TAKEN, node)
 }
 
 // The number that a first send takes, by what is awaited.
@@ -101,10 +103,10 @@ pub fn next_due(room: usize, node: Node, seen: Seen, waits: [u64; 64]) -> Sendin
     ensures { λ r. ⌜ r ≡ nextDue room node seen waits ⌝ }
 {
     if room < Answer::LEAST_REPLY {
-        return Sending::Nothing(1);
+        return Sending::Nothing(Number::REPLY_SHORT);
     }
     if seen.how == 0 {
-        return Sending::Nothing(2);
+        return Sending::Nothing(Number::RULES_BROKEN);
     }
     let echo = node.echo;
     if echo.timer == 0 {
@@ -114,7 +116,7 @@ pub fn next_due(room: usize, node: Node, seen: Seen, waits: [u64; 64]) -> Sendin
     let look = seen.look;
     let place = look.due;
     if Table::PLACES <= place {
-        return Sending::Nothing(17);
+        return Sending::Nothing(Number::NOTHING_DUE);
     }
     let number = taken(node, &waits);
     Sending::At { place, number }
@@ -153,10 +155,10 @@ fn echo_left(mut node: Node, k: u32, reply: &mut [u8]) -> Answer
     let next = timing::stepped(echo.sends, k, node.next);
     node.echo = sent;
     node.next = next;
-    messages::echo_of(reply, 1, sent.number, plan.recovery);
+    let size = messages::echo_of(reply, MessageType::ECHO, sent.number, plan.recovery);
     Answer {
-        number: 0,
-        size: 13,
+        number: Number::TAKEN,
+        size,
         node,
     }
 }
@@ -170,10 +172,10 @@ fn place_left(mut node: Node, k: u32, s: Session, reply: &mut [u8]) -> Answer
     let sent = own.sent_once(plan.resend, k);
     let next = timing::stepped(own.sends, k, node.next);
     node.next = next;
-    messages::delete_bearer(reply, s.control, sent.number, s.ebi);
+    let size = messages::delete_bearer(reply, s.control, sent.number, s.ebi);
     Answer {
-        number: 0,
-        size: 17,
+        number: Number::TAKEN,
+        size,
         node,
     }
 }

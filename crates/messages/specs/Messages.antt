@@ -5,17 +5,18 @@ use mathlib.Core.List.{List, [], _∷_, _++_}
 use mathlib.Core.Path.{_≡_, refl}
 use lib.ListN.{length}
 use Rattle.octets.specs.BigEndian.{octetsOf}
+use Rattle.messages.specs.Types.{versionType, createReplyType, modifyReplyType, bearerType}
 
 -- ---- GTPv2-C
 -- a header with T = 1: flags 48, type, length of what follows the first 4 octets, TEID, sequence number, a spare octet
 unfoldable pub headerTo : ℕ → ℕ → ℕ → ℕ → List ℕ
 headerTo type size teid seq = 0x48 ∷ type ∷ octetsOf 2 size ++ octetsOf 4 teid ++ octetsOf 3 seq ++ (0 ∷ [])
 
--- Version Not Supported (3), always with sequence number 0
+-- Version Not Supported, always with sequence number 0
 unfoldable pub versionNotSupported : List ℕ
-versionNotSupported = 0x40 ∷ 3 ∷ 0 ∷ 4 ∷ 0 ∷ 0 ∷ 0 ∷ 0 ∷ []
+versionNotSupported = 0x40 ∷ versionType ∷ 0 ∷ 4 ∷ 0 ∷ 0 ∷ 0 ∷ 0 ∷ []
 
--- Echo Request (1) and Echo Response (2), with T = 0 and the unit's own Recovery
+-- Echo Request and Echo Response, with T = 0 and the unit's own Recovery
 unfoldable pub echoOf : ℕ → ℕ → ℕ → List ℕ
 echoOf type seq recovery = 0x40 ∷ type ∷ 0 ∷ 9 ∷ octetsOf 3 seq ++ (0 ∷ 3 ∷ 0 ∷ 1 ∷ 0 ∷ recovery ∷ [])
 
@@ -42,11 +43,11 @@ causeReply type teid seq cause = headerTo type 14 teid seq ++ causeField cause
 unfoldable pub faultReply : ℕ → ℕ → ℕ → ℕ → ℕ → ℕ → List ℕ
 faultReply type teid seq cause field instance = headerTo type 18 teid seq ++ faultField cause field instance
 
--- Create accepted (33): Cause 16; F-TEID instance 1 (interface 7); PAA of IPv4; APN Restriction 0; Bearer Context with EBI, Cause 16,
+-- Create accepted: Cause 16; F-TEID instance 1 (interface 7); PAA of IPv4; APN Restriction 0; Bearer Context with EBI, Cause 16,
 -- F-TEID instance 2 (interface 5); Recovery
 unfoldable pub createAccepted : ℕ → ℕ → ℕ → ℕ → ℕ → ℕ → ℕ → ℕ → ℕ → List ℕ
 createAccepted teid seq control controladdr address ebi user useraddr recovery =
-    headerTo 33 74 teid seq
+    headerTo createReplyType 74 teid seq
     ++ causeField 16
     ++ tunnelField 1 0x87 control controladdr
     ++ (0x4F ∷ 0 ∷ 5 ∷ 0 ∷ 1 ∷ octetsOf 4 address)
@@ -57,14 +58,14 @@ createAccepted teid seq control controladdr address ebi user useraddr recovery =
     ++ tunnelField 2 0x85 user useraddr
     ++ (3 ∷ 0 ∷ 1 ∷ 0 ∷ recovery ∷ [])
 
--- Modify accepted (35) where a Bearer Context came: Cause 16, and one with EBI and Cause 16
+-- Modify accepted where a Bearer Context came: Cause 16, and one with EBI and Cause 16
 unfoldable pub modifyBearer : ℕ → ℕ → ℕ → List ℕ
 modifyBearer teid seq ebi =
-    headerTo 35 29 teid seq ++ causeField 16 ++ (0x5D ∷ 0 ∷ 11 ∷ 0 ∷ []) ++ ebiField ebi ++ causeField 16
+    headerTo modifyReplyType 29 teid seq ++ causeField 16 ++ (0x5D ∷ 0 ∷ 11 ∷ 0 ∷ []) ++ ebiField ebi ++ causeField 16
 
--- Delete Bearer Request (99), the unit's own
+-- Delete Bearer Request, the unit's own
 unfoldable pub deleteBearer : ℕ → ℕ → ℕ → List ℕ
-deleteBearer teid seq ebi = headerTo 99 13 teid seq ++ ebiField ebi
+deleteBearer teid seq ebi = headerTo bearerType 13 teid seq ++ ebiField ebi
 
 -- ---- GTPv1-U
 -- Echo Response: TEID 0, the sequence number, N-PDU and next type 0, Recovery 0
@@ -76,7 +77,7 @@ unfoldable pub errorIndication : ℕ → ℕ → List ℕ
 errorIndication teid addr =
     0x32 ∷ 0x1A ∷ 0 ∷ 0x10 ∷ 0 ∷ 0 ∷ 0 ∷ 0 ∷ 0 ∷ 0 ∷ 0 ∷ 0 ∷ 0x10 ∷ octetsOf 4 teid ++ (0x85 ∷ 0 ∷ 4 ∷ octetsOf 4 addr)
 
--- ---- their lengths
+-- ---- their lengths, as document 01 states them
 pub size-version : length versionNotSupported ≡ 8
 unfolding versionNotSupported
 size-version = refl

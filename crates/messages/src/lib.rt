@@ -1,7 +1,34 @@
 // The octets of every reply and own request, laid over the front of the lent buffer; the octets past them stay.
 ghost use mathlib.Core.Path.{_≡_};
-ghost use Rattle.octets.specs.Overlay.{overlay};
+ghost use Rattle.octets.specs.Overlay.{Wrote};
 ghost use Rattle.messages.specs.Messages.{versionNotSupported, echoOf, causeReply, faultReply, createAccepted, modifyBearer, deleteBearer, userEcho, errorIndication};
+
+// The types of control messages, by name: those that are taken, those of their replies, and the unit's own Delete Bearer.
+pub struct MessageType {}
+
+impl MessageType {
+    pub const ECHO: u8 = 1;
+
+    pub const ECHO_REPLY: u8 = 2;
+
+    pub const VERSION: u8 = 3;
+
+    pub const CREATE: u8 = 32;
+
+    pub const CREATE_REPLY: u8 = 33;
+
+    pub const MODIFY: u8 = 34;
+
+    pub const MODIFY_REPLY: u8 = 35;
+
+    pub const DELETE: u8 = 36;
+
+    pub const DELETE_REPLY: u8 = 37;
+
+    pub const BEARER: u8 = 99;
+
+    pub const BEARER_REPLY: u8 = 100;
+}
 
 // What the accepted Create reply holds.
 pub struct Accepted {
@@ -16,16 +43,17 @@ pub struct Accepted {
     pub recovery: u8,
 }
 
-pub fn version_not_supported(reply: &mut [u8])
-    ensures { λ _. ⌜ now (reply .exit) ≡ overlay versionNotSupported (now (reply .entry)) ⌝ }
+pub fn version_not_supported(reply: &mut [u8]) -> usize
+    ensures { λ r. ⌜ Wrote r (now (reply .exit)) (now (reply .entry)) versionNotSupported ⌝ }
 {
-    let m = [0x40u8, 3, 0, 4, 0, 0, 0, 0];
+    let m = [0x40u8, MessageType::VERSION, 0, 4, 0, 0, 0, 0];
     octets::copy_front(&m, reply);
+    m.len()
 }
 
-// Echo Request (1) or Response (2), with the unit's own Recovery.
-pub fn echo_of(reply: &mut [u8], kind: u8, seq: u32, recovery: u8)
-    ensures { λ _. ⌜ now (reply .exit) ≡ overlay (echoOf kind seq recovery) (now (reply .entry)) ⌝ }
+// Echo Request or Response, with the unit's own Recovery.
+pub fn echo_of(reply: &mut [u8], kind: u8, seq: u32, recovery: u8) -> usize
+    ensures { λ r. ⌜ Wrote r (now (reply .exit)) (now (reply .entry)) (echoOf kind seq recovery) ⌝ }
 {
     let m = [
         0x40u8,
@@ -43,11 +71,12 @@ pub fn echo_of(reply: &mut [u8], kind: u8, seq: u32, recovery: u8)
         recovery,
     ];
     octets::copy_front(&m, reply);
+    m.len()
 }
 
 // A reply with a cause alone: refused without a field named, or accepted with Cause 16.
-pub fn cause_reply(reply: &mut [u8], kind: u8, teid: u32, seq: u32, cause: u8)
-    ensures { λ _. ⌜ now (reply .exit) ≡ overlay (causeReply kind teid seq cause) (now (reply .entry)) ⌝ }
+pub fn cause_reply(reply: &mut [u8], kind: u8, teid: u32, seq: u32, cause: u8) -> usize
+    ensures { λ r. ⌜ Wrote r (now (reply .exit)) (now (reply .entry)) (causeReply kind teid seq cause) ⌝ }
 {
     let m = [
         0x48u8,
@@ -70,6 +99,7 @@ pub fn cause_reply(reply: &mut [u8], kind: u8, teid: u32, seq: u32, cause: u8)
         0,
     ];
     octets::copy_front(&m, reply);
+    m.len()
 }
 
 // A reply with a cause and the field at fault.
@@ -81,8 +111,8 @@ pub fn fault_reply(
     cause: u8,
     field: u8,
     instance: u8,
-)
-    ensures { λ _. ⌜ now (reply .exit) ≡ overlay (faultReply kind teid seq cause field instance) (now (reply .entry)) ⌝ }
+) -> usize
+    ensures { λ r. ⌜ Wrote r (now (reply .exit)) (now (reply .entry)) (faultReply kind teid seq cause field instance) ⌝ }
 {
     let m = [
         0x48u8,
@@ -109,15 +139,16 @@ pub fn fault_reply(
         instance,
     ];
     octets::copy_front(&m, reply);
+    m.len()
 }
 
 // Modify accepted, where a Bearer Context came.
-pub fn modify_bearer(reply: &mut [u8], teid: u32, seq: u32, ebi: u8)
-    ensures { λ _. ⌜ now (reply .exit) ≡ overlay (modifyBearer teid seq ebi) (now (reply .entry)) ⌝ }
+pub fn modify_bearer(reply: &mut [u8], teid: u32, seq: u32, ebi: u8) -> usize
+    ensures { λ r. ⌜ Wrote r (now (reply .exit)) (now (reply .entry)) (modifyBearer teid seq ebi) ⌝ }
 {
     let m = [
         0x48u8,
-        35,
+        MessageType::MODIFY_REPLY,
         0,
         29,
         (teid / 256 / 256 / 256 % 256) as u8,
@@ -151,15 +182,16 @@ pub fn modify_bearer(reply: &mut [u8], teid: u32, seq: u32, ebi: u8)
         0,
     ];
     octets::copy_front(&m, reply);
+    m.len()
 }
 
 // Delete Bearer Request, the unit's own.
-pub fn delete_bearer(reply: &mut [u8], teid: u32, seq: u32, ebi: u8)
-    ensures { λ _. ⌜ now (reply .exit) ≡ overlay (deleteBearer teid seq ebi) (now (reply .entry)) ⌝ }
+pub fn delete_bearer(reply: &mut [u8], teid: u32, seq: u32, ebi: u8) -> usize
+    ensures { λ r. ⌜ Wrote r (now (reply .exit)) (now (reply .entry)) (deleteBearer teid seq ebi) ⌝ }
 {
     let m = [
         0x48u8,
-        99,
+        MessageType::BEARER,
         0,
         13,
         (teid / 256 / 256 / 256 % 256) as u8,
@@ -177,11 +209,12 @@ pub fn delete_bearer(reply: &mut [u8], teid: u32, seq: u32, ebi: u8)
         ebi,
     ];
     octets::copy_front(&m, reply);
+    m.len()
 }
 
 // The answer to a user echo.
-pub fn user_echo(reply: &mut [u8], seq: u32)
-    ensures { λ _. ⌜ now (reply .exit) ≡ overlay (userEcho seq) (now (reply .entry)) ⌝ }
+pub fn user_echo(reply: &mut [u8], seq: u32) -> usize
+    ensures { λ r. ⌜ Wrote r (now (reply .exit)) (now (reply .entry)) (userEcho seq) ⌝ }
 {
     let m = [
         0x32u8,
@@ -200,11 +233,12 @@ pub fn user_echo(reply: &mut [u8], seq: u32)
         0,
     ];
     octets::copy_front(&m, reply);
+    m.len()
 }
 
 // Error Indication: the TEID that is not live, and the unit's user address.
-pub fn error_indication(reply: &mut [u8], teid: u32, addr: u32)
-    ensures { λ _. ⌜ now (reply .exit) ≡ overlay (errorIndication teid addr) (now (reply .entry)) ⌝ }
+pub fn error_indication(reply: &mut [u8], teid: u32, addr: u32) -> usize
+    ensures { λ r. ⌜ Wrote r (now (reply .exit)) (now (reply .entry)) (errorIndication teid addr) ⌝ }
 {
     let m = [
         0x32u8,
@@ -233,11 +267,12 @@ pub fn error_indication(reply: &mut [u8], teid: u32, addr: u32)
         (addr % 256) as u8,
     ];
     octets::copy_front(&m, reply);
+    m.len()
 }
 
 // Create accepted: the session's own tunnel numbers and address, to the peer.
-pub fn create_accepted(reply: &mut [u8], a: Accepted)
-    ensures { λ _. ⌜ now (reply .exit) ≡ overlay (createAccepted (a .teid) (a .sequence) (a .control) (a .controladdr) (a .address) (a .ebi) (a .user) (a .useraddr) (a .recovery)) (now (reply .entry)) ⌝ }
+pub fn create_accepted(reply: &mut [u8], a: Accepted) -> usize
+    ensures { λ r. ⌜ Wrote r (now (reply .exit)) (now (reply .entry)) (createAccepted (a .teid) (a .sequence) (a .control) (a .controladdr) (a .address) (a .ebi) (a .user) (a .useraddr) (a .recovery)) ⌝ }
 {
     let teid = a.teid;
     let seq = a.sequence;
@@ -250,7 +285,7 @@ pub fn create_accepted(reply: &mut [u8], a: Accepted)
     let recovery = a.recovery;
     let m = [
         0x48u8,
-        33,
+        MessageType::CREATE_REPLY,
         0,
         74,
         (teid / 256 / 256 / 256 % 256) as u8,
@@ -329,4 +364,5 @@ pub fn create_accepted(reply: &mut [u8], a: Accepted)
         recovery,
     ];
     octets::copy_front(&m, reply);
+    m.len()
 }

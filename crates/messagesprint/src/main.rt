@@ -15,42 +15,45 @@ fn put_hex(part: &[u8]) {
     }
 }
 
-// A line: the kind, and the octets of a message.
-fn show(kind: &[u8], message: &[u8]) {
+// A line: the kind, and the octets of a message of n octets in a buffer, which is longer than any message.
+fn show(kind: &[u8], buffer: &[u8], n: usize) {
+    if buffer.len() < n {
+        return;
+    }
     io::write_all(STDOUT_FILENO, kind);
-    put_hex(message);
+    put_hex(&buffer[0..n]);
     let end = [b'\n'];
     io::write_all(STDOUT_FILENO, &end);
 }
 
 fn version_not_supported() {
     let mut m = [0xEEu8; 128];
-    messages::version_not_supported(&mut m);
-    show(b"version_not_supported ", &m[0..8]);
+    let n = messages::version_not_supported(&mut m);
+    show(b"version_not_supported ", &m, n);
 }
 
 fn echo(kind: &[u8], number: u8, seq: u32) {
     let mut m = [0xEEu8; 128];
-    messages::echo_of(&mut m, number, seq, 7);
-    show(kind, &m[0..13]);
+    let n = messages::echo_of(&mut m, number, seq, 7);
+    show(kind, &m, n);
 }
 
 // A reply with a cause alone, and one that names a field.
 fn cause(kind: &[u8], number: u8, teid: u32, seq: u32, value: u8) {
     let mut m = [0xEEu8; 128];
-    messages::cause_reply(&mut m, number, teid, seq, value);
-    show(kind, &m[0..18]);
+    let n = messages::cause_reply(&mut m, number, teid, seq, value);
+    show(kind, &m, n);
 }
 
 fn fault(kind: &[u8], number: u8, seq: u32, value: u8, field: u8, instance: u8) {
     let mut m = [0xEEu8; 128];
-    messages::fault_reply(&mut m, number, 287454020, seq, value, field, instance);
-    show(kind, &m[0..22]);
+    let n = messages::fault_reply(&mut m, number, 287454020, seq, value, field, instance);
+    show(kind, &m, n);
 }
 
 fn create_accepted() {
     let mut m = [0xEEu8; 128];
-    messages::create_accepted(
+    let n = messages::create_accepted(
         &mut m,
         messages::Accepted {
             teid: 287454020,
@@ -64,31 +67,31 @@ fn create_accepted() {
             recovery: 7,
         },
     );
-    show(b"create_accepted ", &m[0..78]);
+    show(b"create_accepted ", &m, n);
 }
 
 fn modify_bearer() {
     let mut m = [0xEEu8; 128];
-    messages::modify_bearer(&mut m, 287454020, 658189, 5);
-    show(b"modify_bearer ", &m[0..33]);
+    let n = messages::modify_bearer(&mut m, 287454020, 658189, 5);
+    show(b"modify_bearer ", &m, n);
 }
 
 fn delete_bearer() {
     let mut m = [0xEEu8; 128];
-    messages::delete_bearer(&mut m, 287454020, 8388607, 15);
-    show(b"delete_bearer ", &m[0..17]);
+    let n = messages::delete_bearer(&mut m, 287454020, 8388607, 15);
+    show(b"delete_bearer ", &m, n);
 }
 
 fn user_echo() {
     let mut m = [0xEEu8; 128];
-    messages::user_echo(&mut m, 4660);
-    show(b"user_echo ", &m[0..14]);
+    let n = messages::user_echo(&mut m, 4660);
+    show(b"user_echo ", &m, n);
 }
 
 fn error_indication() {
     let mut m = [0xEEu8; 128];
-    messages::error_indication(&mut m, 389, 167772162);
-    show(b"error_indication ", &m[0..24]);
+    let n = messages::error_indication(&mut m, 389, 167772162);
+    show(b"error_indication ", &m, n);
 }
 
 fn main() {

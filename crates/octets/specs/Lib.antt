@@ -1,3 +1,4 @@
+pub mod Number
 pub mod Choice
 pub mod Every
 pub mod Sums

@@ -13,6 +13,11 @@ overlay [] d = d
 overlay (x ∷ m) [] = []
 overlay (x ∷ m) (y ∷ d) = x ∷ overlay m d
 
+-- what a writer of a message does: the message is laid over the front of the buffer, and its length is answered
+pub record Wrote (size : ℕ) (after before m : List ℕ) : Type 0 where
+  pub length : size ≡ length m
+  pub octets : after ≡ overlay m before
+
 pub overlay-fits : (m d : List ℕ) → length m ≤ length d → overlay m d ≡ m ++ drop (length m) d
 unfolding overlay
 overlay-fits [] d h = refl

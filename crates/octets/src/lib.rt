@@ -1,11 +1,67 @@
-// What every layer stands on: big-endian numbers, the comparison of two runs of octets, and the one copy of a message into a
-// lent buffer. The laws on lists and numbers that every layer cites are in specs/.
+// What every layer stands on: the numbers that come back, big-endian numbers, the comparison of two runs of octets, and the one copy
+// of a message into a lent buffer. The laws on lists and numbers that every layer cites are in specs/.
 ghost use mathlib.Core.List.{[], _∷_};
 ghost use mathlib.Core.Path.{_≡_};
 ghost use Prim.Native.Nat.{min};
 ghost use Rattle.octets.specs.BigEndian.{numberOf, octetsOf};
 ghost use Rattle.octets.specs.Overlay.{overlay};
 ghost use Rattle.octets.specs.Same.{sameOctets};
+
+// The numbers that come back, by name (document 01's table). A cause is a number too: those are named in crate readers.
+pub struct Number {}
+
+impl Number {
+    pub const TAKEN: u8 = 0;
+
+    // the reply buffer is short
+    pub const REPLY_SHORT: u8 = 1;
+
+    // the table breaks its rules
+    pub const RULES_BROKEN: u8 = 2;
+
+    // a datagram under 8 octets
+    pub const UNDER_EIGHT: u8 = 3;
+
+    // P is set
+    pub const FLAG_P_SET: u8 = 4;
+
+    // a control version that is not 2
+    pub const OTHER_VERSION: u8 = 5;
+
+    // the length is not the size less 4 (user: less 8), or the header is cut
+    pub const LENGTH_UNFIT: u8 = 6;
+
+    pub const TYPE_NOT_TAKEN: u8 = 7;
+
+    // T, or Create's TEID
+    pub const TEID_UNFIT: u8 = 8;
+
+    // a reply that is not awaited, or unreadable
+    pub const NOT_AWAITED: u8 = 9;
+
+    // a place over 63, or free when closed
+    pub const NO_PLACE: u8 = 10;
+
+    // admitted, and no place is free
+    pub const NO_FREE_PLACE: u8 = 11;
+
+    // user version or PT wrong
+    pub const NOT_USER: u8 = 12;
+
+    // the optional part is cut, or an extension's length is 0 or cut
+    pub const PART_CUT: u8 = 13;
+
+    // an extension that must be understood
+    pub const MUST_UNDERSTAND: u8 = 14;
+
+    // a user TEID that is not live
+    pub const USER_NOT_LIVE: u8 = 15;
+
+    // the plan breaks a limit
+    pub const PLAN_BREAKS: u8 = 16;
+
+    pub const NOTHING_DUE: u8 = 17;
+}
 
 // An octet as a count or a place.
 pub fn wide(b: u8) -> usize

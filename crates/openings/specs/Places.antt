@@ -1,10 +1,10 @@
 -- What the digests of a table that keeps its rules say of its records: the place of the session with an IMSI and EBI, the first free
 -- place once one place is freed, and the sharing rule then.
 -- Assumes nothing.
-use Prim.Native.Nat.{ℕ, zero, suc, _+_, _*_, _%_, _<_, _≤_}
+use Prim.Native.Nat.{ℕ, max, zero, suc, _+_, _*_, _%_, _<_, _≤_}
 use mathlib.Core.Bool.{Bool, true}
 use mathlib.Core.List.{List, [], _∷_, map}
-use mathlib.Core.Path.{_≡_, refl, _∙_}
+use mathlib.Core.Path.{_≡_, refl, sym, _∙_}
 use native.Mathlib.Omega.{arith}
 use lib.ListN.{length, getD, set, length-set, List·getD-eq-default}
 use lib.Seq.{set-out}
@@ -13,20 +13,19 @@ use borrow.Author.Tests.{eqb-true, eqb-false, eq-eqb, ne-eqb, lt-ltb, le-ltb, lt
 use Rattle.octets.specs.Choice.{split, and-left, and-right}
 use Rattle.octets.specs.Every.{every}
 use Rattle.octets.specs.Sums.{sumOf, sum-set, count-most}
+use Rattle.octets.specs.Below.{to-equal}
 use Rattle.octets.specs.Search.{firstOf, first-most}
 use Rattle.plan.specs.declared.Plan.{Plan}
 use Rattle.plan.specs.Limits.{parties}
-use Rattle.sharing.specs.Sharing.{admits}
+use Rattle.sharing.specs.Sharing.{admits, admitted, sharable, share, guaranteeAt, admits-out}
 use Rattle.session.specs.declared.Session.{Session}
 use Rattle.session.specs.declared.Bounds.{Bounds}
 use Rattle.session.specs.Session.{isFree, isOn, hasId, recordOk, freed, blankAt}
 use Rattle.table.specs.Rules.{liveOn, live}
 use Rattle.table.specs.Change.{nobody, changedAt}
-use Rattle.rules.specs.Survey.{keyOf, weightOf}
+use Rattle.rules.specs.Survey.{idKey, keyOf, weightOf}
 use Rattle.rules.specs.Check.{unpackedOf, known-id, unpacked-at, packed}
-use Rattle.control.specs.Creates.{admits-agree}
 use Rattle.glance.specs.Digest.{digestOf, keyIn, key-in, free-in}
-use Rattle.wishes.specs.Wishes.{idKey}
 use Rattle.glance.specs.Look.{keyPlace, freeIn}
 use Rattle.openings.specs.Openings.{countsLess, roomFor, lower}
 
@@ -54,10 +53,18 @@ first-set p (y ∷ l) (suc i) x e h =
     (λ g. let k = ltb-true i (firstOf p l) g in rw (g, lt-ltb (suc i) (suc (firstOf p l)) (omega arith)))
     (λ g. let k = ltb-false i (firstOf p l) g in rw (g, le-ltb (suc i) (suc (firstOf p l)) (omega arith)))))
 
+-- ---- the rule goes by the counts of the plan's access points alone
+admits-agree : (p : Plan) (u v : ℕ → ℕ) (x : ℕ) → ((a : ℕ) → a < parties p → u a ≡ v a) → admits p u x ≡ admits p v x
+unfolding admitted sharable share
+admits-agree p u v x h =
+    split (ltb x (parties p))
+    (λ t. rw (h x (ltb-true x (parties p) t), to-equal (λ a. max (u a) (guaranteeAt p a)) (λ a. max (v a) (guaranteeAt p a)) (parties p) (λ a q. rw (h a q))))
+    (λ t. admits-out p u x (ltb-false x (parties p) t) ∙ sym (admits-out p v x (ltb-false x (parties p) t)))
+
 -- ---- one record and its digest
 module _ (b : Bounds) (s : Session) (ok : recordOk b s ≡ true) where
   id-in : (imsi ebi : ℕ) → imsi < 1000000000000000 → 5 ≤ ebi → ebi ≤ 15 → eqb (keyIn (digestOf b s)) (idKey imsi ebi) ≡ hasId imsi ebi s
-  unfolding keyOf idKey hasId
+  unfolding keyOf hasId
   id-in imsi ebi h low high = rw (key-in b s ok) (split (isFree s)
       (λ n. rw n (ne-eqb 0 (imsi % 36028797018963968 * 256 + ebi) (λ q. omega arith)))
       (λ n. let k = known-id b s ok n in

@@ -1,8 +1,8 @@
-// Take control datagram on two records: which record what is asked is about, which place is opened, and what it comes to. No other record
-// is looked at; whether the table's rules are kept is said. Where the exchange restarted all records are freed first.
+// Take control datagram on the two records that it can concern: which record what is asked is about, whether a place is opened, and what it
+// comes to. No other record is looked at. Where the exchange restarted all records are freed first.
 use glance::Look;
 use glance::Seen;
-use header::HeaderCursor;
+use messages::MessageType;
 use plan::Plan;
 use readers::Recovery;
 use requests::Create;
@@ -10,11 +10,20 @@ use session::Session;
 use table::Change;
 use table::Node;
 use table::Table;
-use wishes::Aim;
-use wishes::Wish;
+use timing::Answer;
+use tunnel::ControlTeid;
+use wishes::Asked;
+use wishes::Concern;
 ghost use mathlib.Core.Path.{_≡_};
 ghost use Rattle.table.specs.declared.Change.the-variants.{Free};
-ghost use Rattle.openings.specs.Openings.{oldBy, sightBy, sightOf, repeatsAt, roomFor, lower, openPlace, newPlace, pairBy, made, unmovedOn, fullOn, enteredOn, openOn, namedOn, wishTaken, takenOn, nodeAfter, freedCount};
+ghost use Rattle.openings.specs.Openings.{restartsIn, restartsNow, aimOf, oldBy, sightBy, sightOf, repeatsAt, roomFor, lower, verdictOf, verdictIn, opensAt, pairBy, made, unmovedOn, fullOn, enteredOn, openOn, namedOn, askedOn, takenOn, nodeAfter, freedCount};
+
+// Which record is asked about: the one with a key of IMSI and EBI, or where the key is 0, which no session has, the one of a place; 64
+// where there is none.
+pub struct Aim {
+    pub key: u64,
+    pub place: usize,
+}
 
 // What is gone by, of what was seen of the records: whether the rules are kept, whether all are freed first, the packed counts, the place
 // of the record that it is about, and the first free place; 64 where there is none.
@@ -26,6 +35,13 @@ pub struct Sight {
     pub free: usize,
 }
 
+// Whether a place is opened: none, since it is a repeat of the Create that made the session, or no Create; or this one; or there is no room.
+pub enum Verdict {
+    Still,
+    Opens(usize),
+    Full,
+}
+
 // The two records that are concerned, and where they lie: one that it is about, and one that is to be opened; and whether all are freed
 // before these two are put back.
 pub struct Pair {
@@ -33,6 +49,7 @@ pub struct Pair {
     pub all: bool,
     pub old: usize,
     pub new: usize,
+    pub verdict: Verdict,
     pub oldrecord: Session,
     pub newrecord: Session,
 }
@@ -48,7 +65,107 @@ pub struct Opened {
     pub new: Session,
 }
 
-// The place of the record that a wish is about.
+// Whether it says that the exchange restarted.
+fn restarts_in(a: Asked, node: Node) -> bool
+    ensures { λ r. ⌜ r ≡ restartsIn a node ⌝ }
+{
+    match a {
+        Asked::Silent(_) => false,
+        Asked::Version => false,
+        Asked::Echo {
+            recovery,
+            sequence: _,
+        } => control::restarts(node, recovery),
+        Asked::EchoReply { recovery } => control::restarts(node, recovery),
+        Asked::Create {
+            create,
+            sequence: _,
+        } => {
+            let recovery = create.recovery;
+            control::restarts(node, recovery)
+        }
+        Asked::Refused {
+            why: _,
+            to: _,
+            sequence: _,
+        } => false,
+        Asked::Session {
+            teid: _,
+            sequence: _,
+            concern: _,
+        } => false,
+    }
+}
+
+// With a reply buffer that is short nothing is done, so that nobody is heard.
+fn restarts_now(room: usize, a: Asked, node: Node) -> bool
+    ensures { λ r. ⌜ r ≡ restartsNow room a node ⌝ }
+{
+    if room < Answer::LEAST_REPLY {
+        return false;
+    }
+    restarts_in(a, node)
+}
+
+// Which record it is about.
+fn aim_of(a: Asked) -> Aim
+    ensures { λ r. ⌜ r ≡ aimOf a ⌝ }
+{
+    match a {
+        Asked::Silent(_) => Aim {
+            key: 0,
+            place: Table::PLACES,
+        },
+        Asked::Version => Aim {
+            key: 0,
+            place: Table::PLACES,
+        },
+        Asked::Echo {
+            recovery: _,
+            sequence: _,
+        } => Aim {
+            key: 0,
+            place: Table::PLACES,
+        },
+        Asked::EchoReply { recovery: _ } => Aim {
+            key: 0,
+            place: Table::PLACES,
+        },
+        Asked::Create {
+            create,
+            sequence: _,
+        } => Aim {
+            key: rules::id_key(create.imsi, create.ebi),
+            place: Table::PLACES,
+        },
+        Asked::Refused {
+            why: _,
+            to: _,
+            sequence: _,
+        } => Aim {
+            key: 0,
+            place: Table::PLACES,
+        },
+        Asked::Session {
+            teid,
+            sequence: _,
+            concern: _,
+        } => {
+            let place = table::control_place(teid);
+            Aim { key: 0, place }
+        }
+    }
+}
+
+// The key that is asked for; 0 where none is.
+pub fn key_of(a: Asked) -> u64
+    ensures { λ r. ⌜ r ≡ aimOf a .key ⌝ }
+{
+    let aim = aim_of(a);
+    aim.key
+}
+
+// The place of the record that is asked about.
 fn old_by(look: Look, a: Aim) -> usize
     ensures { λ r. ⌜ r ≡ oldBy look a ⌝ }
 {
@@ -80,12 +197,12 @@ fn sight_by(kept: bool, counts: u64, old: usize, free: usize, restart: bool) -> 
     }
 }
 
-pub fn sight_of(v: Seen, node: Node, w: Wish) -> Sight
-    ensures { λ r. ⌜ r ≡ sightOf v node w ⌝ }
+pub fn sight_of(v: Seen, node: Node, a: Asked, room: usize) -> Sight
+    ensures { λ r. ⌜ r ≡ sightOf v node a room ⌝ }
 {
     let kept = glance::stands(v.how);
-    let restart = wishes::restarts_in(w, node);
-    let aim = wishes::aim_of(w);
+    let restart = restarts_now(room, a, node);
+    let aim = aim_of(a);
     let look = v.look;
     let g = look.glance;
     let old = old_by(look, aim);
@@ -124,53 +241,69 @@ fn lower(a: usize, b: usize) -> usize
     b
 }
 
-// The place that is opened: the lower of the one that is freed and the first that is free; 64 for a repeat, and where there is no room.
-fn open_place(g: Sight, node: Node, c: Create, seq: u32, s: Session) -> usize
-    ensures { λ r. ⌜ r ≡ openPlace g node c seq s ⌝ }
+// A repeat opens nothing. Else a session with this IMSI and EBI is freed, then the sharing rule is asked, and the lowest free place is opened.
+fn verdict_of(g: Sight, node: Node, c: Create, seq: u32, s: Session) -> Verdict
+    ensures { λ r. ⌜ r ≡ verdictOf g node c seq s ⌝ }
 {
     let repeat = repeats(g.old, c, seq, s);
     if repeat {
-        return Table::PLACES;
+        return Verdict::Still;
     }
     let plan = node.plan;
     let room = has_room(plan, g.counts, s, c.point);
-    if !room {
-        return Table::PLACES;
+    if room {
+        return Verdict::Opens(lower(g.old, g.free));
     }
-    lower(g.old, g.free)
+    Verdict::Full
 }
 
 // The same for what is asked; s is the record that it is about.
-pub fn new_place(g: Sight, node: Node, w: Wish, s: Session) -> usize
-    ensures { λ r. ⌜ r ≡ newPlace g node w s ⌝ }
+pub fn verdict_in(g: Sight, node: Node, a: Asked, s: Session) -> Verdict
+    ensures { λ r. ⌜ r ≡ verdictIn g node a s ⌝ }
 {
-    match w {
-        Wish::Short => Table::PLACES,
-        Wish::Silent(_) => Table::PLACES,
-        Wish::Version => Table::PLACES,
-        Wish::Echo {
+    match a {
+        Asked::Silent(_) => Verdict::Still,
+        Asked::Version => Verdict::Still,
+        Asked::Echo {
             recovery: _,
             sequence: _,
-        } => Table::PLACES,
-        Wish::Ended { recovery: _ } => Table::PLACES,
-        Wish::Named { header: _ } => Table::PLACES,
-        Wish::Refused {
+        } => Verdict::Still,
+        Asked::EchoReply { recovery: _ } => Verdict::Still,
+        Asked::Create { create, sequence } => verdict_of(g, node, create, sequence, s),
+        Asked::Refused {
             why: _,
             to: _,
             sequence: _,
-        } => Table::PLACES,
-        Wish::Open { create, sequence } => open_place(g, node, create, sequence, s),
+        } => Verdict::Still,
+        Asked::Session {
+            teid: _,
+            sequence: _,
+            concern: _,
+        } => Verdict::Still,
     }
 }
 
-pub fn pair_of(g: Sight, s: Session, new: usize, t: Session) -> Pair
-    ensures { λ r. ⌜ r ≡ pairBy g s new t ⌝ }
+// The place that is opened; 64 where none is.
+pub fn opens_at(v: Verdict) -> usize
+    ensures { λ r. ⌜ r ≡ opensAt v ⌝ }
 {
+    match v {
+        Verdict::Still => Table::PLACES,
+        Verdict::Opens(place) => place,
+        Verdict::Full => Table::PLACES,
+    }
+}
+
+pub fn pair_of(g: Sight, s: Session, verdict: Verdict, t: Session) -> Pair
+    ensures { λ r. ⌜ r ≡ pairBy g s verdict t ⌝ }
+{
+    let new = opens_at(verdict);
     Pair {
         kept: g.kept,
         all: g.all,
         old: g.old,
         new,
+        verdict,
         oldrecord: s,
         newrecord: t,
     }
@@ -200,7 +333,7 @@ fn full_on(c: Create, seq: u32, p: Pair, reply: &mut [u8]) -> Opened
     let s = p.oldrecord;
     let new = p.newrecord;
     let w = control::no_room();
-    let size = control::write_cause(33, c.control, seq, w, reply);
+    let size = control::write_cause(MessageType::CREATE_REPLY, c.control, seq, w, reply);
     let gone = s.freed();
     Opened {
         number: w.cause,
@@ -238,27 +371,27 @@ fn entered_on(c: Create, seq: u32, node: Node, p: Pair, reply: &mut [u8]) -> Ope
 fn open_on(c: Create, seq: u32, node: Node, p: Pair, reply: &mut [u8]) -> Opened
     ensures { λ r. ⌜ made r (now (reply .exit)) ≡ openOn c seq node p (now (reply .entry)) ⌝ }
 {
-    let s = p.oldrecord;
-    let repeat = repeats(p.old, c, seq, s);
-    if repeat {
-        let heard = c.recovery;
-        let plan = node.plan;
-        let size = control::write_accepted(plan, seq, p.old, s, reply);
-        return unmoved(0, size, false, heard, p);
+    let verdict = p.verdict;
+    match verdict {
+        Verdict::Still => {
+            let heard = c.recovery;
+            let plan = node.plan;
+            let s = p.oldrecord;
+            let size = control::write_accepted(plan, seq, p.old, s, reply);
+            unmoved(0, size, false, heard, p)
+        }
+        Verdict::Opens(_) => entered_on(c, seq, node, p, reply),
+        Verdict::Full => full_on(c, seq, p, reply),
     }
-    if p.new < Table::PLACES {
-        return entered_on(c, seq, node, p, reply);
-    }
-    full_on(c, seq, p, reply)
 }
 
 // What concerns the session of the record.
-fn named_on(h: HeaderCursor, rest: &[u8], p: Pair, reply: &mut [u8]) -> Opened
-    ensures { λ r. ⌜ made r (now (reply .exit)) ≡ namedOn h (now (rest .entry)) p (now (reply .entry)) ⌝ }
+fn named_on(teid: ControlTeid, x: Concern, seq: u32, p: Pair, reply: &mut [u8]) -> Opened
+    ensures { λ r. ⌜ made r (now (reply .exit)) ≡ namedOn (teid .0) x seq p (now (reply .entry)) ⌝ }
 {
     let s = p.oldrecord;
     let new = p.newrecord;
-    let q = single::take_single(h, rest, s, reply);
+    let q = single::session_on(teid, x, seq, s, reply);
     let old = q.session;
     Opened {
         number: q.number,
@@ -271,43 +404,45 @@ fn named_on(h: HeaderCursor, rest: &[u8], p: Pair, reply: &mut [u8]) -> Opened
 }
 
 // What is asked, where the rules are kept.
-fn take_wish(node: Node, w: Wish, p: Pair, d: &[u8], reply: &mut [u8]) -> Opened
-    ensures { λ r. ⌜ made r (now (reply .exit)) ≡ wishTaken node w p (now (d .entry)) (now (reply .entry)) ⌝ }
+fn asked_on(node: Node, a: Asked, p: Pair, reply: &mut [u8]) -> Opened
+    ensures { λ r. ⌜ made r (now (reply .exit)) ≡ askedOn node a p (now (reply .entry)) ⌝ }
 {
-    match w {
-        Wish::Short => unmoved(1, 0, false, Recovery::None, p),
-        Wish::Silent(number) => unmoved(number, 0, false, Recovery::None, p),
-        Wish::Version => {
-            messages::version_not_supported(reply);
-            unmoved(5, 8, false, Recovery::None, p)
+    match a {
+        Asked::Silent(number) => unmoved(number, 0, false, Recovery::None, p),
+        Asked::Version => {
+            let size = messages::version_not_supported(reply);
+            unmoved(5, size, false, Recovery::None, p)
         }
-        Wish::Echo { recovery, sequence } => {
+        Asked::Echo { recovery, sequence } => {
             let plan = node.plan;
-            messages::echo_of(reply, 2, sequence, plan.recovery);
-            unmoved(0, 13, false, recovery, p)
+            let size = messages::echo_of(reply, MessageType::ECHO_REPLY, sequence, plan.recovery);
+            unmoved(0, size, false, recovery, p)
         }
-        Wish::Ended { recovery } => unmoved(0, 0, true, recovery, p),
-        Wish::Named { header } => {
-            let rest = header.rest(d);
-            named_on(header, rest, p, reply)
-        }
-        Wish::Refused { why, to, sequence } => {
-            let size = control::write_cause(33, to, sequence, why, reply);
+        Asked::EchoReply { recovery } => unmoved(0, 0, true, recovery, p),
+        Asked::Create { create, sequence } => open_on(create, sequence, node, p, reply),
+        Asked::Refused { why, to, sequence } => {
+            let size = control::write_cause(MessageType::CREATE_REPLY, to, sequence, why, reply);
             unmoved(why.cause, size, false, Recovery::None, p)
         }
-        Wish::Open { create, sequence } => open_on(create, sequence, node, p, reply),
+        Asked::Session {
+            teid,
+            sequence,
+            concern,
+        } => named_on(teid, concern, sequence, p, reply),
     }
 }
 
-// What is asked; where the rules are broken, the number that says so.
-pub fn take(node: Node, w: Wish, p: Pair, d: &[u8], reply: &mut [u8]) -> Opened
-    ensures { λ r. ⌜ made r (now (reply .exit)) ≡ takenOn node w p (now (d .entry)) (now (reply .entry)) ⌝ }
+// In document 01's order: 1, 2, then what is asked.
+pub fn take(node: Node, a: Asked, p: Pair, reply: &mut [u8]) -> Opened
+    ensures { λ r. ⌜ made r (now (reply .exit)) ≡ takenOn node a p (now (reply .entry)) ⌝ }
 {
-    if !p.kept {
-        let number = wishes::broken_by(w);
-        return unmoved(number, 0, false, Recovery::None, p);
+    if reply.len() < Answer::LEAST_REPLY {
+        return unmoved(1, 0, false, Recovery::None, p);
     }
-    take_wish(node, w, p, d, reply)
+    if !p.kept {
+        return unmoved(2, 0, false, Recovery::None, p);
+    }
+    asked_on(node, a, p, reply)
 }
 
 // The node as it is then: a Recovery is stored, and an echo that ended is due again after E ticks.

@@ -9,6 +9,7 @@ use mathlib.Core.Path.{_≡_}
 use native.Mathlib.Omega.{arith}
 use lib.ListN.{length, getD, length-append}
 use lib.Dec.{ltb}
+use Rattle.octets.specs.Number.{taken, replyShort, rulesBroken, noPlace}
 use Rattle.octets.specs.Choice.{pick, split}
 use Rattle.octets.specs.BigEndian.{octetsOf, length-octets}
 use Rattle.octets.specs.Overlay.{overlay}
@@ -56,12 +57,12 @@ lineText place s = decimal 1 place ++ numberText (s .usage) ++ (9 ∷ []) ++ (st
 -- of the record of a place, where it is known whether the rules are kept and whether there is such a place
 unfoldable pub lineBy : Bool → Bool → Node → ℕ → Session → List ℕ → Back
 lineBy kept there node place s reply =
-    pick (ltb (length reply) leastReply) (back (bare 1 node) reply)
+    pick (ltb (length reply) leastReply) (back (bare replyShort node) reply)
     (pick kept
     (pick there
-    (back (record { number = 0; size = laid 0 (lineText place s) reply .at; node = node }) (laid 0 (lineText place s) reply .out))
-    (back (bare 10 node) reply))
-    (back (bare 2 node) reply))
+    (back (record { number = taken; size = laid 0 (lineText place s) reply .at; node = node }) (laid 0 (lineText place s) reply .out))
+    (back (bare noPlace node) reply))
+    (back (bare rulesBroken node) reply))
 
 -- the table stays
 unfoldable pub lineOf : Node → List Session → ℕ → List ℕ → Outcome

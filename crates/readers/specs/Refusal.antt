@@ -9,14 +9,41 @@ use Rattle.values.specs.declared.Imsi.the-variants as I
 use Rattle.values.specs.declared.Tunnel.{Tunnel}
 use Rattle.values.specs.declared.Tunnel.the-variants as T
 
+-- the causes by name; accepted is a Cause too
+abbrev pub acceptedCause : ℕ
+acceptedCause = 16
+
+abbrev pub notLiveCause : ℕ
+notLiveCause = 64
+
+-- a field that is short, also one that overruns
+abbrev pub shortCause : ℕ
+shortCause = 67
+
+abbrev pub wrongCause : ℕ
+wrongCause = 69
+
+abbrev pub missingCause : ℕ
+missingCause = 70
+
+abbrev pub noRoomCause : ℕ
+noRoomCause = 73
+
+abbrev pub unknownApnCause : ℕ
+unknownApnCause = 78
+
+-- an address type that is not served
+abbrev pub addressTypeCause : ℕ
+addressTypeCause = 83
+
 abbrev pub missing : ℕ → ℕ → Refusal
-missing kind instance = record { cause = 70; kind = kind; instance = instance; named = true }
+missing kind instance = record { cause = missingCause; kind = kind; instance = instance; named = true }
 
 abbrev pub short : ℕ → ℕ → Refusal
-short kind instance = record { cause = 67; kind = kind; instance = instance; named = true }
+short kind instance = record { cause = shortCause; kind = kind; instance = instance; named = true }
 
 abbrev pub wrong : ℕ → ℕ → Refusal
-wrong kind instance = record { cause = 69; kind = kind; instance = instance; named = true }
+wrong kind instance = record { cause = wrongCause; kind = kind; instance = instance; named = true }
 
 abbrev pub bare : ℕ → Refusal
 bare cause = record { cause = cause; kind = 0; instance = 0; named = false }

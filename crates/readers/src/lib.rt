@@ -30,6 +30,9 @@ pub enum Recovery {
 }
 
 impl Refusal {
+    // not a refusal: what is accepted has a Cause too
+    pub const ACCEPTED: u8 = 16;
+
     pub const NOT_LIVE: u8 = 64;
 
     pub const SHORT: u8 = 67;
@@ -37,6 +40,8 @@ impl Refusal {
     pub const WRONG: u8 = 69;
 
     pub const MISSING: u8 = 70;
+
+    pub const NO_ROOM: u8 = 73;
 
     pub const UNKNOWN_APN: u8 = 78;
 

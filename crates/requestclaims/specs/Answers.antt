@@ -8,6 +8,7 @@ use mathlib.Core.Path.{_≡_, refl}
 use native.Mathlib.Omega.{arith}
 use lib.ListN.{take, getD}
 use lib.Dec.{eqb, ltb}
+use Rattle.octets.specs.Number.{taken}
 use Rattle.octets.specs.Choice.{split, and-left, and-right}
 use Rattle.fields.specs.Walk.{part}
 use Rattle.fields.specs.Search.{find, Stands, find-stands, find-value}
@@ -22,6 +23,7 @@ use Rattle.values.specs.declared.Tunnel.the-variants as T
 use Rattle.readers.specs.declared.Octet.{Octet}
 use Rattle.readers.specs.declared.Octet.the-variants as O
 use Rattle.readers.specs.declared.Refusal.{Refusal}
+use Rattle.readers.specs.Refusal.{shortCause, wrongCause, missingCause, unknownApnCause, addressTypeCause}
 use Rattle.readers.specs.Kinds.{imsiKind, ratKind, tunnelKind, apnKind, paaKind, bearerKind, ebiKind, qosKind}
 use Rattle.readers.specs.Readers.{octetAt, octetIn, imsiIn, ratIn, tunnelIn, paaIn, ebiIn}
 use Rattle.plan.specs.declared.Plan.{Plan}
@@ -39,7 +41,8 @@ use Rattle.requests.specs.declared.Request.{Request}
 use Rattle.requests.specs.declared.Request.the-variants.{Create, Modify, Delete}
 use Rattle.requests.specs.declared.Decoded.{Decoded}
 use Rattle.requests.specs.declared.Decoded.the-variants.{Sound, Refused}
-use Rattle.changes.specs.Change.{modifyOf, deleteOf, peer, context, equal, unlessOther, ModifySound, modify-sound}
+use Rattle.requests.specs.declared.Ebi.{Ebi}
+use Rattle.changes.specs.Change.{modifyOf, deleteOf, peer, context, given, ModifySound, modify-sound}
 
 -- document 01's number of an answer: 0 where the request goes on, else the cause
 unfoldable pub numberFor : Decoded → ℕ
@@ -103,7 +106,7 @@ module _ (l : List ℕ) (kind : Request → Bool) where
   point-right cause (N.Point p) f e r = r p
   point-right cause N.Unknown f e r = e
 
-  place-right : (k i : ℕ) (m : Found) (f : ℕ → ℕ → Decoded) → among 70 l ≡ true → ((a n : ℕ) → right l kind (f a n) ≡ true) → right l kind (place k i m f) ≡ true
+  place-right : (k i : ℕ) (m : Found) (f : ℕ → ℕ → Decoded) → among missingCause l ≡ true → ((a n : ℕ) → right l kind (f a n) ≡ true) → right l kind (place k i m f) ≡ true
   unfolding right
   place-right k i (F.At a n) f e r = r a n
   place-right k i F.Missing f e r = e
@@ -113,7 +116,7 @@ module _ (l : List ℕ) (kind : Request → Bool) where
   context-right F.Missing without f e r = e
 
   -- a field that is missing, short or wrong
-  module _ (e70 : among 70 l ≡ true) (e67 : among 67 l ≡ true) (e69 : among 69 l ≡ true) where
+  module _ (e70 : among missingCause l ≡ true) (e67 : among shortCause l ≡ true) (e69 : among wrongCause l ≡ true) where
     octet-right : (k i : ℕ) (m : Octet) (f : ℕ → Decoded) → ((x : ℕ) → right l kind (f x) ≡ true) → right l kind (octet k i m f) ≡ true
     unfolding right
     octet-right k i (O.Value x) f r = r x
@@ -142,17 +145,12 @@ module _ (l : List ℕ) (kind : Request → Bool) where
     peer-right k i T.Short f r = e67
     peer-right k i T.Wrong f r = e69
 
-    equal-right : (k i : ℕ) (t : Bool) (rest : Decoded) → right l kind rest ≡ true → right l kind (equal k i t rest) ≡ true
-    unfolding right
-    equal-right k i true rest r = r
-    equal-right k i false rest r = e69
-
-  other-right : (ebi : ℕ) (m : Octet) (rest : Decoded) → among 67 l ≡ true → among 64 l ≡ true → (m ≡ O.Wrong → ⊥) → right l kind rest ≡ true → right l kind (unlessOther ebi m rest) ≡ true
+  given-right : (m : Octet) (f : Ebi → Decoded) → among shortCause l ≡ true → (m ≡ O.Wrong → ⊥) → ((e : Ebi) → right l kind (f e) ≡ true) → right l kind (given m f) ≡ true
   unfolding right
-  other-right ebi (O.Value x) rest e67 e64 w r = split (eqb (x % 16) ebi) (λ t. rw t r) (λ t. rw t e64)
-  other-right ebi O.Missing rest e67 e64 w r = r
-  other-right ebi O.Short rest e67 e64 w r = e67
-  other-right ebi O.Wrong rest e67 e64 w r = absurd (w refl)
+  given-right (O.Value x) f e67 w r = r _
+  given-right O.Missing f e67 w r = r _
+  given-right O.Short f e67 w r = e67
+  given-right O.Wrong f e67 w r = absurd (w refl)
 
 -- the octet of a field as it stands is never wrong: only a judgement of it is
 octet-not-wrong : (s : List ℕ) (least : ℕ) (f : Found) → octetAt s least f ≡ O.Wrong → ⊥
@@ -166,13 +164,13 @@ octet-not-wrong s least (F.At a n) e =
 -- ---- the claims
 -- the numbers that each may answer
 unfoldable pub createNumbers : List ℕ
-createNumbers = 0 ∷ 67 ∷ 69 ∷ 70 ∷ 78 ∷ 83 ∷ []
+createNumbers = taken ∷ shortCause ∷ wrongCause ∷ missingCause ∷ unknownApnCause ∷ addressTypeCause ∷ []
 
 unfoldable pub modifyNumbers : List ℕ
-modifyNumbers = 0 ∷ 67 ∷ 69 ∷ 70 ∷ []
+modifyNumbers = taken ∷ shortCause ∷ wrongCause ∷ missingCause ∷ []
 
 unfoldable pub deleteNumbers : List ℕ
-deleteNumbers = 0 ∷ 64 ∷ 67 ∷ []
+deleteNumbers = taken ∷ shortCause ∷ []
 
 create-sort : (c : C.Create) → right createNumbers isCreate (Sound (Create c)) ≡ true
 unfolding right isCreate createNumbers
@@ -189,7 +187,7 @@ delete-sort d = refl
 create-right : (plan : Plan) (s : List ℕ) → right createNumbers isCreate (createOf plan s) ≡ true
 unfolding createOf createNumbers
 create-right plan s =
-    refuse-right createNumbers isCreate 67 (overIn s) _ refl
+    refuse-right createNumbers isCreate shortCause (overIn s) _ refl
     (imsi-right createNumbers isCreate refl refl refl imsiKind 0 (imsiIn s) _ λ imsi.
     octet-right createNumbers isCreate refl refl refl ratKind 0 (ratIn s) _ λ rat.
     tunnel-right createNumbers isCreate refl refl refl tunnelKind 0 (tunnelIn s 0 6) _ λ control controladdr.
@@ -199,41 +197,39 @@ create-right plan s =
     octet-right createNumbers isCreate refl refl refl ebiKind 0 (ebiIn (part s start all)) _ λ ebi.
     tunnel-right createNumbers isCreate refl refl refl tunnelKind 2 (tunnelIn (part s start all) 2 4) _ λ user useraddr.
     octet-right createNumbers isCreate refl refl refl qosKind 0 (octetIn (part s start all) qosKind 22) _ λ qos.
-    point-right createNumbers isCreate 78 (namedIn (used plan) (part s apn size)) _ refl λ point.
-    refuse-right createNumbers isCreate 83 (not (eqb paa 1)) _ refl (create-sort _))
+    point-right createNumbers isCreate unknownApnCause (namedIn (used plan) (part s apn size)) _ refl λ point.
+    refuse-right createNumbers isCreate addressTypeCause (not (eqb paa 1)) _ refl (create-sort _))
 
-modify-right : (ebi : ℕ) (s : List ℕ) → right modifyNumbers isModify (modifyOf ebi s) ≡ true
+modify-right : (s : List ℕ) → right modifyNumbers isModify (modifyOf s) ≡ true
 unfolding modifyOf modifyNumbers
-modify-right ebi s =
-    refuse-right modifyNumbers isModify 67 (overIn s) _ refl
+modify-right s =
+    refuse-right modifyNumbers isModify shortCause (overIn s) _ refl
     (peer-right modifyNumbers isModify refl refl refl tunnelKind 0 (tunnelIn s 0 6) _ λ control.
     context-right modifyNumbers isModify (find s bearerKind 0) _ _ (modify-sort _) λ start size.
     octet-right modifyNumbers isModify refl refl refl ebiKind 0 (ebiIn (part s start size)) _ λ x.
-    equal-right modifyNumbers isModify refl refl refl ebiKind 0 (eqb x ebi) _
-    (peer-right modifyNumbers isModify refl refl refl tunnelKind 1 (tunnelIn (part s start size) 1 4) _ λ user.
-    modify-sort _))
+    modify-sort _)
 
-delete-right : (ebi : ℕ) (s : List ℕ) → right deleteNumbers isDelete (deleteOf ebi s) ≡ true
+delete-right : (s : List ℕ) → right deleteNumbers isDelete (deleteOf s) ≡ true
 unfolding deleteOf deleteNumbers octetIn
-delete-right ebi s =
-    refuse-right deleteNumbers isDelete 67 (overIn s) _ refl
-    (other-right deleteNumbers isDelete ebi (octetIn s ebiKind 1) _ refl refl (octet-not-wrong s 1 (find s ebiKind 0)) (delete-sort _))
+delete-right s =
+    refuse-right deleteNumbers isDelete shortCause (overIn s) _ refl
+    (given-right deleteNumbers isDelete (octetIn s ebiKind 1) _ refl (octet-not-wrong s 1 (find s ebiKind 0)) λ ebi. delete-sort _)
 
 unfoldable pub CreateAnswers : Type 0
 CreateAnswers = (plan : Plan) (s : List ℕ) → Answers createNumbers isCreate (createOf plan s)
 
 unfoldable pub ModifyAnswers : Type 0
-ModifyAnswers = (ebi : ℕ) (s : List ℕ) → Answers modifyNumbers isModify (modifyOf ebi s)
+ModifyAnswers = (s : List ℕ) → Answers modifyNumbers isModify (modifyOf s)
 
 unfoldable pub DeleteAnswers : Type 0
-DeleteAnswers = (ebi : ℕ) (s : List ℕ) → Answers deleteNumbers isDelete (deleteOf ebi s)
+DeleteAnswers = (s : List ℕ) → Answers deleteNumbers isDelete (deleteOf s)
 
 -- what a decoded Create and Modify hold is sound
 unfoldable pub CreatesSound : Type 0
 CreatesSound = (plan : Plan) (s : List ℕ) (c : C.Create) → createOf plan s ≡ Sound (Create c) → CreateSound (parties plan) c
 
 unfoldable pub ModifiesSound : Type 0
-ModifiesSound = (ebi : ℕ) (s : List ℕ) (m : M.Modify) → modifyOf ebi s ≡ Sound (Modify m) → ModifySound m
+ModifiesSound = (s : List ℕ) (m : M.Modify) → modifyOf s ≡ Sound (Modify m) → ModifySound m
 
 -- a field's value is the octets between its start and its end: behind type, length and instance, as many as the length says
 pub record ItsOctets (s : List ℕ) (kind inst start size : ℕ) : Type 0 where
@@ -249,11 +245,11 @@ create-answers plan s = answers createNumbers isCreate (createOf plan s) (create
 
 pub modify-answers : ModifyAnswers
 unfolding ModifyAnswers
-modify-answers ebi s = answers modifyNumbers isModify (modifyOf ebi s) (modify-right ebi s)
+modify-answers s = answers modifyNumbers isModify (modifyOf s) (modify-right s)
 
 pub delete-answers : DeleteAnswers
 unfolding DeleteAnswers
-delete-answers ebi s = answers deleteNumbers isDelete (deleteOf ebi s) (delete-right ebi s)
+delete-answers s = answers deleteNumbers isDelete (deleteOf s) (delete-right s)
 
 pub creates-sound : CreatesSound
 unfolding CreatesSound

@@ -14,6 +14,7 @@ use Rattle.fields.specs.Overrun.{overIn}
 use Rattle.values.specs.Imsi.{imsiLimit}
 use Rattle.values.specs.declared.Tunnel.{Tunnel}
 use Rattle.values.specs.declared.Tunnel.the-variants as T
+use Rattle.readers.specs.Refusal.{shortCause, unknownApnCause, addressTypeCause}
 use Rattle.readers.specs.Kinds.{imsiKind, ratKind, tunnelKind, apnKind, paaKind, bearerKind, ebiKind, qosKind}
 use Rattle.readers.specs.Readers.{imsiIn, ratIn, tunnelIn, paaIn, ebiIn, octetIn, recoveryIn, imsi-in-below, ebi-range, tunnel-in-live}
 use Rattle.readers.specs.declared.Recovery.{Recovery}
@@ -27,20 +28,10 @@ use Rattle.requests.specs.declared.Asked.{Asked}
 use Rattle.requests.specs.declared.Bearer.{Bearer}
 use Rattle.requests.specs.declared.Create as C
 use Rattle.requests.specs.declared.Request.{Request}
-use Rattle.requests.specs.declared.Request.the-variants.{Create}
+use Rattle.requests.specs.declared.Request.the-variants.{Create, Modify, Delete}
 use Rattle.requests.specs.declared.Decoded.{Decoded}
 use Rattle.requests.specs.declared.Decoded.the-variants.{Sound, Refused}
 use Rattle.requests.specs.Chain.{refuse, place, octet, imsi, tunnel, point, refuse-got, place-got, octet-got, imsi-got, tunnel-got, point-got}
-
--- the causes that name no field here: an overrun, an unknown APN, an address type that is not served
-abbrev pub overrunCause : ℕ
-overrunCause = 67
-
-abbrev pub unknownApn : ℕ
-unknownApn = 78
-
-abbrev pub addressType : ℕ
-addressType = 83
 
 -- the one PAA type that is served: IPv4
 abbrev pub ipv4 : ℕ
@@ -48,7 +39,7 @@ ipv4 = 1
 
 unfoldable pub createOf : Plan → List ℕ → Decoded
 createOf plan s =
-    refuse overrunCause (overIn s) (
+    refuse shortCause (overIn s) (
     imsi imsiKind 0 (imsiIn s) λ imsi.
     octet ratKind 0 (ratIn s) λ rat.
     tunnel tunnelKind 0 (tunnelIn s 0 6) λ control controladdr.
@@ -58,8 +49,8 @@ createOf plan s =
     octet ebiKind 0 (ebiIn (part s start all)) λ ebi.
     tunnel tunnelKind 2 (tunnelIn (part s start all) 2 4) λ user useraddr.
     octet qosKind 0 (octetIn (part s start all) qosKind 22) λ qos.
-    point unknownApn (namedIn (used plan) (part s apn size)) λ point.
-    refuse addressType (not (eqb paa ipv4)) (
+    point unknownApnCause (namedIn (used plan) (part s apn size)) λ point.
+    refuse addressTypeCause (not (eqb paa ipv4)) (
     Sound (Create (record {
       imsi = imsi;
       ebi = ebi;
@@ -74,8 +65,8 @@ createOf plan s =
 -- ---- the same in stages, as it is read: of the message, of the Bearer Context, and what is settled after the list
 unfoldable pub settledOf : Sender → Asked → Bearer → Decoded
 settledOf who what bearer =
-    point unknownApn (what .named) λ point.
-    refuse addressType (not (eqb (what .paa) ipv4)) (
+    point unknownApnCause (what .named) λ point.
+    refuse addressTypeCause (not (eqb (what .paa) ipv4)) (
     Sound (Create (record {
       imsi = who .imsi;
       ebi = bearer .ebi;
@@ -102,7 +93,7 @@ askedOf plan s who =
     bearerOf (part s start all) who (record { named = namedIn (used plan) (part s apn size); paa = paa; recovery = recoveryIn s })
 
 pub create-stages : (plan : Plan) (s : List ℕ) → createOf plan s ≡
-    refuse overrunCause (overIn s) (
+    refuse shortCause (overIn s) (
     imsi imsiKind 0 (imsiIn s) λ imsi.
     octet ratKind 0 (ratIn s) λ rat.
     tunnel tunnelKind 0 (tunnelIn s 0 6) λ control controladdr.
@@ -129,30 +120,40 @@ pub record CreateSound (parties : ℕ) (c : C.Create) : Type 0 where
   pub user : 0 < c .user
   pub point : c .point < parties
 
-is-create : (n : ℕ) (r c : C.Create) → Sound (Create r) ≡ Sound (Create c) → CreateSound n r → CreateSound n c
-is-create n r c e q = let g : r ≡ c = cc in rw (← g) q
+-- a request that came of it is a Create that is sound
+module _ (plan : Plan) (s : List ℕ) (q : Request) (P : Request → Type 0) where
+  is-create : (r : C.Create) → Sound (Create r) ≡ Sound q → P (Create r) → P q
+  is-create r e h = let g : Create r ≡ q = cc in rw (← g) h
+
+  pub create-is : createOf plan s ≡ Sound q → ((c : C.Create) → CreateSound (parties plan) c → P (Create c)) → P q
+  unfolding createOf
+  create-is e k =
+      refuse-got q shortCause (overIn s) _ e λ o e0.
+      imsi-got q imsiKind 0 (imsiIn s) _ e0 λ x hx e1.
+      octet-got q ratKind 0 (ratIn s) _ e1 λ rat hr e2.
+      tunnel-got q tunnelKind 0 (tunnelIn s 0 6) _ e2 λ t a ht e3.
+      place-got q apnKind 0 (find s apnKind 0) _ e3 λ apn size ha e4.
+      octet-got q paaKind 0 (paaIn s) _ e4 λ paa hp e5.
+      place-got q bearerKind 0 (find s bearerKind 0) _ e5 λ start all hb e6.
+      octet-got q ebiKind 0 (ebiIn (part s start all)) _ e6 λ ebi he e7.
+      tunnel-got q tunnelKind 2 (tunnelIn (part s start all) 2 4) _ e7 λ u b hu e8.
+      octet-got q qosKind 0 (octetIn (part s start all) qosKind 22) _ e8 λ qos hq e9.
+      point-got q unknownApnCause (namedIn (used plan) (part s apn size)) _ e9 λ p hn e10.
+      refuse-got q addressTypeCause (not (eqb paa ipv4)) _ e10 λ hv e11.
+      is-create _ e11 (k _ (record {
+        imsi = imsi-in-below s x hx;
+        low = ebi-range (part s start all) ebi he .0;
+        high = ebi-range (part s start all) ebi he .1;
+        control = tunnel-in-live s 0 6 t a ht;
+        user = tunnel-in-live (part s start all) 2 4 u b hu;
+        point = named-is (used plan) (part s apn size) p noPoint hn .0;
+      }))
+
+unfoldable SoundIf : ℕ → Request → Type 0
+SoundIf n (Create c) = CreateSound n c
+SoundIf n (Modify m) = Unit {0}
+SoundIf n (Delete d) = Unit {0}
 
 pub create-sound : (plan : Plan) (s : List ℕ) (c : C.Create) → createOf plan s ≡ Sound (Create c) → CreateSound (parties plan) c
-unfolding createOf
-create-sound plan s c e =
-    refuse-got (Create c) overrunCause (overIn s) _ e λ o e0.
-    imsi-got (Create c) imsiKind 0 (imsiIn s) _ e0 λ x hx e1.
-    octet-got (Create c) ratKind 0 (ratIn s) _ e1 λ rat hr e2.
-    tunnel-got (Create c) tunnelKind 0 (tunnelIn s 0 6) _ e2 λ t a ht e3.
-    place-got (Create c) apnKind 0 (find s apnKind 0) _ e3 λ apn size ha e4.
-    octet-got (Create c) paaKind 0 (paaIn s) _ e4 λ paa hp e5.
-    place-got (Create c) bearerKind 0 (find s bearerKind 0) _ e5 λ start all hb e6.
-    octet-got (Create c) ebiKind 0 (ebiIn (part s start all)) _ e6 λ ebi he e7.
-    tunnel-got (Create c) tunnelKind 2 (tunnelIn (part s start all) 2 4) _ e7 λ u b hu e8.
-    octet-got (Create c) qosKind 0 (octetIn (part s start all) qosKind 22) _ e8 λ qos hq e9.
-    point-got (Create c) unknownApn (namedIn (used plan) (part s apn size)) _ e9 λ p hn e10.
-    refuse-got (Create c) addressType (not (eqb paa ipv4)) _ e10 λ hv e11.
-    is-create (parties plan) _ c e11
-    (record {
-      imsi = imsi-in-below s x hx;
-      low = ebi-range (part s start all) ebi he .0;
-      high = ebi-range (part s start all) ebi he .1;
-      control = tunnel-in-live s 0 6 t a ht;
-      user = tunnel-in-live (part s start all) 2 4 u b hu;
-      point = named-is (used plan) (part s apn size) p noPoint hn .0;
-    })
+unfolding SoundIf
+create-sound plan s c e = create-is plan s (Create c) (SoundIf (parties plan)) e (λ x h. h)

@@ -31,22 +31,27 @@ pub enum Peer {
     New { teid: u32, address: u32 },
 }
 
-// Whether a Bearer Context came.
+// A Bearer Context of a Modify, if it came: its EBI, and its F-TEID as it was read, which is judged once the EBI is known to be the session's.
 pub enum Context {
     Absent,
-    Present,
+    Present { ebi: u8, user: Tunnel },
 }
 
 // A session's peer, moved.
 pub struct Modify {
     pub control: Peer,
     pub context: Context,
-    pub user: Peer,
 }
 
-// A session given up: the EBI is the session's.
+// The EBI of a Delete, if it came.
+pub enum Ebi {
+    Absent,
+    Given(u8),
+}
+
+// A session given up.
 pub struct Delete {
-    pub ebi: u8,
+    pub ebi: Ebi,
 }
 
 pub enum Request {

@@ -3,7 +3,9 @@
 // it is 0; a Recovery that is not there is 256.
 use carried::BearerReply;
 use carried::EchoReply;
+use changes::Moves;
 use header::HeaderCursor;
+use messages::MessageType;
 use plan::AccessPoint;
 use plan::Plan;
 use readers::Recovery;
@@ -11,6 +13,7 @@ use readers::Refusal;
 use requests::Context;
 use requests::Create;
 use requests::Decoded;
+use requests::Delete;
 use requests::Modify;
 use requests::Peer;
 use requests::Request;
@@ -139,7 +142,7 @@ fn refused(w: Refusal) -> Answer {
 
 fn of_create(c: Create) -> Answer {
     let mut a = nothing();
-    a.kind = 32;
+    a.kind = MessageType::CREATE as u64;
     a.imsi = c.imsi;
     a.ebi = c.ebi as u64;
     a.control = c.control as u64;
@@ -152,20 +155,17 @@ fn of_create(c: Create) -> Answer {
     a
 }
 
-fn of_modify(m: Modify) -> Answer {
+fn of_moves(control: Peer, context: Context, user: Peer) -> Answer {
     let mut a = nothing();
-    a.kind = 34;
-    let control = m.control;
+    a.kind = MessageType::MODIFY as u64;
     if let Peer::New { teid, address } = control {
         a.moved = 1;
         a.control = teid as u64;
         a.controladdr = address as u64;
     }
-    let context = m.context;
-    if let Context::Present = context {
+    if let Context::Present { ebi: _, user: _ } = context {
         a.context = 1;
     }
-    let user = m.user;
     if let Peer::New { teid, address } = user {
         a.usermoved = 1;
         a.user = teid as u64;
@@ -174,22 +174,36 @@ fn of_modify(m: Modify) -> Answer {
     a
 }
 
-fn of_request(q: Request) -> Answer {
-    match q {
-        Request::Create(c) => of_create(c),
-        Request::Modify(m) => of_modify(m),
-        Request::Delete(d) => {
-            let mut a = nothing();
-            a.kind = 36;
-            a.ebi = d.ebi as u64;
-            a
-        }
+// What a Modify and a Delete come to for a session of an EBI.
+fn of_modify(m: Modify, ebi: u8) -> Answer {
+    let context = m.context;
+    match changes::moves_of(m, ebi) {
+        Moves::To { control, user } => of_moves(control, context, user),
+        Moves::Refused(w) => refused(w),
     }
 }
 
-fn of_decoded(d: Decoded) -> Answer {
+fn of_delete(d: Delete, ebi: u8) -> Answer {
+    if !changes::means_of(d, ebi) {
+        return refused(Refusal::bare(Refusal::NOT_LIVE));
+    }
+    let mut a = nothing();
+    a.kind = MessageType::DELETE as u64;
+    a.ebi = ebi as u64;
+    a
+}
+
+fn of_request(q: Request, ebi: u8) -> Answer {
+    match q {
+        Request::Create(c) => of_create(c),
+        Request::Modify(m) => of_modify(m, ebi),
+        Request::Delete(d) => of_delete(d, ebi),
+    }
+}
+
+fn of_decoded(d: Decoded, ebi: u8) -> Answer {
     match d {
-        Decoded::Sound(q) => of_request(q),
+        Decoded::Sound(q) => of_request(q, ebi),
         Decoded::Refused(w) => refused(w),
     }
 }
@@ -212,19 +226,19 @@ pub extern "C" fn requests_head(d: &[u8]) -> Head {
 pub extern "C" fn requests_create(s: &[u8]) -> Answer {
     let plan = trial_plan();
     let d = requests::read_create(plan, s);
-    let mut a = of_decoded(d);
+    let mut a = of_decoded(d, 0);
     a.replyto = requests::reply_to(s) as u64;
     a
 }
 
 #[no_mangle]
 pub extern "C" fn requests_modify(s: &[u8], ebi: u8) -> Answer {
-    of_decoded(changes::read_modify(ebi, s))
+    of_decoded(changes::read_modify(s), ebi)
 }
 
 #[no_mangle]
 pub extern "C" fn requests_delete(s: &[u8], ebi: u8) -> Answer {
-    of_decoded(changes::read_delete(ebi, s))
+    of_decoded(changes::read_delete(s), ebi)
 }
 
 #[no_mangle]

@@ -18,8 +18,11 @@ use Rattle.session.specs.declared.Bounds.{Bounds}
 use Rattle.session.specs.Session.{isFree, recordOk}
 
 -- IMSI and EBI as one number that is not 0; a free record has no key
+abbrev pub idKey : ℕ → ℕ → ℕ
+idKey imsi ebi = imsi % 36028797018963968 * 256 + ebi
+
 unfoldable pub keyOf : Session → ℕ
-keyOf s = pick {A = ℕ} (isFree s) 0 (s .imsi % 36028797018963968 * 256 + s .ebi)
+keyOf s = pick {A = ℕ} (isFree s) 0 (idKey (s .imsi) (s .ebi))
 
 -- the awaited number plus one, or 0
 unfoldable pub waitOf : Request → ℕ

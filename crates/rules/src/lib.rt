@@ -8,7 +8,7 @@ use session::Session;
 ghost use mathlib.Core.Path.{_≡_};
 ghost use Rattle.table.specs.Rules.{boundsOf};
 ghost use Rattle.rules.specs.Check.{unpackedOf};
-ghost use Rattle.rules.specs.Survey.{keyOf, waitOf, unit, weightOf};
+ghost use Rattle.rules.specs.Survey.{idKey, keyOf, waitOf, unit, weightOf};
 
 pub fn key(s: Session) -> u64
     ensures { λ r. ⌜ r ≡ keyOf s ⌝ }
@@ -16,7 +16,14 @@ pub fn key(s: Session) -> u64
     if s.state == Session::FREE {
         return 0;
     }
-    s.imsi % 36028797018963968 * 256 + s.ebi as u64
+    id_key(s.imsi, s.ebi)
+}
+
+// IMSI and EBI as the key that a session with them has.
+pub fn id_key(imsi: u64, ebi: u8) -> u64
+    ensures { λ r. ⌜ r ≡ idKey imsi ebi ⌝ }
+{
+    imsi % 36028797018963968 * 256 + ebi as u64
 }
 
 pub fn wait(r: Request) -> u64

@@ -53,6 +53,10 @@ blank s =
     && eqb (s .created) 0
     && eqb (s .own .timer) 0 && eqb (s .own .sends) 0 && eqb (s .own .number) 0
 
+-- what a free record has to be
+unfoldable pub freeOk : Session → Bool
+freeOk s = leb (s .usage) lastUse && blank s
+
 unfoldable pub heldOk : Bounds → Session → Bool
 heldOk b s =
     leb 1 (s .usage)

@@ -1,15 +1,16 @@
 -- Several fields tested at once: the bits of all of them together are 0 where each of them is.
 -- Assumes nothing.
-use Prim.Native.Nat.{ℕ, _<_}
+use Prim.Native.Nat.{ℕ, _+_, _*_, _<_, _≤_}
 use mathlib.Core.Bool.{Bool, true, false, _&&_}
-use mathlib.Core.Path.{_≡_, refl, sym}
+use mathlib.Core.Path.{_≡_, refl, sym, _∙_}
 use native.Mathlib.Omega.{arith}
 use lib.Bits.{bitOr, and-le-r, or-add-and, or-zero-l, or-lt}
-use lib.Dec.{eqb}
-use borrow.Author.Tests.{eqb-true, eqb-false, ne-eqb}
-use Rattle.octets.specs.Choice.{split, and-left, and-right}
+use lib.Dec.{eqb, leb}
+use borrow.Author.Tests.{eqb-true, eqb-false, eq-eqb, ne-eqb, leb-true, le-leb, lt-leb}
+use Rattle.octets.specs.Choice.{split, and-left, and-right, and-no}
+use Rattle.tunnel.specs.Numbering.{lastUse}
 use Rattle.session.specs.declared.Session.{Session}
-use Rattle.session.specs.Session.{blank}
+use Rattle.session.specs.Session.{blank, freeOk}
 
 pub or-none : (a b : ℕ) → eqb (bitOr a b) 0 ≡ (eqb a 0 && eqb b 0)
 or-none a b = split (eqb a 0)
@@ -64,19 +65,69 @@ pub blank-bits : (s : Session)
 unfolding blank
 blank-bits s = simp or-none (shuffled (eqb (s .imsi) 0) (eqb (s .control) 0) (eqb (s .controladdr) 0) (eqb (s .user) 0) (eqb (s .useraddr) 0) (eqb (s .created) 0) (eqb (s .own .number) 0) (eqb (s .point) 0) (eqb (s .ebi) 0) (eqb (s .own .timer) 0) (eqb (s .own .sends) 0))
 
--- a record's fields of 32 bits and of 8 bits, together
-pub words-fit : (s : Session) → s .control < 4294967296 → s .controladdr < 4294967296 → s .user < 4294967296 → s .useraddr < 4294967296 → s .created < 4294967296 → s .own .number < 4294967296
-    → bitOr (bitOr (bitOr (bitOr (bitOr (s .control) (s .controladdr)) (s .user)) (s .useraddr)) (s .created)) (s .own .number) < 18446744073709551616
-words-fit s a b c d e f =
-    let w = or-lt 32 (bitOr (bitOr (bitOr (bitOr (s .control) (s .controladdr)) (s .user)) (s .useraddr)) (s .created)) (s .own .number)
-    (or-lt 32 (bitOr (bitOr (bitOr (s .control) (s .controladdr)) (s .user)) (s .useraddr)) (s .created)
-    (or-lt 32 (bitOr (bitOr (s .control) (s .controladdr)) (s .user)) (s .useraddr)
-    (or-lt 32 (bitOr (s .control) (s .controladdr)) (s .user) (or-lt 32 (s .control) (s .controladdr) a b) c) d) e) f in
-    omega arith
-
+-- a record's fields of 8 bits, together
 pub octets-fit : (s : Session) → s .point < 256 → s .ebi < 256 → s .own .timer < 256 → s .own .sends < 256
     → bitOr (bitOr (bitOr (s .point) (s .ebi)) (s .own .timer)) (s .own .sends) < 18446744073709551616
 octets-fit s a b c d =
     let w = or-lt 8 (bitOr (bitOr (s .point) (s .ebi)) (s .own .timer)) (s .own .sends)
     (or-lt 8 (bitOr (s .point) (s .ebi)) (s .own .timer) (or-lt 8 (s .point) (s .ebi) a b) c) d in
     omega arith
+
+-- ---- a free record: the use and the control TEID as one number, the other fields by their bits
+first-fits : (u c : ℕ) → u < 4294967296 → leb (u + c * 4294967296) 16777215 ≡ (leb u 16777215 && eqb c 0)
+first-fits u c h = both-ways (leb (u + c * 4294967296) 16777215) (leb u 16777215 && eqb c 0) there back
+  where
+    there : leb (u + c * 4294967296) 16777215 ≡ true → (leb u 16777215 && eqb c 0) ≡ true
+    there e = let l = leb-true (u + c * 4294967296) 16777215 e in rw (le-leb u 16777215 (omega arith), eq-eqb c 0 (omega arith))
+
+    back : (leb u 16777215 && eqb c 0) ≡ true → leb (u + c * 4294967296) 16777215 ≡ true
+    back e =
+        let l = leb-true u 16777215 (and-left (leb u 16777215) (eqb c 0) e) in
+        let z = eqb-true c 0 (and-right (leb u 16777215) (eqb c 0) e) in
+        le-leb (u + c * 4294967296) 16777215 (omega arith)
+
+-- all fields but the use, the control TEID and the state, by their bits
+abbrev pub restBits : Session → ℕ
+restBits s =
+    bitOr (bitOr (s .imsi) (bitOr (bitOr (bitOr (bitOr (s .controladdr) (s .user)) (s .useraddr)) (s .created)) (s .own .number)))
+    (bitOr (bitOr (bitOr (s .point) (s .ebi)) (s .own .timer)) (s .own .sends))
+
+control-first : (c i a u x r n o : Bool) → (c && (i && (a && u && x && r && n) && o)) ≡ (i && (c && a && u && x && r && n) && o)
+control-first true i a u x r n o = refl
+control-first false true a u x r n o = refl
+control-first false false a u x r n o = refl
+
+rest-bits : (s : Session) → (eqb (s .control) 0 && eqb (restBits s) 0) ≡ blank s
+rest-bits s = simp or-none (control-first (eqb (s .control) 0) (eqb (s .imsi) 0) (eqb (s .controladdr) 0) (eqb (s .user) 0) (eqb (s .useraddr) 0) (eqb (s .created) 0) (eqb (s .own .number) 0)
+    (eqb (s .point) 0 && eqb (s .ebi) 0 && eqb (s .own .timer) 0 && eqb (s .own .sends) 0))
+    ∙ (simp or-none at (blank-bits s))
+
+pub words-fit : (s : Session) → s .controladdr < 4294967296 → s .user < 4294967296 → s .useraddr < 4294967296 → s .created < 4294967296 → s .own .number < 4294967296
+    → bitOr (bitOr (bitOr (bitOr (s .controladdr) (s .user)) (s .useraddr)) (s .created)) (s .own .number) < 18446744073709551616
+words-fit s a b c d e =
+    let w = or-lt 32 (bitOr (bitOr (bitOr (s .controladdr) (s .user)) (s .useraddr)) (s .created)) (s .own .number)
+    (or-lt 32 (bitOr (bitOr (s .controladdr) (s .user)) (s .useraddr)) (s .created)
+    (or-lt 32 (bitOr (s .controladdr) (s .user)) (s .useraddr) (or-lt 32 (s .controladdr) (s .user) a b) c) d) e in
+    omega arith
+
+-- the three ways of the two tests
+module _ (s : Session) (word : s .usage < 4294967296) where
+  vacant-is : (leb (s .usage) lastUse && blank s) ≡ (leb (s .usage + s .control * 4294967296) 16777215 && eqb (restBits s) 0)
+  unfolding lastUse
+  vacant-is = rw (← rest-bits s, first-fits (s .usage) (s .control) word) (three (leb (s .usage) 16777215) (eqb (s .control) 0) (eqb (restBits s) 0))
+    where
+      three : (a b c : Bool) → (a && (b && c)) ≡ (a && b && c)
+      three true b c = refl
+      three false b c = refl
+
+  pub free-blank : s .usage + s .control * 4294967296 ≤ 16777215 → restBits s ≡ 0 → true ≡ freeOk s
+  unfolding freeOk
+  free-blank l e = rw (vacant-is, le-leb (s .usage + s .control * 4294967296) 16777215 l, eq-eqb (restBits s) 0 e)
+
+  pub free-filled : (restBits s ≡ 0 → ⊥) → false ≡ freeOk s
+  unfolding freeOk
+  free-filled e = rw (vacant-is, ne-eqb (restBits s) 0 e, and-no (leb (s .usage + s .control * 4294967296) 16777215))
+
+  pub free-used : 16777215 < s .usage + s .control * 4294967296 → false ≡ freeOk s
+  unfolding freeOk
+  free-used l = rw (vacant-is, lt-leb (s .usage + s .control * 4294967296) 16777215 l)

@@ -1,7 +1,7 @@
 // A session record: its rules, and every way in which one is made or changed. Later fields are added here.
 ghost use mathlib.Core.Path.{_≡_};
-ghost use Rattle.session.specs.Request.{idle, requestOk, sentOnce, countedDown, spent};
-ghost use Rattle.session.specs.Session.{isFree, waitsFor, blank, heldOk, phaseOk, recordOk, blankAt, freed, opened, moved, closed, sent, ticked};
+ghost use Rattle.session.specs.Request.{idle, awaits, requestOk, sentOnce, countedDown, spent};
+ghost use Rattle.session.specs.Session.{isFree, waitsFor, freeOk, heldOk, blankAt, freed, opened, moved, closed, sent, ticked};
 
 // A request of the unit's own: a closing place's Delete Bearer, or the echo.
 #[repr(C)]
@@ -119,6 +119,13 @@ impl Request {
         }
     }
 
+    // Whether it awaits a number.
+    pub fn awaits(self, number: u32) -> bool
+        ensures { λ r. ⌜ r ≡ awaits number self ⌝ }
+    {
+        (self.sends != 0) & (self.number == number)
+    }
+
     // Whether this tick gives it up.
     pub fn spent(self, most: u8) -> bool
         ensures { λ r. ⌜ r ≡ spent most self ⌝ }
@@ -174,22 +181,24 @@ impl Session {
         ensures { λ r. ⌜ r ≡ waitsFor number self ⌝ }
     {
         let own = self.own;
-        (own.sends != 0) & (own.number == number)
+        own.awaits(number)
     }
 
-    // Zero but for its use and its state: no bit is set in any other field.
-    pub fn blank(self) -> bool
-        ensures { λ r. ⌜ r ≡ blank self ⌝ }
+    // What a free record has to be: its use in range, all else zero. The use and the control TEID are tested as one number, then the others
+    // by their bits.
+    pub fn free_ok(self) -> bool
+        ensures { λ r. ⌜ r ≡ freeOk self ⌝ }
     {
         let own = self.own;
-        let words = self.control
-            | self.controladdr
-            | self.user
-            | self.useraddr
-            | self.created
-            | own.number;
+        let first = self.usage as u64 + self.control as u64 * 4294967296;
+        let words = self.controladdr | self.user | self.useraddr | self.created | own.number;
         let octets = self.point | self.ebi | own.timer | own.sends;
-        self.imsi | words as u64 | octets as u64 == 0
+        if first <= tunnel::Holder::LAST_USE as u64 {
+            if self.imsi | words as u64 | octets as u64 == 0 {
+                return true;
+            }
+        }
+        false
     }
 
     // What a live place holds, as it was read.
@@ -204,33 +213,6 @@ impl Session {
                 & (self.control != 0)
                 & (self.user != 0)
                 & (self.created <= Self::LAST_CREATED))
-    }
-
-    // Where a live place stands with its own request.
-    pub fn phase(self, b: Bounds) -> bool
-        ensures { λ r. ⌜ r ≡ phaseOk b self ⌝ }
-    {
-        let own = self.own;
-        if self.state == Self::LIVE {
-            return (own.number <= Request::LAST_NUMBER) & (own.sends == 0) & (own.timer == 0);
-        }
-        let fits = own.fits(0, b.resend, b.sends);
-        fits & (self.state == Self::CLOSING)
-    }
-
-    // The rules of one record.
-    pub fn fits(self, b: Bounds) -> bool
-        ensures { λ r. ⌜ r ≡ recordOk b self ⌝ }
-    {
-        let counted = self.usage <= tunnel::Holder::LAST_USE;
-        if self.state == Self::FREE {
-            return counted & self.blank();
-        }
-        let held = self.held(b);
-        if !(counted & held) {
-            return false;
-        }
-        self.phase(b)
     }
 
     // Zero but for its use.

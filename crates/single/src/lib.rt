@@ -1,16 +1,18 @@
-// A Modify, a Delete and the reply to a Delete Bearer on one record: what they come to, from the record of the place that the header's
-// number names. The table is not looked at; its rules are kept.
+// What concerns one session, on the record of the place that its control TEID names: what it comes to and the reply. No other record is looked at.
 use carried::BearerReply;
-use header::HeaderCursor;
-use requests::Decoded;
+use changes::Moves;
+use messages::MessageType;
+use octets::Number;
+use readers::Refusal;
+use requests::Delete;
 use requests::Modify;
-use requests::Request;
 use session::Session;
 use tunnel::ControlTeid;
+use wishes::Concern;
 ghost use mathlib.Core.Path.{_≡_};
 ghost use Rattle.timing.specs.Outcome.{quiet};
-ghost use Rattle.control.specs.Amends.{causeOn, movedOn, modifyRead, modifyOn, freedOn, deleteRead, deleteOn, bearerBy, bearerOn};
-ghost use Rattle.single.specs.Single.{singled, single, doneWith, ofNumber, singleOf};
+ghost use Rattle.control.specs.Amends.{causeOn, movedOn, modifyOn, freedOn, deleteOn, bearerOn, liveOn, noneOn, sessionOn};
+ghost use Rattle.single.specs.Single.{single, singled, doneWith, ofNumber};
 
 // Document 01's number, the reply's length, and the session's record as it is then.
 pub struct Single {
@@ -19,8 +21,8 @@ pub struct Single {
     pub session: Session,
 }
 
-// A number alone: no reply, the record as it was.
-fn refused(number: u8, s: Session) -> Single
+// A number alone: no reply.
+fn quiet_on(number: u8, s: Session) -> Single
     ensures { λ r. ⌜ r ≡ single (quiet number s) ⌝ }
 {
     Single {
@@ -31,14 +33,7 @@ fn refused(number: u8, s: Session) -> Single
 }
 
 // A reply with a cause; the record as it was.
-fn cause_on(
-    kind: u8,
-    teid: u32,
-    seq: u32,
-    w: readers::Refusal,
-    s: Session,
-    reply: &mut [u8],
-) -> Single
+fn cause_on(kind: u8, teid: u32, seq: u32, w: Refusal, s: Session, reply: &mut [u8]) -> Single
     ensures { λ r. ⌜ singled r (now (reply .exit)) ≡ doneWith (causeOn kind teid seq w s) (now (reply .entry)) ⌝ }
 {
     let size = control::write_cause(kind, teid, seq, w, reply);
@@ -49,114 +44,101 @@ fn cause_on(
     }
 }
 
-// A Modify whose tests all passed.
-fn moved_on(m: Modify, seq: u32, s: Session, reply: &mut [u8]) -> Single
-    ensures { λ r. ⌜ singled r (now (reply .exit)) ≡ doneWith (movedOn m seq s) (now (reply .entry)) ⌝ }
+// Modify: all tests pass, or nothing changes.
+fn modify_on(m: Modify, seq: u32, s: Session, reply: &mut [u8]) -> Single
+    ensures { λ r. ⌜ singled r (now (reply .exit)) ≡ doneWith (modifyOn m seq s) (now (reply .entry)) ⌝ }
 {
-    let peers = control::peers_of(m, s);
     let context = m.context;
-    let moved = s.moved(peers);
-    let size = control::modify_reply(context, peers.control, seq, s.ebi, reply);
-    Single {
-        number: 0,
-        size,
-        session: moved,
+    match changes::moves_of(m, s.ebi) {
+        Moves::Refused(w) => cause_on(MessageType::MODIFY_REPLY, s.control, seq, w, s, reply),
+        Moves::To { control, user } => {
+            let peers = control::peers_of(control, user, s);
+            let moved = s.moved(peers);
+            let size = control::modify_reply(context, peers.control, seq, s.ebi, reply);
+            Single {
+                number: Number::TAKEN,
+                size,
+                session: moved,
+            }
+        }
     }
-}
-
-fn modify_read(d: Decoded, seq: u32, s: Session, reply: &mut [u8]) -> Single
-    ensures { λ r. ⌜ singled r (now (reply .exit)) ≡ doneWith (modifyRead d seq s) (now (reply .entry)) ⌝ }
-{
-    match d {
-        Decoded::Refused(w) => cause_on(35, s.control, seq, w, s, reply),
-        Decoded::Sound(q) => match q {
-            Request::Modify(m) => moved_on(m, seq, s, reply),
-            Request::Create(_) => cause_on(35, s.control, seq, control::not_live(), s, reply),
-            Request::Delete(_) => cause_on(35, s.control, seq, control::not_live(), s, reply),
-        },
-    }
-}
-
-// Modify: the record is the session of the header's number, else 64.
-fn modify_on(s: Session, teid: ControlTeid, seq: u32, rest: &[u8], reply: &mut [u8]) -> Single
-    ensures { λ r. ⌜ singled r (now (reply .exit)) ≡ doneWith (ofNumber (teid .0) (modifyOn seq (now (rest .entry))) s) (now (reply .entry)) ⌝ }
-{
-    let owned = table::has_control(s, teid);
-    if !owned {
-        let w = control::not_live();
-        return cause_on(35, 0, seq, w, s, reply);
-    }
-    let d = changes::read_modify(s.ebi, rest);
-    modify_read(d, seq, s, reply)
 }
 
 fn freed_on(seq: u32, s: Session, reply: &mut [u8]) -> Single
     ensures { λ r. ⌜ singled r (now (reply .exit)) ≡ doneWith (freedOn seq s) (now (reply .entry)) ⌝ }
 {
     let freed = s.freed();
-    messages::cause_reply(reply, 37, s.control, seq, 16);
+    let accepted = Refusal::bare(Refusal::ACCEPTED);
+    let size = control::write_cause(MessageType::DELETE_REPLY, s.control, seq, accepted, reply);
     Single {
-        number: 0,
-        size: 18,
+        number: Number::TAKEN,
+        size,
         session: freed,
     }
 }
 
-fn delete_read(d: Decoded, seq: u32, s: Session, reply: &mut [u8]) -> Single
-    ensures { λ r. ⌜ singled r (now (reply .exit)) ≡ doneWith (deleteRead d seq s) (now (reply .entry)) ⌝ }
+// Delete: another EBI than the session's is 64.
+fn delete_on(d: Delete, seq: u32, s: Session, reply: &mut [u8]) -> Single
+    ensures { λ r. ⌜ singled r (now (reply .exit)) ≡ doneWith (deleteOn d seq s) (now (reply .entry)) ⌝ }
 {
-    match d {
-        Decoded::Refused(w) => cause_on(37, s.control, seq, w, s, reply),
-        Decoded::Sound(_) => freed_on(seq, s, reply),
+    let means = changes::means_of(d, s.ebi);
+    if means {
+        return freed_on(seq, s, reply);
     }
+    let w = control::not_live();
+    cause_on(MessageType::DELETE_REPLY, s.control, seq, w, s, reply)
 }
 
-// Delete: the record is the session of the header's number, else 64.
-fn delete_on(s: Session, teid: ControlTeid, seq: u32, rest: &[u8], reply: &mut [u8]) -> Single
-    ensures { λ r. ⌜ singled r (now (reply .exit)) ≡ doneWith (ofNumber (teid .0) (deleteOn seq (now (rest .entry))) s) (now (reply .entry)) ⌝ }
-{
-    let owned = table::has_control(s, teid);
-    if !owned {
-        let w = control::not_live();
-        return cause_on(37, 0, seq, w, s, reply);
-    }
-    let d = changes::read_delete(s.ebi, rest);
-    delete_read(d, seq, s, reply)
-}
-
-// The reply to a Delete Bearer: it frees the record that awaits its number, if the record is the session of the header's number.
-fn bearer_by(answer: BearerReply, mine: bool, s: Session) -> Single
-    ensures { λ r. ⌜ r ≡ single (bearerBy answer mine s) ⌝ }
+// The reply to a Delete Bearer: with the awaited number it frees the session.
+fn bearer_on(answer: BearerReply, seq: u32, s: Session) -> Single
+    ensures { λ r. ⌜ r ≡ single (bearerOn answer seq s) ⌝ }
 {
     let BearerReply::Cause(_) = answer else {
-        return refused(9, s);
+        return quiet_on(Number::NOT_AWAITED, s);
     };
-    if mine {
-        let freed = s.freed();
-        return refused(0, freed);
-    }
-    refused(9, s)
-}
-
-fn bearer_on(s: Session, teid: ControlTeid, seq: u32, rest: &[u8]) -> Single
-    ensures { λ r. ⌜ r ≡ single (ofNumber (teid .0) (bearerOn seq (now (rest .entry))) s) ⌝ }
-{
-    let answer = carried::read_bearer_reply(rest);
-    let owned = table::has_control(s, teid);
     let awaited = s.waits_for(seq);
-    bearer_by(answer, owned & awaited, s)
+    if awaited {
+        let freed = s.freed();
+        return quiet_on(Number::TAKEN, freed);
+    }
+    quiet_on(Number::NOT_AWAITED, s)
 }
 
-// By type, with what is behind the header.
-pub fn take_single(h: HeaderCursor, rest: &[u8], s: Session, reply: &mut [u8]) -> Single
-    ensures { λ r. ⌜ singled r (now (reply .exit)) ≡ singleOf h (now (rest .entry)) s (now (reply .entry)) ⌝ }
+// Of a live session.
+fn live_on(x: Concern, seq: u32, s: Session, reply: &mut [u8]) -> Single
+    ensures { λ r. ⌜ singled r (now (reply .exit)) ≡ doneWith (liveOn x seq s) (now (reply .entry)) ⌝ }
 {
-    let kind = h.kind;
-    if kind == 34 {
-        return modify_on(s, ControlTeid(h.teid), h.sequence, rest, reply);
+    match x {
+        Concern::Modify(m) => modify_on(m, seq, s, reply),
+        Concern::Delete(d) => delete_on(d, seq, s, reply),
+        Concern::Refused { reply: kind, why } => cause_on(kind, s.control, seq, why, s, reply),
+        Concern::Bearer(answer) => bearer_on(answer, seq, s),
     }
-    if kind == 36 {
-        return delete_on(s, ControlTeid(h.teid), h.sequence, rest, reply);
+}
+
+// Where the number is no live session's: 64, to nobody.
+fn none_on(x: Concern, seq: u32, s: Session, reply: &mut [u8]) -> Single
+    ensures { λ r. ⌜ singled r (now (reply .exit)) ≡ doneWith (noneOn x seq s) (now (reply .entry)) ⌝ }
+{
+    let w = control::not_live();
+    match x {
+        Concern::Modify(_) => cause_on(MessageType::MODIFY_REPLY, 0, seq, w, s, reply),
+        Concern::Delete(_) => cause_on(MessageType::DELETE_REPLY, 0, seq, w, s, reply),
+        Concern::Refused {
+            reply: kind,
+            why: _,
+        } => cause_on(kind, 0, seq, w, s, reply),
+        Concern::Bearer(_) => quiet_on(Number::NOT_AWAITED, s),
     }
-    bearer_on(s, ControlTeid(h.teid), h.sequence, rest)
+}
+
+// The record is the session of the number, or there is none and it stays.
+pub fn session_on(teid: ControlTeid, x: Concern, seq: u32, s: Session, reply: &mut [u8]) -> Single
+    ensures { λ r. ⌜ singled r (now (reply .exit)) ≡ doneWith (ofNumber (teid .0) x seq s) (now (reply .entry)) ⌝ }
+{
+    let owned = table::has_control(s, teid);
+    if owned {
+        return live_on(x, seq, s, reply);
+    }
+    none_on(x, seq, s, reply)
 }

@@ -15,6 +15,7 @@
 // The base keeps every rule. Two access points: g 1 and c 3, g 1 and c 64; T 3, N 2, E 60; the echo is due in 60 ticks. Place 0 is
 // live on access point 0; place 1 is closing on access point 1 and was sent once, with number 5; place 2 is closing on it and was not
 // sent; place 3 is free in use 7; no other place was ever used.
+use octets::Number;
 use plan::AccessPoint;
 use plan::Plan;
 use session::Opening;
@@ -345,7 +346,7 @@ fn ticked(node: Node, table: Table) -> Answer {
 fn line_ended(r: Reading) -> Reading {
     let c = r.case;
     let a = ticked(c.node, c.table);
-    print_verdict(r.line, a.number != 2);
+    print_verdict(r.line, a.number != Number::RULES_BROKEN);
     started(std::num::wrapping_add_u64(r.line, 1))
 }
 

@@ -5,6 +5,7 @@ use Prim.Native.Nat.{ℕ}
 use mathlib.Core.List.{List, []}
 use lib.ListN.{length, getD, replicate}
 use lib.Dec.{eqb, ltb}
+use Rattle.octets.specs.Number.{taken, replyShort, rulesBroken, noPlace, planBreaks, nothingDue}
 use Rattle.octets.specs.Choice.{pick}
 use Rattle.tunnel.specs.Numbering.{places}
 use Rattle.plan.specs.declared.Plan.{Plan}
@@ -19,6 +20,7 @@ use Rattle.table.specs.Rules.{keepsRules}
 use Rattle.table.specs.Change.{nobody, changedAt}
 use Rattle.table.specs.Number.{after, takenNumber}
 use Rattle.table.specs.Own.{echoTicked, allTicked, duePlace, freshNode}
+use Rattle.messages.specs.Types.{echoType}
 use Rattle.messages.specs.Messages.{echoOf, deleteBearer}
 use Rattle.timing.specs.declared.Answer.{Answer}
 use Rattle.timing.specs.Outcome.{Outcome, outcome, leastReply, State, bare, noReply, replied, Done, quiet, onSession}
@@ -30,7 +32,7 @@ timed echo next node = record { plan = node .plan; echo = echo; next = next; hea
 -- ---- fresh: 2 where there are not as many records as places, 16 where the plan breaks a limit
 -- a plan that breaks a limit leaves a state with no access points
 unfoldable pub freshAnswer : Plan → Answer
-freshAnswer p = pick (accepted p) (bare 0 (freshNode p)) (bare 16 (freshNode noPlan))
+freshAnswer p = pick (accepted p) (bare taken (freshNode p)) (bare planBreaks (freshNode noPlan))
 
 -- records are zero, use included, either way
 unfoldable pub freshState : Plan → State
@@ -40,25 +42,25 @@ freshState p = record { node = freshAnswer p .node; table = replicate places nob
 unfoldable pub freshOf : Plan → List Session → Outcome
 freshOf p t =
     pick (eqb (length t) places) (outcome (freshAnswer p) (freshState p .table) [])
-    (noReply 2 (freshNode noPlan) t [])
+    (noReply rulesBroken (freshNode noPlan) t [])
 
 -- what is answered by value, from the count of records
 unfoldable pub freshBy : ℕ → Plan → Answer
-freshBy count p = pick (eqb count places) (freshAnswer p) (bare 2 (freshNode noPlan))
+freshBy count p = pick (eqb count places) (freshAnswer p) (bare rulesBroken (freshNode noPlan))
 
 -- ---- tick: 2
 unfoldable pub tickOf : Node → List Session → Outcome
 tickOf node t =
     pick (keepsRules node t)
-    (noReply 0 (timed (echoTicked (node .plan) (node .echo)) (node .next) node) (allTicked (node .plan) (node .echo) t) [])
-    (noReply 2 node t [])
+    (noReply taken (timed (echoTicked (node .plan) (node .echo)) (node .next) node) (allTicked (node .plan) (node .echo) t) [])
+    (noReply rulesBroken node t [])
 
 -- ---- close: 2, 10; a place that is closing already stays as it is
 unfoldable pub closeOn : Session → Done
-closeOn s = pick (isFree s) (quiet 10 s) (quiet 0 (closed s))
+closeOn s = pick (isFree s) (quiet noPlace s) (quiet taken (closed s))
 
 unfoldable pub closeOf : Node → List Session → ℕ → Outcome
-closeOf node t i = pick (keepsRules node t) (onSession node t i closeOn []) (noReply 2 node t [])
+closeOf node t i = pick (keepsRules node t) (onSession node t i closeOn []) (noReply rulesBroken node t [])
 
 -- ---- send next due: 1, 2, 17; the echo first, then places upward
 -- a first send takes the number k, and the next is the one after it; a resend leaves the next number as it is
@@ -67,12 +69,12 @@ stepped sends k next = pick {A = ℕ} (eqb sends 0) (after k) next
 
 unfoldable pub echoSent : Node → List Session → ℕ → List ℕ → Outcome
 echoSent node t k reply =
-    replied 0 (timed (sentOnce (node .plan .resend) k (node .echo)) (stepped (node .echo .sends) k (node .next)) node) t
-    (echoOf 1 (sentOnce (node .plan .resend) k (node .echo) .number) (node .plan .recovery)) reply
+    replied taken (timed (sentOnce (node .plan .resend) k (node .echo)) (stepped (node .echo .sends) k (node .next)) node) t
+    (echoOf echoType (sentOnce (node .plan .resend) k (node .echo) .number) (node .plan .recovery)) reply
 
 unfoldable pub placeSent : Node → List Session → ℕ → ℕ → Session → List ℕ → Outcome
 placeSent node t k i s reply =
-    replied 0 (timed (node .echo) (stepped (s .own .sends) k (node .next)) node) (changedAt (sent (node .plan .resend) k) i t)
+    replied taken (timed (node .echo) (stepped (s .own .sends) k (node .next)) node) (changedAt (sent (node .plan .resend) k) i t)
     (deleteBearer (s .control) (sentOnce (node .plan .resend) k (s .own) .number) (s .ebi)) reply
 
 -- who is sent next, of a table that keeps its rules
@@ -81,11 +83,11 @@ dueSent node t k reply =
     pick (eqb (node .echo .timer) 0) (echoSent node t k reply)
     (pick (ltb (duePlace t) (length t))
     (placeSent node t k (duePlace t) (getD t (duePlace t) nobody) reply)
-    (noReply 17 node t reply))
+    (noReply nothingDue node t reply))
 
 unfoldable pub sendOf : Node → List Session → List ℕ → Outcome
 sendOf node t reply =
-    pick (ltb (length reply) leastReply) (noReply 1 node t reply)
+    pick (ltb (length reply) leastReply) (noReply replyShort node t reply)
     (pick (keepsRules node t)
     (dueSent node t (takenNumber (node .next) (node .echo) t) reply)
-    (noReply 2 node t reply))
+    (noReply rulesBroken node t reply))

@@ -1,5 +1,6 @@
 // What a call answers by value, and what of fresh and of a send is worked out on a plan and on numbers alone. The definitions of fresh, tick,
 // close and send next due are here too; the calls that are them are made on lent records.
+use octets::Number;
 use plan::Plan;
 use table::Node;
 use table::Table;
@@ -16,7 +17,7 @@ pub struct Answer {
 }
 
 impl Answer {
-    // Number 1 is a reply buffer under this.
+    // A reply buffer under this is short.
     pub const LEAST_REPLY: usize = 128;
 
     // A number alone: no reply.
@@ -38,14 +39,14 @@ pub fn fresh(count: usize, plan: Plan) -> Answer
     let none = Plan::none();
     let empty = Node::fresh(none);
     if count != Table::PLACES {
-        return Answer::bare(2, empty);
+        return Answer::bare(Number::RULES_BROKEN, empty);
     }
     let ok = plan.accepted();
     if ok {
         let node = Node::fresh(plan);
-        return Answer::bare(0, node);
+        return Answer::bare(Number::TAKEN, node);
     }
-    Answer::bare(16, empty)
+    Answer::bare(Number::PLAN_BREAKS, empty)
 }
 
 // The next number after a send: a first send took k, a resend kept its own.

@@ -9,6 +9,7 @@ use native.Mathlib.Omega.{arith}
 use lib.ListN.{length, getD}
 use lib.Dec.{eqb, ltb}
 use borrow.Author.Tests.{eqb-true, eqb-false, lt-ltb, le-ltb, eq-eqb, ne-eqb}
+use Rattle.octets.specs.Number.{taken, replyShort, rulesBroken, userNotLive}
 use Rattle.octets.specs.Choice.{pick, split}
 use Rattle.octets.specs.Overlay.{overlay}
 use Rattle.tunnel.specs.Numbering.{places}
@@ -44,10 +45,10 @@ abbrev pub answers : ℕ → List ℕ → List ℕ → Answered
 answers number m reply = answered number 0 (length m) (overlay m reply) false
 
 unfoldable pub packetOn : Session → ℕ → ℕ → List ℕ → Answered
-packetOn s teid addr reply = pick (hasUser s teid) (answered 0 (userPlace teid) 0 reply true) (answers 15 (errorIndication teid addr) reply)
+packetOn s teid addr reply = pick (hasUser s teid) (answered taken (userPlace teid) 0 reply true) (answers userNotLive (errorIndication teid addr) reply)
 
 unfoldable pub headerOn : Session → Header → ℕ → List ℕ → Answered
-headerOn s (H.Echo sequence) addr reply = answers 0 (userEcho sequence) reply
+headerOn s (H.Echo sequence) addr reply = answers taken (userEcho sequence) reply
 headerOn s (H.Packet teid) addr reply = packetOn s (teid .0) addr reply
 
 -- the payload begins at `start`, the datagram has `end` octets
@@ -56,37 +57,37 @@ handed a start end = took (a .number) (a .place) (a .size) (a .reply) (pick (a .
 
 unfoldable pub done : Bool → Node → Session → List ℕ → List ℕ → Took
 done kept node s d reply =
-    pick (ltb (length reply) leastReply) (silent 1 (length d) reply)
+    pick (ltb (length reply) leastReply) (silent replyShort (length d) reply)
     (pick kept
-    (pick (eqb (userOf d .number) 0) (handed (headerOn s (headerOf d) (node .plan .user) reply) (userOf d .size) (length d))
+    (pick (eqb (userOf d .number) taken) (handed (headerOn s (headerOf d) (node .plan .user) reply) (userOf d .size) (length d))
     (silent (userOf d .number) (length d) reply))
-    (silent 2 (length d) reply))
+    (silent rulesBroken (length d) reply))
 
 -- ---- laws, in the words of the code
 module _ (kept : Bool) (node : Node) (s : Session) (d reply : List ℕ) where
-  pub done-short : length reply < leastReply → done kept node s d reply ≡ silent 1 (length d) reply
+  pub done-short : length reply < leastReply → done kept node s d reply ≡ silent replyShort (length d) reply
   unfolding done
   done-short h = rw (lt-ltb (length reply) leastReply h)
 
   module _ (room : leastReply ≤ length reply) where
-    pub done-broken : kept ≡ false → done kept node s d reply ≡ silent 2 (length d) reply
+    pub done-broken : kept ≡ false → done kept node s d reply ≡ silent rulesBroken (length d) reply
     unfolding done
     done-broken e = rw (le-ltb (length reply) leastReply room, e)
 
     module _ (yes : kept ≡ true) where
-      pub done-unread : (userOf d .number ≡ 0 → ⊥) → done kept node s d reply ≡ silent (userOf d .number) (length d) reply
+      pub done-unread : (userOf d .number ≡ taken → ⊥) → done kept node s d reply ≡ silent (userOf d .number) (length d) reply
       unfolding done
-      done-unread n = rw (le-ltb (length reply) leastReply room, yes, ne-eqb (userOf d .number) 0 n)
+      done-unread n = rw (le-ltb (length reply) leastReply room, yes, ne-eqb (userOf d .number) taken n)
 
-      module _ (n : userOf d .number ≡ 0) (h : Header) (read : h ≡ headerOf d) (number place size : ℕ) (left : List ℕ) (up : Bool)
+      module _ (n : userOf d .number ≡ taken) (h : Header) (read : h ≡ headerOf d) (number place size : ℕ) (left : List ℕ) (up : Bool)
           (is : answered number place size left up ≡ headerOn s h (node .plan .user) reply) where
         pub done-up : up ≡ true → done kept node s d reply ≡ took number place size left (userOf d .size)
         unfolding done handed
-        done-up e = rw (le-ltb (length reply) leastReply room, yes, eq-eqb (userOf d .number) 0 n, ← read, ← is, e)
+        done-up e = rw (le-ltb (length reply) leastReply room, yes, eq-eqb (userOf d .number) taken n, ← read, ← is, e)
 
         pub done-down : up ≡ false → done kept node s d reply ≡ took number place size left (length d)
         unfolding done handed
-        done-down e = rw (le-ltb (length reply) leastReply room, yes, eq-eqb (userOf d .number) 0 n, ← read, ← is, e)
+        done-down e = rw (le-ltb (length reply) leastReply room, yes, eq-eqb (userOf d .number) taken n, ← read, ← is, e)
 
 pub done-within : (kept : Bool) (node : Node) (s : Session) (d reply : List ℕ) → done kept node s d reply .start ≤ length d
 unfolding done handed
@@ -94,7 +95,7 @@ done-within kept node s d reply =
     let w = user-within d in
     split (ltb (length reply) leastReply) (λ e. rw e (omega arith))
     (λ e. split kept
-    (λ f. split (eqb (userOf d .number) 0)
+    (λ f. split (eqb (userOf d .number) taken)
     (λ g. split (headerOn s (headerOf d) (node .plan .user) reply .up) (λ h. rw (e, f, g, h) w) (λ h. rw (e, f, g, h) (omega arith)))
     (λ g. rw (e, f, g) (omega arith)))
     (λ f. rw (e, f) (omega arith)))
@@ -109,7 +110,7 @@ module _ (node : Node) (l : List Session) (d reply : List ℕ) (size : length l 
       split (hasUser (getD l (userPlace teid) nobody) teid)
       (λ e. rw (owner-user teid l size, e)) (λ e. rw (owner-user teid l size, e))
 
-  echo-is : (sequence : ℕ) → handed (answers 0 (userEcho sequence) reply) start end ≡ headerTaken node l (H.Echo sequence) start end reply
+  echo-is : (sequence : ℕ) → handed (answers taken (userEcho sequence) reply) start end ≡ headerTaken node l (H.Echo sequence) start end reply
   unfolding handed headerTaken
   echo-is sequence = refl
 

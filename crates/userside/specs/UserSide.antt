@@ -8,6 +8,7 @@ use mathlib.Core.Path.{_≡_}
 use lib.ListN.{length}
 use lib.Dec.{eqb, ltb}
 use borrow.Author.Tests.{lt-ltb, le-ltb, eq-eqb, ne-eqb}
+use Rattle.octets.specs.Number.{taken, replyShort, rulesBroken, userNotLive}
 use Rattle.octets.specs.Choice.{pick}
 use Rattle.octets.specs.Overlay.{overlay}
 use Rattle.tunnel.specs.Numbering.{userOffset}
@@ -44,40 +45,40 @@ silent number end reply = took number 0 0 reply end
 abbrev pub replied : ℕ → List ℕ → ℕ → List ℕ → Took
 replied number m end reply = took number 0 (length m) (overlay m reply) end
 
--- a G-PDU: handed up under a live user number, else answered with an Error Indication (15)
+-- a G-PDU: handed up under a live user number, else answered with an Error Indication
 unfoldable pub packetTaken : Found → ℕ → ℕ → ℕ → ℕ → List ℕ → Took
-packetTaken (F.At place) teid addr start end reply = took 0 place 0 reply start
-packetTaken F.Nothing teid addr start end reply = replied 15 (errorIndication teid addr) end reply
+packetTaken (F.At place) teid addr start end reply = took taken place 0 reply start
+packetTaken F.Nothing teid addr start end reply = replied userNotLive (errorIndication teid addr) end reply
 
 -- by what the header says: an echo is answered
 unfoldable pub headerTaken : Node → List Session → Header → ℕ → ℕ → List ℕ → Took
-headerTaken node l (H.Echo sequence) start end reply = replied 0 (userEcho sequence) end reply
+headerTaken node l (H.Echo sequence) start end reply = replied taken (userEcho sequence) end reply
 headerTaken node l (H.Packet teid) start end reply = packetTaken (ownerOf userOffset (teid .0) l) (teid .0) (node .plan .user) start end reply
 
 -- the order: 1, 2, then the datagram's own refusals (3, 12, 6, 7, 13 or 14), then 15
 unfoldable pub userTaken : Node → List Session → List ℕ → List ℕ → Took
 userTaken node l d reply =
-    pick (ltb (length reply) leastReply) (silent 1 (length d) reply)
+    pick (ltb (length reply) leastReply) (silent replyShort (length d) reply)
     (pick (keepsRules node l)
-    (pick (eqb (userOf d .number) 0) (headerTaken node l (headerOf d) (userOf d .size) (length d) reply) (silent (userOf d .number) (length d) reply))
-    (silent 2 (length d) reply))
+    (pick (eqb (userOf d .number) taken) (headerTaken node l (headerOf d) (userOf d .size) (length d) reply) (silent (userOf d .number) (length d) reply))
+    (silent rulesBroken (length d) reply))
 
 -- ---- laws: the answers in the order of the list
 module _ (node : Node) (l : List Session) (d reply : List ℕ) where
-  pub user-short : length reply < leastReply → userTaken node l d reply ≡ silent 1 (length d) reply
+  pub user-short : length reply < leastReply → userTaken node l d reply ≡ silent replyShort (length d) reply
   unfolding userTaken
   user-short h = rw (lt-ltb (length reply) leastReply h)
 
   module _ (room : leastReply ≤ length reply) where
-    pub user-broken : keepsRules node l ≡ false → userTaken node l d reply ≡ silent 2 (length d) reply
+    pub user-broken : keepsRules node l ≡ false → userTaken node l d reply ≡ silent rulesBroken (length d) reply
     unfolding userTaken
     user-broken e = rw (le-ltb (length reply) leastReply room, e)
 
     module _ (kept : keepsRules node l ≡ true) where
-      pub user-unread : (userOf d .number ≡ 0 → ⊥) → userTaken node l d reply ≡ silent (userOf d .number) (length d) reply
+      pub user-unread : (userOf d .number ≡ taken → ⊥) → userTaken node l d reply ≡ silent (userOf d .number) (length d) reply
       unfolding userTaken
-      user-unread n = rw (le-ltb (length reply) leastReply room, kept, ne-eqb (userOf d .number) 0 n)
+      user-unread n = rw (le-ltb (length reply) leastReply room, kept, ne-eqb (userOf d .number) taken n)
 
-      pub user-read : userOf d .number ≡ 0 → userTaken node l d reply ≡ headerTaken node l (headerOf d) (userOf d .size) (length d) reply
+      pub user-read : userOf d .number ≡ taken → userTaken node l d reply ≡ headerTaken node l (headerOf d) (userOf d .size) (length d) reply
       unfolding userTaken
-      user-read n = rw (le-ltb (length reply) leastReply room, kept, eq-eqb (userOf d .number) 0 n)
+      user-read n = rw (le-ltb (length reply) leastReply room, kept, eq-eqb (userOf d .number) taken n)

@@ -2,6 +2,7 @@
 // that it is, and any other gets an Error Indication or its refusal. The table stays as it is: once its rules are known to be kept, one
 // record of it says all. The datagram is read once.
 use gpdu::Header;
+use octets::Number;
 use session::Session;
 use table::Node;
 use timing::Answer;
@@ -34,15 +35,14 @@ fn packet_on(
 {
     let live = table::has_user(s, teid);
     if live {
-        *number = 0;
+        *number = Number::TAKEN;
         *place = table::user_place(teid);
         *size = 0;
         return true;
     }
-    *number = 15;
+    *number = Number::USER_NOT_LIVE;
     *place = 0;
-    *size = 24;
-    messages::error_indication(reply, teid.0, addr);
+    *size = messages::error_indication(reply, teid.0, addr);
     false
 }
 
@@ -60,10 +60,9 @@ fn header_on(
 {
     match h {
         Header::Echo { sequence } => {
-            *number = 0;
+            *number = Number::TAKEN;
             *place = 0;
-            *size = 14;
-            messages::user_echo(reply, sequence as u32);
+            *size = messages::user_echo(reply, sequence as u32);
             false
         }
         Header::Packet { teid } => packet_on(s, teid, addr, reply, number, place, size),
@@ -88,13 +87,13 @@ pub fn done<'a>(
     *place = 0;
     *size = 0;
     if reply.len() < Answer::LEAST_REPLY {
-        return gpdu::refuse(d, 1, number);
+        return gpdu::refuse(d, Number::REPLY_SHORT, number);
     }
     if !kept {
-        return gpdu::refuse(d, 2, number);
+        return gpdu::refuse(d, Number::RULES_BROKEN, number);
     }
     let p = gpdu::payload(d, number);
-    if *number != 0 {
+    if *number != Number::TAKEN {
         return p;
     }
     let h = Header::of(d);

@@ -6,6 +6,7 @@ ghost use lib.ListN.{length};
 use gpdu::Header;
 use libc::STDIN_FILENO;
 use libc::STDOUT_FILENO;
+use octets::Number;
 
 // A hex digit's value; 0 for what is none.
 fn nibble(b: u8) -> u8
@@ -66,10 +67,10 @@ fn put_hex(part: &[u8]) {
 
 // What the datagram is, and its payload in hex.
 fn show(d: &[u8]) {
-    let mut number: u8 = 0;
+    let mut number: u8 = Number::TAKEN;
     let part = gpdu::payload(d, &mut number);
     put_number(number as u64);
-    if number == 0 {
+    if number == Number::TAKEN {
         match Header::of(d) {
             Header::Echo { sequence } => {
                 put(b" echo ");
@@ -88,11 +89,11 @@ fn show(d: &[u8]) {
 
 // The number alone, and where the payload begins if it is taken.
 fn mark(d: &[u8]) {
-    let mut number: u8 = 0;
+    let mut number: u8 = Number::TAKEN;
     let part = gpdu::payload(d, &mut number);
     put(b" ");
     put_number(number as u64);
-    if number == 0 {
+    if number == Number::TAKEN {
         put(b"@");
         if part.len() <= d.len() {
             put_number((d.len() - part.len()) as u64);

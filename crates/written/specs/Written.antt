@@ -9,13 +9,15 @@ use native.Mathlib.Omega.{arith}
 use lib.ListN.{length, drop}
 use lib.Dec.{eqb, leb, ltb}
 use borrow.Author.Tests.{lt-ltb, le-ltb}
+use Rattle.octets.specs.Number.{taken}
 use Rattle.octets.specs.Choice.{pick}
 use Rattle.octets.specs.BigEndian.{numberOf, numberFrom, octetsOf, number-back}
+use Rattle.messages.specs.Types.{echoType, echoReplyType, versionType, createReplyType, modifyReplyType, bearerType}
 use Rattle.messages.specs.Messages as messages
 use Rattle.messages.specs.Messages.{headerTo, versionNotSupported, causeField, faultField, tunnelField, ebiField, causeReply, faultReply, createAccepted, modifyBearer, deleteBearer}
 use Rattle.header.specs.Types.{bareTypes, tunnelTypes, notTaken, flagOf}
 use Rattle.header.specs.Header.{versionOf, flagP, flagT, kindOf, lengthOf, withTeid, teidOctets, teidOf, sequenceOf, sequenceBehind, sequenceBare, headerSize, headerOf}
-use Rattle.header.specs.Gate.{gateOf, controlVersion, createType}
+use Rattle.header.specs.Gate.{gateOf, controlVersion}
 use Rattle.fields.specs.declared.Found.the-variants as F
 use Rattle.fields.specs.Walk.{part, fieldsFrom, overFrom, fieldsOf, overruns}
 use Rattle.fields.specs.Search.{find, firstIn}
@@ -47,12 +49,12 @@ Word n = n < 4294967296
 
 -- ---- Echo Request and Echo Response
 pub record EchoRead (seq recovery : ℕ) : Type 0 where
-  pub asks : HeaderRead (messages.echoOf 1 seq recovery) 1 0 seq 8
-  pub answers : HeaderRead (messages.echoOf 2 seq recovery) 2 0 seq 8
-  pub asksTaken : gateOf (messages.echoOf 1 seq recovery) ≡ 0
-  pub answersTaken : gateOf (messages.echoOf 2 seq recovery) ≡ 0
-  pub asksCarries : carried.echoOf (drop 8 (messages.echoOf 1 seq recovery)) ≡ R.Value recovery
-  pub answersCarries : carried.echoReplyOf (drop 8 (messages.echoOf 2 seq recovery)) ≡ E.Carries (R.Value recovery)
+  pub asks : HeaderRead (messages.echoOf echoType seq recovery) echoType 0 seq 8
+  pub answers : HeaderRead (messages.echoOf echoReplyType seq recovery) echoReplyType 0 seq 8
+  pub asksTaken : gateOf (messages.echoOf echoType seq recovery) ≡ taken
+  pub answersTaken : gateOf (messages.echoOf echoReplyType seq recovery) ≡ taken
+  pub asksCarries : carried.echoOf (drop 8 (messages.echoOf echoType seq recovery)) ≡ R.Value recovery
+  pub answersCarries : carried.echoReplyOf (drop 8 (messages.echoOf echoReplyType seq recovery)) ≡ E.Carries (R.Value recovery)
 
 -- ---- a reply with a cause, alone or with the field at fault
 pub record CauseRead (type teid seq cause field instance : ℕ) : Type 0 where
@@ -63,7 +65,7 @@ pub record CauseRead (type teid seq cause field instance : ℕ) : Type 0 where
 
 -- ---- the accepted reply to a Create: the places of its PAA and its Bearer Context, and every field
 pub record CreateRead (d : List ℕ) (teid seq control controladdr address ebi user useraddr recovery : ℕ) : Type 0 where
-  pub header : HeaderRead d 33 teid seq 12
+  pub header : HeaderRead d createReplyType teid seq 12
   pub runs : overIn (drop 12 d) ≡ false
   pub cause : octetIn (drop 12 d) causeKind 2 ≡ O.Value 16
   pub controlTunnel : tunnelIn (drop 12 d) 1 7 ≡ T.Value control controladdr
@@ -78,17 +80,17 @@ pub record CreateRead (d : List ℕ) (teid seq control controladdr address ebi u
 
 -- ---- the accepted reply to a Modify with a Bearer Context, and the unit's own Delete Bearer
 pub record ModifyRead (teid seq ebi : ℕ) : Type 0 where
-  pub header : HeaderRead (modifyBearer teid seq ebi) 35 teid seq 12
+  pub header : HeaderRead (modifyBearer teid seq ebi) modifyReplyType teid seq 12
   pub cause : octetIn (drop 12 (modifyBearer teid seq ebi)) causeKind 2 ≡ O.Value 16
   pub bearerAt : find (drop 12 (modifyBearer teid seq ebi)) bearerKind 0 ≡ F.At 10 11
   pub bearerEbi : ebiIn (part (drop 12 (modifyBearer teid seq ebi)) 10 11) ≡ O.Value ebi
 
 pub record DeleteBearerRead (teid seq ebi : ℕ) : Type 0 where
-  pub header : HeaderRead (deleteBearer teid seq ebi) 99 teid seq 12
+  pub header : HeaderRead (deleteBearer teid seq ebi) bearerType teid seq 12
   pub bearerEbi : ebiIn (drop 12 (deleteBearer teid seq ebi)) ≡ O.Value ebi
 
 pub record WrittenIsRead : Type 0 where
-  pub version : HeaderRead versionNotSupported 3 0 0 8 × (gateOf versionNotSupported ≡ 0)
+  pub version : HeaderRead versionNotSupported versionType 0 0 8 × (gateOf versionNotSupported ≡ taken)
   pub echo : (seq recovery : ℕ) → Seq seq → EchoRead seq recovery
   pub cause : (type teid seq cause field instance : ℕ) → Word teid → Seq seq → CauseRead type teid seq cause field instance
   pub create : (teid seq control controladdr address ebi user useraddr recovery : ℕ) → Word teid → Seq seq → Word control → 0 < control → Word controladdr → Word address
@@ -121,10 +123,10 @@ ebi-back : (ebi : ℕ) → 5 ≤ ebi → ebi ≤ 15 → pick (ltb (ebi % 16) 5) 
 ebi-back ebi a b = let m : ebi % 16 ≡ ebi = omega arith in rw (m, le-ltb ebi 5 a)
 
 echo-read : (seq recovery : ℕ) → Seq seq → EchoRead seq recovery
-unfolding messages.echoOf gateOf versionOf lengthOf flagP flagT kindOf flagOf bareTypes tunnelTypes notTaken teidOf withTeid headerSize controlVersion createType octetsOf numberOf numberFrom carried.echoOf carried.echoReplyOf overruns overFrom recoveryIn recoveryOf octetIn octetAt find firstIn fieldsOf fieldsFrom
+unfolding messages.echoOf gateOf versionOf lengthOf flagP flagT kindOf flagOf bareTypes tunnelTypes notTaken teidOf withTeid headerSize controlVersion octetsOf numberOf numberFrom carried.echoOf carried.echoReplyOf overruns overFrom recoveryIn recoveryOf octetIn octetAt find firstIn fieldsOf fieldsFrom
 echo-read seq recovery h = record {
-  asks = record { version = refl; whole = refl; header = bare-back 1 seq recovery h };
-  answers = record { version = refl; whole = refl; header = bare-back 2 seq recovery h };
+  asks = record { version = refl; whole = refl; header = bare-back echoType seq recovery h };
+  answers = record { version = refl; whole = refl; header = bare-back echoReplyType seq recovery h };
   asksTaken = refl;
   answersTaken = refl;
   asksCarries = refl;
@@ -143,7 +145,7 @@ cause-read type teid seq cause field instance h k = record {
 modify-read : (teid seq ebi : ℕ) → Word teid → Seq seq → 5 ≤ ebi → ebi ≤ 15 → ModifyRead teid seq ebi
 unfolding modifyBearer causeField ebiField headerTo versionOf lengthOf octetsOf numberOf numberFrom ebiIn octetIn octetAt find firstIn fieldsOf fieldsFrom
 modify-read teid seq ebi h k a b = record {
-  header = record { version = refl; whole = refl; header = header-back 35 teid seq 29 (causeField 16 ++ (0x5D ∷ 0 ∷ 11 ∷ 0 ∷ []) ++ ebiField ebi ++ causeField 16) h k };
+  header = record { version = refl; whole = refl; header = header-back modifyReplyType teid seq 29 (causeField 16 ++ (0x5D ∷ 0 ∷ 11 ∷ 0 ∷ []) ++ ebiField ebi ++ causeField 16) h k };
   cause = refl;
   bearerAt = refl;
   bearerEbi = ebi-back ebi a b;
@@ -152,7 +154,7 @@ modify-read teid seq ebi h k a b = record {
 delete-bearer-read : (teid seq ebi : ℕ) → Word teid → Seq seq → 5 ≤ ebi → ebi ≤ 15 → DeleteBearerRead teid seq ebi
 unfolding deleteBearer ebiField headerTo versionOf lengthOf octetsOf numberOf numberFrom ebiIn octetIn octetAt find firstIn fieldsOf fieldsFrom
 delete-bearer-read teid seq ebi h k a b = record {
-  header = record { version = refl; whole = refl; header = header-back 99 teid seq 13 (ebiField ebi) h k };
+  header = record { version = refl; whole = refl; header = header-back bearerType teid seq 13 (ebiField ebi) h k };
   bearerEbi = ebi-back ebi a b;
 }
 
@@ -178,11 +180,11 @@ create-read teid seq control controladdr address ebi user useraddr recovery h k 
     rest : List ℕ
     rest = drop 12 (createAccepted teid seq control controladdr address ebi user useraddr recovery)
 
-    head : headerOf (createAccepted teid seq control controladdr address ebi user useraddr recovery) ≡ record { kind = 33; teid = teid; sequence = seq; fields = 12 }
-    head = header-back 33 teid seq 74 (drop 12 (createAccepted teid seq control controladdr address ebi user useraddr recovery)) h k
+    head : headerOf (createAccepted teid seq control controladdr address ebi user useraddr recovery) ≡ record { kind = createReplyType; teid = teid; sequence = seq; fields = 12 }
+    head = header-back createReplyType teid seq 74 (drop 12 (createAccepted teid seq control controladdr address ebi user useraddr recovery)) h k
 
-version-read : HeaderRead versionNotSupported 3 0 0 8 × (gateOf versionNotSupported ≡ 0)
-unfolding versionNotSupported gateOf headerOf versionOf lengthOf flagP flagT kindOf flagOf bareTypes tunnelTypes notTaken teidOf sequenceOf sequenceBare withTeid headerSize controlVersion createType numberOf numberFrom
+version-read : HeaderRead versionNotSupported versionType 0 0 8 × (gateOf versionNotSupported ≡ taken)
+unfolding versionNotSupported gateOf headerOf versionOf lengthOf flagP flagT kindOf flagOf bareTypes tunnelTypes notTaken teidOf sequenceOf sequenceBare withTeid headerSize controlVersion numberOf numberFrom
 version-read = (record { version = refl; whole = refl; header = refl }, refl)
 
 pub written-is-read : WrittenIsRead

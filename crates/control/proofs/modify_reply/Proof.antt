@@ -1,5 +1,3 @@
-use mathlib.Core.Path.{sym}
-use Rattle.messages.specs.Messages.{size-cause, size-modify}
 use Rattle.control.specs.Amends.{modifyOctets}
 use borrow.Author.Needs.{needs}
 use Rattle.control.proofs.modify_reply.Statement.{statement}
@@ -22,14 +20,14 @@ same-length c = search needs
 
 returns : tie.Need-returns
 unfolding modifyOctets
-returns c = rw (c .before .before .before .before .enum-told .given .1) (record { length = sym (size-cause _ _ _ _); octets = c .before .before .cause-reply .ensures })
+returns c = rw (c .before .before .before .before .enum-told .given .1) (c .before .before .cause-reply .ensures)
 
 same-length-2 : tie.Need-same-length-2
 same-length-2 c = search needs
 
 returns-2 : tie.Need-returns-2
 unfolding modifyOctets
-returns-2 c = rw (c .before .before .before .before .enum-told2 .given .1) (record { length = sym (size-modify _ _ _); octets = c .before .before .modify-bearer .ensures })
+returns-2 c = rw (c .before .before .before .before .enum-told2 .given .1) (c .before .before .modify-bearer .ensures)
 
 pub modify-reply-spec : {M : Type 1} → statement M
 modify-reply-spec =

@@ -1,11 +1,19 @@
-use mathlib.Core.Path.{refl}
 use Rattle.control.specs.Creates.{noRoom}
+use borrow.Author.Needs.{needs}
 use Rattle.control.proofs.no_room.Statement.{statement}
 use Rattle.control.proofs.no_room.Tie as tie
+use Rattle.control.proofs.no_room.Reads as reads
+use Rattle.control.proofs.no_room.Lts as lts
+use Rattle.readers.proofs.Refusal.bare.Reads as bare-reads
 
+-- src/lib.rt:155:5
+bare-requires : tie.Need-bare-requires
+bare-requires c κs = search needs
+
+-- src/lib.rt:152:1
 returns : tie.Need-returns
 unfolding noRoom
-returns c = refl
+returns c = c .bare .ensures
 
 pub no-room-spec : {M : Type 1} → statement M
-no-room-spec = tie.close (tie.spec returns)
+no-room-spec = tie.close (tie.spec bare-requires returns)

@@ -1,5 +1,3 @@
-use mathlib.Core.Path.{sym}
-use Rattle.messages.specs.Messages.{size-create}
 use Rattle.control.specs.Creates.{acceptedOctets}
 use borrow.Author.Needs.{needs}
 use Rattle.control.proofs.write_accepted.Statement.{statement}
@@ -22,7 +20,7 @@ same-length c = search needs
 
 returns : tie.Need-returns
 unfolding acceptedOctets
-returns c = rw (← c .before .before .before .before .address .ensures, ← c .before .before .before .before .before .of2 .ensures, ← c .before .before .before .before .before .before .of .ensures) (record { length = sym (size-create _ _ _ _ _ _ _ _ _); octets = c .before .before .create-accepted .ensures })
+returns c = rw (← c .before .before .before .before .address .ensures, ← c .before .before .before .before .before .of2 .ensures, ← c .before .before .before .before .before .before .of .ensures) (c .before .before .create-accepted .ensures)
 
 pub write-accepted-spec : {M : Type 1} → statement M
 write-accepted-spec =

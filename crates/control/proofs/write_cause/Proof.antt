@@ -1,5 +1,3 @@
-use mathlib.Core.Path.{sym}
-use Rattle.messages.specs.Messages.{size-fault, size-cause}
 use Rattle.control.specs.Amends.{causeOctets}
 use borrow.Author.Needs.{needs}
 use Rattle.control.proofs.write_cause.Statement.{statement}
@@ -13,7 +11,7 @@ same-length c = search needs
 
 returns : tie.Need-returns
 unfolding causeOctets
-returns c = rw (c .before .before .before .before .if1 .taken) (record { length = sym (size-fault _ _ _ _ _ _); octets = c .before .before .fault-reply .ensures })
+returns c = rw (c .before .before .before .before .if1 .taken) (c .before .before .fault-reply .ensures)
 
 cause-reply-requires : tie.Need-cause-reply-requires
 cause-reply-requires c κs = search needs
@@ -23,7 +21,7 @@ same-length-2 c = search needs
 
 returns-2 : tie.Need-returns-2
 unfolding causeOctets
-returns-2 c = rw (c .before .before .before .before .if1 .left) (record { length = sym (size-cause _ _ _ _); octets = c .before .before .cause-reply .ensures })
+returns-2 c = rw (c .before .before .before .before .if1 .left) (c .before .before .cause-reply .ensures)
 
 pub write-cause-spec : {M : Type 1} → statement M
 write-cause-spec =

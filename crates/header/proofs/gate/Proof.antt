@@ -1,4 +1,4 @@
-use Rattle.header.specs.Gate.{gateOf, controlVersion, createType}
+use Rattle.header.specs.Gate.{gateOf, controlVersion}
 use Rattle.header.specs.Header.{versionOf, flagP, flagT, kindOf, lengthOf, teidOf, headerSize, headerOf}
 use Rattle.header.specs.Types.{flagOf, notTaken}
 use lib.ListN.{length}
@@ -67,13 +67,13 @@ returns-7 c = let h : length (now (c .before .before .before .before .before .be
     rw (le-ltb _ _ (c .before .before .before .before .before .before .before .before .before .before .before .before .before .before .if1 .left), eq-eqb _ _ (c .before .before .before .before .before .before .before .before .before .before .before .before .if2 .left), ne-eqb _ _ (c .before .before .before .before .before .before .before .before .before .before .before .if3 .left), sym (c .before .before .before .before .before .before .before .before .before .flag-of .ensures), ne-eqb _ _ (c .before .before .before .before .before .before .before .before .if4 .left), eq-eqb _ _ (c .before .before .before .before .before .before .before .if5 .left), sym (c .before .before .before .before .be16 .ensures), eq-eqb _ _ (c .before .before .before .if6 .left), lt-ltb _ _ h)
 
 returns-8 : tie.Need-returns-8
-unfolding gateOf versionOf flagP flagT kindOf lengthOf controlVersion createType notTaken headerOf
+unfolding gateOf versionOf flagP flagT kindOf lengthOf controlVersion notTaken headerOf
 returns-8 c = let h : headerSize (now (c .before .before .before .before .before .before .before .before .before .before .before .before .before .before .before .before .before .before .before .args .d)) ≤ length (now (c .before .before .before .before .before .before .before .before .before .before .before .before .before .before .before .before .before .before .before .args .d)) = rw (c .before .before .before .before .before .of .ensures) at (c .before .before .before .if7 .left) in
     let k = rw (c .before .before .before .before .before .of .ensures) at (c .if8 .taken) in
     rw (le-ltb _ _ (c .before .before .before .before .before .before .before .before .before .before .before .before .before .before .before .before .before .if1 .left), eq-eqb _ _ (c .before .before .before .before .before .before .before .before .before .before .before .before .before .before .before .if2 .left), ne-eqb _ _ (c .before .before .before .before .before .before .before .before .before .before .before .before .before .before .if3 .left), sym (c .before .before .before .before .before .before .before .before .before .before .before .before .flag-of .ensures), ne-eqb _ _ (c .before .before .before .before .before .before .before .before .before .before .before .if4 .left), eq-eqb _ _ (c .before .before .before .before .before .before .before .before .before .before .if5 .left), sym (c .before .before .before .before .before .before .before .be16 .ensures), eq-eqb _ _ (c .before .before .before .before .before .before .if6 .left), le-ltb _ _ h, k)
 
 returns-9 : tie.Need-returns-9
-unfolding gateOf versionOf flagP flagT kindOf lengthOf controlVersion createType notTaken headerOf
+unfolding gateOf versionOf flagP flagT kindOf lengthOf controlVersion notTaken headerOf
 returns-9 c = let h : headerSize (now (c .before .before .before .before .before .before .before .before .before .before .before .before .before .before .before .before .before .before .before .args .d)) ≤ length (now (c .before .before .before .before .before .before .before .before .before .before .before .before .before .before .before .before .before .before .before .args .d)) = rw (c .before .before .before .before .before .of .ensures) at (c .before .before .before .if7 .left) in
     let k = rw (c .before .before .before .before .before .of .ensures) at (c .if8 .left) in
     rw (le-ltb _ _ (c .before .before .before .before .before .before .before .before .before .before .before .before .before .before .before .before .before .if1 .left), eq-eqb _ _ (c .before .before .before .before .before .before .before .before .before .before .before .before .before .before .before .if2 .left), ne-eqb _ _ (c .before .before .before .before .before .before .before .before .before .before .before .before .before .before .if3 .left), sym (c .before .before .before .before .before .before .before .before .before .before .before .before .flag-of .ensures), ne-eqb _ _ (c .before .before .before .before .before .before .before .before .before .before .before .if4 .left), eq-eqb _ _ (c .before .before .before .before .before .before .before .before .before .before .if5 .left), sym (c .before .before .before .before .before .before .before .be16 .ensures), eq-eqb _ _ (c .before .before .before .before .before .before .if6 .left), le-ltb _ _ h, k)

@@ -1,4 +1,3 @@
-use Rattle.messages.specs.Messages.{size-echo}
 use Rattle.timing.specs.Timing.{timed}
 use Rattle.lentstep.specs.Send.{echoLeft}
 use borrow.Author.Needs.{needs}
@@ -19,7 +18,7 @@ same-length c = search needs
 
 returns : tie.Need-returns
 unfolding echoLeft timed
-returns c = rw (size-echo, c .before .before .echo-of .ensures, c .before .before .before .before .stepped .ensures, c .before .before .before .before .before .sent-once .ensures)
+returns c = rw (c .before .before .echo-of .ensures .length, c .before .before .echo-of .ensures .octets, c .before .before .before .before .stepped .ensures, c .before .before .before .before .before .sent-once .ensures)
 
 pub echo-left-spec : {M : Type 1} → statement M
 echo-left-spec =

@@ -1,4 +1,3 @@
-use Rattle.messages.specs.Messages.{size-delete-bearer}
 use Rattle.timing.specs.Timing.{timed}
 use Rattle.lentstep.specs.Send.{placeLeft}
 use borrow.Author.Needs.{needs}
@@ -19,7 +18,7 @@ same-length c = search needs
 
 returns : tie.Need-returns
 unfolding placeLeft timed
-returns c = rw (size-delete-bearer, c .before .before .delete-bearer .ensures, c .before .before .before .before .stepped .ensures, c .before .before .before .before .before .sent-once .ensures)
+returns c = rw (c .before .before .delete-bearer .ensures .length, c .before .before .delete-bearer .ensures .octets, c .before .before .before .before .stepped .ensures, c .before .before .before .before .before .sent-once .ensures)
 
 pub place-left-spec : {M : Type 1} → statement M
 place-left-spec =

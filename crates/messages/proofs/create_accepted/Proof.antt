@@ -1,3 +1,4 @@
+use mathlib.Core.Path.{refl}
 use Rattle.octets.specs.BigEndian.{octetsOf}
 use Rattle.messages.specs.Messages.{createAccepted, headerTo, causeField, tunnelField, ebiField}
 use borrow.Author.Needs.{needs}
@@ -96,7 +97,7 @@ same-length c = search needs
 
 returns : tie.Need-returns
 unfolding createAccepted headerTo causeField tunnelField ebiField octetsOf
-returns c = c .before .before .copy-front .ensures
+returns c = record { length = refl; octets = c .before .before .copy-front .ensures }
 
 pub create-accepted-spec : {M : Type 1} → statement M
 create-accepted-spec =

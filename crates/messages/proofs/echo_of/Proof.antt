@@ -1,3 +1,4 @@
+use mathlib.Core.Path.{refl}
 use Rattle.octets.specs.BigEndian.{octetsOf}
 use Rattle.messages.specs.Messages.{echoOf}
 use borrow.Author.Needs.{needs}
@@ -24,7 +25,7 @@ same-length c = search needs
 
 returns : tie.Need-returns
 unfolding echoOf octetsOf
-returns c = c .before .before .copy-front .ensures
+returns c = record { length = refl; octets = c .before .before .copy-front .ensures }
 
 pub echo-of-spec : {M : Type 1} → statement M
 echo-of-spec =

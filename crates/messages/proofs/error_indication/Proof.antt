@@ -1,3 +1,4 @@
+use mathlib.Core.Path.{refl}
 use Rattle.octets.specs.BigEndian.{octetsOf}
 use Rattle.messages.specs.Messages.{errorIndication}
 use borrow.Author.Needs.{needs}
@@ -39,7 +40,7 @@ same-length c = search needs
 
 returns : tie.Need-returns
 unfolding errorIndication octetsOf
-returns c = c .before .before .copy-front .ensures
+returns c = record { length = refl; octets = c .before .before .copy-front .ensures }
 
 pub error-indication-spec : {M : Type 1} → statement M
 error-indication-spec =

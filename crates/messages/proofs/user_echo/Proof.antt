@@ -1,3 +1,4 @@
+use mathlib.Core.Path.{refl}
 use Rattle.octets.specs.BigEndian.{octetsOf}
 use Rattle.messages.specs.Messages.{userEcho}
 use borrow.Author.Needs.{needs}
@@ -21,7 +22,7 @@ same-length c = search needs
 
 returns : tie.Need-returns
 unfolding userEcho octetsOf
-returns c = c .before .before .copy-front .ensures
+returns c = record { length = refl; octets = c .before .before .copy-front .ensures }
 
 pub user-echo-spec : {M : Type 1} → statement M
 user-echo-spec =

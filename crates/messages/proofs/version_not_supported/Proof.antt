@@ -1,3 +1,4 @@
+use mathlib.Core.Path.{refl}
 use Rattle.messages.specs.Messages.{versionNotSupported}
 use borrow.Author.Needs.{needs}
 use Rattle.messages.proofs.version_not_supported.Statement.{statement}
@@ -14,7 +15,7 @@ same-length c = search needs
 
 returns : tie.Need-returns
 unfolding versionNotSupported
-returns c = c .before .before .copy-front .ensures
+returns c = record { length = refl; octets = c .before .before .copy-front .ensures }
 
 pub version-not-supported-spec : {M : Type 1} → statement M
 version-not-supported-spec =

@@ -1,59 +1,81 @@
-use Rattle.tunnel.specs.Numbering.{places}
+use Rattle.openings.specs.Openings.{open-still, open-in, open-full}
 use mathlib.Core.Path.{sym, _∙_}
-use borrow.Author.Tests.{lt-ltb, le-ltb}
-use Rattle.openings.specs.Openings.{openOn}
 use borrow.Author.Needs.{needs}
 use Rattle.openings.proofs.open_on.Statement.{statement}
 use Rattle.openings.proofs.open_on.Tie as tie
+use Rattle.openings.proofs.open_on.Reads as reads
+use Rattle.openings.proofs.open_on.Lts as lts
+use Rattle.control.proofs.write_accepted.Reads as write-accepted-reads
+use Rattle.openings.proofs.entered_on.Reads as entered-on-reads
+use Rattle.openings.proofs.full_on.Reads as full-on-reads
+use Rattle.openings.proofs.unmoved.Reads as unmoved-reads
 
-repeats-requires : tie.Need-repeats-requires
-repeats-requires c κs = search needs
+-- src/lib.rt:351:17
+enum-told : tie.Need-enum-told
+enum-told c = search needs
 
+-- src/lib.rt:354:17
 write-accepted-requires : tie.Need-write-accepted-requires
 write-accepted-requires c κs = search needs
 
+-- src/lib.rt:355:13
 unmoved-requires : tie.Need-unmoved-requires
 unmoved-requires c κs = search needs
 
-same-length : tie.Need-same-length
-same-length c = search needs
+-- src/lib.rt:357:58
+enum-told-2 : tie.Need-enum-told-2
+enum-told-2 c = search needs
 
-returns : tie.Need-returns
-unfolding openOn places
-returns c = rw (sym (c .before .before .before .before .before .before .before .repeats .ensures) ∙ c .before .before .before .before .before .before .if1 .taken, c .unmoved .ensures, c .before .before .before .write-accepted .ensures .length, c .before .before .before .write-accepted .ensures .octets)
-
+-- src/lib.rt:357:30
 entered-on-requires : tie.Need-entered-on-requires
 entered-on-requires c κs = search needs
 
-same-length-2 : tie.Need-same-length-2
-same-length-2 c = search needs
+-- src/lib.rt:358:45
+enum-told-3 : tie.Need-enum-told-3
+enum-told-3 c = search needs
 
-returns-2 : tie.Need-returns-2
-unfolding openOn places
-returns-2 c = rw (sym (c .before .before .before .before .before .before .before .repeats .ensures) ∙ c .before .before .before .before .before .before .if1 .left, lt-ltb _ _ (c .before .before .before .before .if2 .taken)) (c .before .before .entered-on .ensures)
-
+-- src/lib.rt:358:26
 full-on-requires : tie.Need-full-on-requires
 full-on-requires c κs = search needs
 
+-- src/lib.rt:345:1
+same-length : tie.Need-same-length
+same-length c = search needs
+
+-- src/lib.rt:345:1
+returns : tie.Need-returns
+returns c = rw (c .unmoved .ensures) (open-still _ _ _ _ _ (c .before .before .before .before .before .before .before .enum-told .given .1) _ _ (c .before .before .before .write-accepted .ensures))
+
+-- src/lib.rt:345:1
+same-length-2 : tie.Need-same-length-2
+same-length-2 c = search needs
+
+-- src/lib.rt:345:1
+returns-2 : tie.Need-returns-2
+returns-2 c = c .before .before .entered-on .ensures ∙ open-in _ _ _ _ _ _ (c .before .before .before .before .enum-told2 .given .1)
+
+-- src/lib.rt:345:1
 same-length-3 : tie.Need-same-length-3
 same-length-3 c = search needs
 
+-- src/lib.rt:345:1
 returns-3 : tie.Need-returns-3
-unfolding openOn places
-returns-3 c = rw (sym (c .before .before .before .before .before .before .before .repeats .ensures) ∙ c .before .before .before .before .before .before .if1 .left, le-ltb _ _ (c .before .before .before .before .if2 .left)) (c .before .before .full-on .ensures)
+returns-3 c = c .before .before .full-on .ensures ∙ open-full _ _ _ _ _ (c .before .before .before .before .enum-told3 .given .1)
 
 pub open-on-spec : {M : Type 1} → statement M
 open-on-spec =
     tie.close
     (tie.spec
-    repeats-requires
+    enum-told
     write-accepted-requires
     unmoved-requires
+    enum-told-2
+    entered-on-requires
+    enum-told-3
+    full-on-requires
     same-length
     returns
-    entered-on-requires
     same-length-2
     returns-2
-    full-on-requires
     same-length-3
     returns-3)

@@ -7,16 +7,16 @@ use Rattle.openings.proofs.sight_of.Lts as lts
 use Rattle.glance.proofs.stands.Reads as stands-reads
 use Rattle.openings.proofs.old_by.Reads as old-by-reads
 use Rattle.openings.proofs.sight_by.Reads as sight-by-reads
-use Rattle.wishes.proofs.aim_of.Reads as aim-of-reads
-use Rattle.wishes.proofs.restarts_in.Reads as restarts-in-reads
+use Rattle.openings.proofs.aim_of.Reads as aim-of-reads
+use Rattle.openings.proofs.restarts_now.Reads as restarts-now-reads
 
 -- src/lib.rt:86:9
 stands-requires : tie.Need-stands-requires
 stands-requires c κs = search needs
 
 -- src/lib.rt:87:9
-restarts-in-requires : tie.Need-restarts-in-requires
-restarts-in-requires c κs = search needs
+restarts-now-requires : tie.Need-restarts-now-requires
+restarts-now-requires c κs = search needs
 
 -- src/lib.rt:88:9
 aim-of-requires : tie.Need-aim-of-requires
@@ -33,14 +33,14 @@ sight-by-requires c κs = search needs
 -- src/lib.rt:83:1
 returns : tie.Need-returns
 unfolding sightOf
-returns c = rw (c .sight-by .ensures, c .before .old-by .ensures, c .before .before .before .before .aim-of .ensures, c .before .before .before .before .before .restarts-in .ensures, c .before .before .before .before .before .before .stands .ensures)
+returns c = rw (c .sight-by .ensures, c .before .old-by .ensures, c .before .before .before .before .aim-of .ensures, c .before .before .before .before .before .restarts-now .ensures, c .before .before .before .before .before .before .stands .ensures)
 
 pub sight-of-spec : {M : Type 1} → statement M
 sight-of-spec =
     tie.close
     (tie.spec
     stands-requires
-    restarts-in-requires
+    restarts-now-requires
     aim-of-requires
     old-by-requires
     sight-by-requires

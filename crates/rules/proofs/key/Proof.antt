@@ -9,18 +9,12 @@ returns : tie.Need-returns
 unfolding keyOf isFree
 returns c = rw (eq-eqb _ _ (c .if1 .taken))
 
-mul-result : tie.Need-mul-result
-mul-result c = search needs
-
-cast-result : tie.Need-cast-result
-cast-result c = search needs
-
-add-result : tie.Need-add-result
-add-result c = search needs
+id-key-requires : tie.Need-id-key-requires
+id-key-requires c κs = search needs
 
 returns-2 : tie.Need-returns-2
 unfolding keyOf isFree
-returns-2 c = rw (ne-eqb _ _ (c .before .before .if1 .left))
+returns-2 c = rw (ne-eqb _ _ (c .before .if1 .left)) (c .id-key .ensures)
 
 pub key-spec : {M : Type 1} → statement M
-key-spec = tie.close (tie.spec returns mul-result cast-result add-result returns-2)
+key-spec = tie.close (tie.spec returns id-key-requires returns-2)

@@ -1,29 +1,67 @@
-use Rattle.single.specs.Single.{bearer-is}
+use Rattle.control.specs.Amends.{bearerOn}
+use mathlib.Core.Path.{sym, _∙_}
 use borrow.Author.Needs.{needs}
 use Rattle.single.proofs.bearer_on.Statement.{statement}
 use Rattle.single.proofs.bearer_on.Tie as tie
+use Rattle.single.proofs.bearer_on.Reads as reads
+use Rattle.single.proofs.bearer_on.Lts as lts
+use Rattle.session.proofs.Session.freed.Reads as freed-reads
+use Rattle.session.proofs.Session.waits_for.Reads as waits-for-reads
+use Rattle.single.proofs.quiet_on.Reads as quiet-on-reads
 
-read-bearer-reply-requires : tie.Need-read-bearer-reply-requires
-read-bearer-reply-requires c κs = search needs
+enum-told : tie.Need-enum-told
+enum-told c = search needs
 
-has-control-requires : tie.Need-has-control-requires
-has-control-requires c κs = search needs
+-- src/lib.rt:96:9
+enum-told-2 : tie.Need-enum-told-2
+enum-told-2 c = search needs
 
+-- src/lib.rt:96:9
+quiet-on-requires : tie.Need-quiet-on-requires
+quiet-on-requires c κs = search needs
+
+-- src/lib.rt:96:9
+returns : tie.Need-returns
+unfolding bearerOn
+returns c = rw (c .before .enum-told2 .given .1, c .quiet-on .ensures)
+
+-- src/lib.rt:98:9
 waits-for-requires : tie.Need-waits-for-requires
 waits-for-requires c κs = search needs
 
-bearer-by-requires : tie.Need-bearer-by-requires
-bearer-by-requires c κs = search needs
+-- src/lib.rt:100:13
+freed-requires : tie.Need-freed-requires
+freed-requires c κs = search needs
 
-returns : tie.Need-returns
-returns c = rw (bearer-is, c .bearer-by .ensures, c .before .waits-for .ensures, c .before .before .has-control .ensures, c .before .before .before .read-bearer-reply .ensures)
+-- src/lib.rt:101:9
+quiet-on-requires-2 : tie.Need-quiet-on-requires-2
+quiet-on-requires-2 c κs = search needs
+
+-- src/lib.rt:101:9
+returns-2 : tie.Need-returns-2
+unfolding bearerOn
+returns-2 c = rw (c .before .before .before .before .enum-told .given .1, sym (c .before .before .before .waits-for .ensures) ∙ c .before .before .if1 .taken, c .quiet-on2 .ensures, c .before .freed .ensures)
+
+-- src/lib.rt:103:5
+quiet-on-requires-3 : tie.Need-quiet-on-requires-3
+quiet-on-requires-3 c κs = search needs
+
+-- src/lib.rt:92:1
+returns-3 : tie.Need-returns-3
+unfolding bearerOn
+returns-3 c = rw (c .before .before .before .enum-told .given .1, sym (c .before .before .waits-for .ensures) ∙ c .before .if1 .left, c .quiet-on3 .ensures)
 
 pub bearer-on-spec : {M : Type 1} → statement M
 bearer-on-spec =
     tie.close
     (tie.spec
-    read-bearer-reply-requires
-    has-control-requires
+    enum-told
+    enum-told-2
+    quiet-on-requires
+    returns
     waits-for-requires
-    bearer-by-requires
-    returns)
+    freed-requires
+    quiet-on-requires-2
+    returns-2
+    quiet-on-requires-3
+    returns-3)

@@ -1,46 +1,58 @@
-use borrow.Author.Tests.{not-true, not-false}
-use Rattle.single.specs.Single.{delete-none, delete-some}
+use Rattle.control.specs.Amends.{deleteOn}
+use mathlib.Core.Path.{sym, _∙_}
 use borrow.Author.Needs.{needs}
 use Rattle.single.proofs.delete_on.Statement.{statement}
 use Rattle.single.proofs.delete_on.Tie as tie
+use Rattle.single.proofs.delete_on.Reads as reads
+use Rattle.single.proofs.delete_on.Lts as lts
+use Rattle.changes.proofs.means_of.Reads as means-of-reads
+use Rattle.control.proofs.not_live.Reads as not-live-reads
+use Rattle.single.proofs.cause_on.Reads as cause-on-reads
+use Rattle.single.proofs.freed_on.Reads as freed-on-reads
 
-has-control-requires : tie.Need-has-control-requires
-has-control-requires c κs = search needs
+-- src/lib.rt:83:9
+means-of-requires : tie.Need-means-of-requires
+means-of-requires c κs = search needs
 
-not-live-requires : tie.Need-not-live-requires
-not-live-requires c κs = search needs
+-- src/lib.rt:85:9
+freed-on-requires : tie.Need-freed-on-requires
+freed-on-requires c κs = search needs
 
-cause-on-requires : tie.Need-cause-on-requires
-cause-on-requires c κs = search needs
-
+-- src/lib.rt:85:9
 same-length : tie.Need-same-length
 same-length c = search needs
 
+-- src/lib.rt:85:9
 returns : tie.Need-returns
-returns c = rw (delete-none _ _ _ _ _ (c .before .before .before .before .before .before .has-control .ensures) (not-true _ (c .before .before .before .before .before .if1 .taken)), ← c .before .before .before .before .not-live .ensures) (c .before .before .cause-on .ensures)
+unfolding deleteOn
+returns c = rw (sym (c .before .before .before .before .before .means-of .ensures) ∙ c .before .before .before .before .if1 .taken) (c .before .before .freed-on .ensures)
 
-read-delete-requires : tie.Need-read-delete-requires
-read-delete-requires c κs = search needs
+-- src/lib.rt:87:9
+not-live-requires : tie.Need-not-live-requires
+not-live-requires c κs = search needs
 
-delete-read-requires : tie.Need-delete-read-requires
-delete-read-requires c κs = search needs
+-- src/lib.rt:88:5
+cause-on-requires : tie.Need-cause-on-requires
+cause-on-requires c κs = search needs
 
+-- src/lib.rt:80:1
 same-length-2 : tie.Need-same-length-2
 same-length-2 c = search needs
 
+-- src/lib.rt:80:1
 returns-2 : tie.Need-returns-2
-returns-2 c = rw (delete-some _ _ _ _ _ (c .before .before .before .before .before .before .has-control .ensures) (not-false _ (c .before .before .before .before .before .if1 .left)), ← c .before .before .before .before .read-delete .ensures) (c .before .before .delete-read .ensures)
+unfolding deleteOn
+returns-2 c = rw (sym (c .before .before .before .before .before .before .means-of .ensures) ∙ c .before .before .before .before .before .if1 .left, ← c .before .before .before .before .not-live .ensures) (c .before .before .cause-on .ensures)
 
 pub delete-on-spec : {M : Type 1} → statement M
 delete-on-spec =
     tie.close
     (tie.spec
-    has-control-requires
-    not-live-requires
-    cause-on-requires
+    means-of-requires
+    freed-on-requires
     same-length
     returns
-    read-delete-requires
-    delete-read-requires
+    not-live-requires
+    cause-on-requires
     same-length-2
     returns-2)

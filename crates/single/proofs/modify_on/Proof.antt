@@ -1,46 +1,75 @@
-use borrow.Author.Tests.{not-true, not-false}
-use Rattle.single.specs.Single.{modify-none, modify-some}
+use Rattle.control.specs.Amends.{modifyOn, modifyBy, movedOn}
+use Rattle.single.specs.Single.{single, doneWith}
+use mathlib.Core.Path.{sym, _∙_}
 use borrow.Author.Needs.{needs}
 use Rattle.single.proofs.modify_on.Statement.{statement}
 use Rattle.single.proofs.modify_on.Tie as tie
+use Rattle.single.proofs.modify_on.Reads as reads
+use Rattle.single.proofs.modify_on.Lts as lts
+use Rattle.changes.proofs.moves_of.Reads as moves-of-reads
+use Rattle.control.proofs.modify_reply.Reads as modify-reply-reads
+use Rattle.control.proofs.peers_of.Reads as peers-of-reads
+use Rattle.session.proofs.Session.moved.Reads as moved-reads
+use Rattle.single.proofs.cause_on.Reads as cause-on-reads
 
-has-control-requires : tie.Need-has-control-requires
-has-control-requires c κs = search needs
+-- src/lib.rt:51:11
+moves-of-requires : tie.Need-moves-of-requires
+moves-of-requires c κs = search needs
 
-not-live-requires : tie.Need-not-live-requires
-not-live-requires c κs = search needs
+-- src/lib.rt:52:24
+enum-known-w : tie.Need-enum-known-w
+enum-known-w c = search needs
 
+-- src/lib.rt:52:30
 cause-on-requires : tie.Need-cause-on-requires
 cause-on-requires c κs = search needs
 
+-- src/lib.rt:53:21
+enum-known-control : tie.Need-enum-known-control
+enum-known-control c = search needs
+
+-- src/lib.rt:54:17
+peers-of-requires : tie.Need-peers-of-requires
+peers-of-requires c κs = search needs
+
+-- src/lib.rt:55:17
+moved-requires : tie.Need-moved-requires
+moved-requires c κs = search needs
+
+-- src/lib.rt:56:17
+modify-reply-requires : tie.Need-modify-reply-requires
+modify-reply-requires c κs = search needs
+
+-- src/lib.rt:47:1
 same-length : tie.Need-same-length
 same-length c = search needs
 
+-- src/lib.rt:47:1
 returns : tie.Need-returns
-returns c = rw (modify-none _ _ _ _ _ (c .before .before .before .before .before .before .has-control .ensures) (not-true _ (c .before .before .before .before .before .if1 .taken)), ← c .before .before .before .before .not-live .ensures) (c .before .before .cause-on .ensures)
+unfolding modifyOn modifyBy
+returns c = rw (sym (c .before .before .before .before .before .before .before .moves-of .ensures) ∙ c .before .before .before .before .before .w .given .1) (c .before .before .cause-on .ensures)
 
-read-modify-requires : tie.Need-read-modify-requires
-read-modify-requires c κs = search needs
-
-modify-read-requires : tie.Need-modify-read-requires
-modify-read-requires c κs = search needs
-
+-- src/lib.rt:47:1
 same-length-2 : tie.Need-same-length-2
 same-length-2 c = search needs
 
+-- src/lib.rt:47:1
 returns-2 : tie.Need-returns-2
-returns-2 c = rw (modify-some _ _ _ _ _ (c .before .before .before .before .before .before .has-control .ensures) (not-false _ (c .before .before .before .before .before .if1 .left)), ← c .before .before .before .before .read-modify .ensures) (c .before .before .modify-read .ensures)
+unfolding modifyOn modifyBy movedOn doneWith single
+returns-2 c = rw (sym (c .before .before .before .before .before .before .before .before .before .moves-of .ensures) ∙ c .before .before .before .before .before .before .before .control .given .1, c .before .before .modify-reply .ensures .length, c .before .before .modify-reply .ensures .octets, c .before .before .before .before .moved .ensures, c .before .before .before .before .before .peers-of .ensures)
 
 pub modify-on-spec : {M : Type 1} → statement M
 modify-on-spec =
     tie.close
     (tie.spec
-    has-control-requires
-    not-live-requires
+    moves-of-requires
+    enum-known-w
     cause-on-requires
+    enum-known-control
+    peers-of-requires
+    moved-requires
+    modify-reply-requires
     same-length
     returns
-    read-modify-requires
-    modify-read-requires
     same-length-2
     returns-2)

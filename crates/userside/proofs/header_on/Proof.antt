@@ -1,4 +1,3 @@
-use Rattle.messages.specs.Messages.{size-user-echo}
 use Rattle.userside.specs.OneRecord.{headerOn}
 use borrow.Author.Needs.{needs}
 use Rattle.userside.proofs.header_on.Statement.{statement}
@@ -24,7 +23,7 @@ same-length c = search needs
 
 returns : tie.Need-returns
 unfolding headerOn
-returns c = rw (c .before .before .before .before .before .h .given .1, size-user-echo, c .before .before .user-echo .ensures)
+returns c = rw (c .before .before .before .before .before .h .given .1, c .before .before .user-echo .ensures .length, c .before .before .user-echo .ensures .octets)
 
 same-length-2 : tie.Need-same-length-2
 same-length-2 c = search needs

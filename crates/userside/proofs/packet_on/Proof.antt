@@ -1,4 +1,3 @@
-use Rattle.messages.specs.Messages.{size-error}
 use Rattle.userside.specs.OneRecord.{packetOn}
 use borrow.Author.Needs.{needs}
 use Rattle.userside.proofs.packet_on.Statement.{statement}
@@ -22,7 +21,7 @@ same-length c = search needs
 
 returns-2 : tie.Need-returns-2
 unfolding packetOn
-returns-2 c = rw (← c .before .before .before .before .before .has-user .ensures, c .before .before .before .before .if1 .left, size-error, c .before .before .error-indication .ensures)
+returns-2 c = rw (← c .before .before .before .before .before .has-user .ensures, c .before .before .before .before .if1 .left, c .before .before .error-indication .ensures .length, c .before .before .error-indication .ensures .octets)
 
 pub packet-on-spec : {M : Type 1} → statement M
 packet-on-spec =

@@ -1,12 +1,19 @@
-use mathlib.Core.Path.{refl}
-use Rattle.session.specs.Request.{awaits}
 use Rattle.session.specs.Session.{waitsFor}
+use borrow.Author.Needs.{needs}
 use Rattle.session.proofs.Session.waits_for.Statement.{statement}
 use Rattle.session.proofs.Session.waits_for.Tie as tie
+use Rattle.session.proofs.Session.waits_for.Reads as reads
+use Rattle.session.proofs.Session.waits_for.Lts as lts
+use Rattle.session.proofs.Request.awaits.Reads as awaits-reads
 
+-- src/lib.rt:184:9
+awaits-requires : tie.Need-awaits-requires
+awaits-requires c κs = search needs
+
+-- src/lib.rt:180:5
 returns : tie.Need-returns
-unfolding waitsFor awaits
-returns c = refl
+unfolding waitsFor
+returns c = c .awaits .ensures
 
 pub waits-for-spec : {M : Type 1} → statement M
-waits-for-spec = tie.close (tie.spec returns)
+waits-for-spec = tie.close (tie.spec awaits-requires returns)
