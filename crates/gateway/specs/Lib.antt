@@ -1,5 +1,0 @@
-pub mod Agree
-pub mod Kept
-pub mod Numbers
-pub mod UserNumbers
-pub mod Refusals

@@ -1,0 +1,110 @@
+-- The customer's three demands, each one statement. A record holds when each of its fields does: the field's name says it in short, its type
+-- is the statement, in the file that the use line names.
+-- Assumes nothing.
+use Rattle.promises.specs.Agree.{OutcomesAgree, outcomes-agree}
+use Rattle.promises.specs.LentAgree.{LentAgree, lent-agree}
+use Rattle.promises.specs.Counts.{OthersRefused, others-refused}
+use Rattle.promises.specs.Refusals.{NumbersKnown, NoEleven, TwoNever, TwoAlways, OneFirst, numbers-known, no-eleven, two-never, two-always, one-first}
+use Rattle.promises.specs.Kept.{CallsKeep, calls-keep}
+use Rattle.promises.specs.Pairs.{PairsHold, pairs-hold}
+use Rattle.promises.specs.Answers.{CreateAnswers, ModifyAnswers, DeleteAnswers, CreatesSound, ModifiesSound, ValuesAreTheirOctets, create-answers, modify-answers, delete-answers, creates-sound, modifies-sound, values-are-their-octets}
+use Rattle.promises.specs.Written.{WrittenIsRead, written-is-read}
+use Rattle.promises.specs.Packets.{LiveOnly, AllCarried, live-only, all-carried}
+use Rattle.promises.specs.Repeats.{RepeatsAnswered, AgainTheSame, repeats-answered, again-the-same}
+use Rattle.promises.specs.InTime.{FreedInTime, NothingDue, freed-in-time, nothing-due}
+use Rattle.promises.specs.Ticks.{EveryTickCounts, every-tick-counts}
+use Rattle.promises.specs.Impossible.{NotAllRefused, NotOneReply, CountedFromRecords, not-all-refused, not-one-reply, counted-from-records}
+use Rattle.promises.specs.Bounds.{RulesHold, NeitherTwoNorEleven, CeilingsKept, NoneShared, rules-hold, neither-two-nor-eleven, ceilings-kept, none-shared}
+use Rattle.promises.specs.Share.{RefusalsJust, GuaranteesKept, FreedIsRoom, refusals-just, guarantees-kept, freed-is-room}
+
+-- 1. Every datagram, table and plan gets an answer, and the call ends; for each refusal it is fixed which number comes, and what buffer and
+-- table hold
+pub record Demand1 : Type 0 where
+  pub fixed : OutcomesAgree
+  pub fixedLent : LentAgree
+  pub numbers : NumbersKnown
+  pub broken : TwoAlways
+  pub sound : TwoNever
+  pub counts : OthersRefused
+  pub short : OneFirst
+  pub notRefused : NotAllRefused
+
+-- 2. Reading and writing follow the standards: the same fields, reply octets, tunnel numbers and resends; a user packet is handed up only under
+-- a live user number, as exactly the octets it carried
+pub record Demand2 : Type 0 where
+  pub pairs : PairsHold
+  pub create : CreateAnswers
+  pub modify : ModifyAnswers
+  pub delete : DeleteAnswers
+  pub created : CreatesSound
+  pub modified : ModifiesSound
+  pub octets : ValuesAreTheirOctets
+  pub written : WrittenIsRead
+  pub handedUp : LiveOnly
+  pub carried : AllCarried
+  pub apart : NoneShared
+  pub repeats : RepeatsAnswered
+  pub again : AgainTheSame
+  pub ticks : EveryTickCounts
+  pub inTime : FreedInTime
+  pub allSent : NothingDue
+  pub notOneReply : NotOneReply
+
+-- 3. A rented place stays rented: from a fresh table under an accepted plan, after any run of calls
+pub record Demand3 : Type 0 where
+  pub keep : CallsKeep
+  pub rules : RulesHold
+  pub neither : NeitherTwoNorEleven
+  pub eleven : NoEleven
+  pub ceilings : CeilingsKept
+  pub guarantees : GuaranteesKept
+  pub refusals : RefusalsJust
+  pub room : FreedIsRoom
+  pub counted : CountedFromRecords
+
+-- ---- that they hold
+pub demand-1 : Demand1
+demand-1 = record {
+  fixed = outcomes-agree;
+  fixedLent = lent-agree;
+  numbers = numbers-known;
+  broken = two-always;
+  sound = two-never;
+  counts = others-refused;
+  short = one-first;
+  notRefused = not-all-refused;
+}
+
+pub demand-2 : Demand2
+demand-2 = record {
+  pairs = pairs-hold;
+  create = create-answers;
+  modify = modify-answers;
+  delete = delete-answers;
+  created = creates-sound;
+  modified = modifies-sound;
+  octets = values-are-their-octets;
+  written = written-is-read;
+  handedUp = live-only;
+  carried = all-carried;
+  apart = none-shared;
+  repeats = repeats-answered;
+  again = again-the-same;
+  ticks = every-tick-counts;
+  inTime = freed-in-time;
+  allSent = nothing-due;
+  notOneReply = not-one-reply;
+}
+
+pub demand-3 : Demand3
+demand-3 = record {
+  keep = calls-keep;
+  rules = rules-hold;
+  neither = neither-two-nor-eleven;
+  eleven = no-eleven;
+  ceilings = ceilings-kept;
+  guarantees = guarantees-kept;
+  refusals = refusals-just;
+  room = freed-is-room;
+  counted = counted-from-records;
+}

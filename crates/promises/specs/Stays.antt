@@ -1,0 +1,115 @@
+-- The plan stays: no call changes it, so that after any run the unit goes by the plan it was started with.
+-- Assumes nothing.
+use Prim.Native.Nat.{ℕ}
+use mathlib.Core.Bool.{true}
+use mathlib.Core.List.{List, [], _∷_}
+use mathlib.Core.Path.{_≡_, refl, _∙_}
+use lib.ListN.{length, drop, getD}
+use lib.Dec.{eqb, ltb}
+use Rattle.session.specs.declared.Session.{Session}
+use Rattle.octets.specs.Choice.{split}
+use Rattle.plan.specs.declared.Plan.{Plan}
+use Rattle.plan.specs.Plan.{accepted}
+use Rattle.sharing.specs.Sharing.{admits}
+use Rattle.session.specs.Session.{isFree, hasId, freed}
+use Rattle.table.specs.declared.Node.{Node}
+use Rattle.table.specs.declared.Found.{Found}
+use Rattle.table.specs.declared.Found.the-variants as F
+use Rattle.table.specs.Rules.{keepsRules, live}
+use Rattle.table.specs.Change.{nobody, changedAt}
+use Rattle.table.specs.Find.{foundIn}
+use Rattle.table.specs.Own.{freshNode, duePlace}
+use Rattle.requests.specs.declared.Create as C
+use Rattle.timing.specs.Outcome.{State, onSession, onOwner, leastReply, noReply}
+use Rattle.timing.specs.Timing.{freshAnswer, timed, freshState, tickOf, closeOf, echoSent, placeSent, dueSent, sendOf}
+use Rattle.control.specs.Echoes.{heardBy, echoTaken, echoEnded, echoReplyTaken}
+use Rattle.control.specs.Amends.{causeTaken}
+use Rattle.control.specs.Creates.{acceptedTaken, openedAt, shared, isRepeat, settledAt, heardCreate, createTaken}
+use Rattle.control.specs.CreatesKept.{heard-plan}
+use Rattle.promises.specs.Run.{left, Event, control, user, tick, send, close, line, step, run, line-step, start, reached}
+use Rattle.readers.specs.declared.Recovery.{Recovery}
+use Rattle.wishes.specs.declared.Asked.{Asked}
+use Rattle.wishes.specs.declared.Asked.the-variants as A
+use Rattle.wishes.specs.Asked.{askedOf}
+use Rattle.control.specs.Control.{askedTaken, controlTaken}
+
+echo-reply-plan : (node : Node) (t : List Session) (r : Recovery) (reply : List ℕ) → echoReplyTaken node t r reply .answer .node .plan ≡ node .plan
+unfolding echoReplyTaken echoEnded timed noReply
+echo-reply-plan node t r reply = heard-plan r node t
+
+module _ (c : C.Create) (seq : ℕ) (node₀ : Node) (t₀ : List Session) (reply : List ℕ) where
+  shared-plan : (node : Node) (t : List Session) → node .plan ≡ node₀ .plan → shared c seq node t node₀ t₀ reply .answer .node .plan ≡ node₀ .plan
+  unfolding shared openedAt acceptedTaken causeTaken noReply
+  shared-plan node t e = split (admits (node .plan) (live t) (c .point)) (λ q. rw q (place (foundIn isFree t))) (λ q. rw q e)
+    where
+      place : (f : Found) → openedAt f c seq node t node₀ t₀ reply .answer .node .plan ≡ node₀ .plan
+      place F.Nothing = refl
+      place (F.At i) = e
+
+  settled-plan : (node : Node) (t : List Session) → node .plan ≡ node₀ .plan → (f : Found) → settledAt f c seq node t node₀ t₀ reply .answer .node .plan ≡ node₀ .plan
+  unfolding settledAt acceptedTaken
+  settled-plan node t e F.Nothing = shared-plan node t e
+  settled-plan node t e (F.At i) =
+      split (isRepeat c seq (getD t i nobody)) (λ x. rw x e) (λ x. rw x (shared-plan node (changedAt freed i t) e))
+
+create-plan : (node : Node) (t : List Session) (c : C.Create) (seq : ℕ) (reply : List ℕ) → createTaken c seq node t reply .answer .node .plan ≡ node .plan
+unfolding createTaken heardCreate
+create-plan node t c seq reply =
+    settled-plan c seq node t reply (heardBy (c .recovery) node t .node) (heardBy (c .recovery) node t .table) (heard-plan (c .recovery) node t)
+    (foundIn (hasId (c .imsi) (c .ebi)) (heardBy (c .recovery) node t .table))
+
+module _ (node : Node) (t : List Session) where
+  asked-plan : (a : Asked) (reply : List ℕ) → askedTaken node t a reply .answer .node .plan ≡ node .plan
+  unfolding askedTaken echoTaken causeTaken onOwner onSession noReply
+  asked-plan (A.Silent number) reply = refl
+  asked-plan A.Version reply = refl
+  asked-plan (A.Echo r seq) reply = heard-plan r node t
+  asked-plan (A.EchoReply r) reply = echo-reply-plan node t r reply
+  asked-plan (A.Create c seq) reply = create-plan node t c seq reply
+  asked-plan (A.Refused w to seq) reply = refl
+  asked-plan (A.Session teid seq x) reply = refl
+
+  control-plan : (d reply : List ℕ) → controlTaken node t d reply .answer .node .plan ≡ node .plan
+  unfolding controlTaken noReply
+  control-plan d reply =
+      split (ltb (length reply) leastReply) (λ a. rw a)
+      (λ a. split (keepsRules node t) (λ e. rw (a, e) (asked-plan (askedOf node d) reply)) (λ e. rw (a, e)))
+
+  tick-plan : tickOf node t .answer .node .plan ≡ node .plan
+  unfolding tickOf timed noReply
+  tick-plan = split (keepsRules node t) (λ e. rw e) (λ e. rw e)
+
+  close-plan : (i : ℕ) → closeOf node t i .answer .node .plan ≡ node .plan
+  unfolding closeOf onSession noReply
+  close-plan i = split (keepsRules node t) (λ e. rw e) (λ e. rw e)
+
+  send-plan : (reply : List ℕ) → sendOf node t reply .answer .node .plan ≡ node .plan
+  unfolding sendOf dueSent echoSent placeSent timed noReply
+  send-plan reply =
+      split (ltb (length reply) leastReply) (λ a. rw a)
+      (λ a. split (keepsRules node t)
+      (λ e. split (eqb (node .echo .timer) 0) (λ z. rw (a, e, z))
+      (λ z. split (ltb (duePlace t) (length t)) (λ d. rw (a, e, z, d)) (λ d. rw (a, e, z, d))))
+      (λ e. rw (a, e)))
+
+pub step-plan : (e : Event) (s : State) → step e s .node .plan ≡ s .node .plan
+unfolding step left
+step-plan (control d reply) s = control-plan (s .node) (s .table) d reply
+step-plan (user d reply) s = refl
+step-plan tick s = tick-plan (s .node) (s .table)
+step-plan (send reply) s = send-plan (s .node) (s .table) reply
+step-plan (close place) s = close-plan (s .node) (s .table) place
+step-plan (line place reply) s = rw (line-step place reply s)
+
+pub run-plan : (es : List Event) (s : State) → run es s .node .plan ≡ s .node .plan
+unfolding run
+run-plan [] s = refl
+run-plan (e ∷ es) s = run-plan es (step e s) ∙ step-plan e s
+
+pub start-plan : (p : Plan) → accepted p ≡ true → start p .node .plan ≡ p
+unfolding start freshState freshAnswer freshNode
+start-plan p a = rw a
+
+pub reached-plan : (p : Plan) (es : List Event) → accepted p ≡ true → reached p es .node .plan ≡ p
+unfolding reached
+reached-plan p es a = run-plan es (start p) ∙ start-plan p a
