@@ -1,8 +1,6 @@
 -- The customer's three demands, each one statement. A record holds when each of its fields does: the field's name says it in short, its type
 -- is the statement, in the file that the use line names.
 -- Assumes nothing.
-use Rattle.promises.specs.Agree.{OutcomesAgree, outcomes-agree}
-use Rattle.promises.specs.LentAgree.{LentAgree, lent-agree}
 use Rattle.promises.specs.Counts.{OthersRefused, others-refused}
 use Rattle.promises.specs.Refusals.{NumbersKnown, NoEleven, TwoNever, TwoAlways, OneFirst, numbers-known, no-eleven, two-never, two-always, one-first}
 use Rattle.promises.specs.Kept.{CallsKeep, calls-keep}
@@ -18,10 +16,8 @@ use Rattle.promises.specs.Bounds.{RulesHold, NeitherTwoNorEleven, Ceilin
 use Rattle.promises.specs.Share.{RefusalsJust, GuaranteesKept, FreedIsRoom, refusals-just, guarantees-kept, freed-is-room}
 
 -- 1. Every datagram, table and plan gets an answer, and the call ends; for each refusal it is fixed which number comes, and what buffer and
--- table hold
+-- table hold. (That a call made twice on equal arguments comes to the same is said by the calls themselves, in crate agreement.)
 pub record Demand1 : Type 0 where
-  pub fixed : OutcomesAgree
-  pub fixedLent : LentAgree
   pub numbers : NumbersKnown
   pub broken : TwoAlways
   pub sound : TwoNever
@@ -65,8 +61,6 @@ pub record Demand3 : Type 0 where
 -- ---- that they hold
 pub demand-1 : Demand1
 demand-1 = record {
-  fixed = outcomes-agree;
-  fixedLent = lent-agree;
   numbers = numbers-known;
   broken = two-always;
   sound = two-never;

@@ -1,4 +1,3 @@
-pub mod Agree
 pub mod Answers
 pub mod Bounds
 pub mod Counts
@@ -7,7 +6,6 @@ pub mod Examples
 pub mod Impossible
 pub mod InTime
 pub mod Kept
-pub mod LentAgree
 pub mod Numbers
 pub mod Packets
 pub mod Pairs
