@@ -204,9 +204,9 @@ module _ (s : State) (k : Kept s) (i : ℕ) (h : i < 64) (live : isFree (at s i)
   unfolding places teids
   small-number = number-fits userOffset (at s i .usage) i user-fits h (ok-usage (boundsOf (s .node .plan)) (at s i) ok)
 
-  owner : ownerOf userOffset (userNumber (at s i .usage) i) (s .table) ≡ F.At i
+  pub live-owner : ownerOf userOffset (userNumber (at s i .usage) i) (s .table) ≡ F.At i
   unfolding places
-  owner =
+  live-owner =
       let z = rules .size in
       owner-is userOffset (userNumber (at s i .usage) i) (s .table) user-fits (omega arith)
       ∙ rw (number-holder userOffset (at s i .usage) i user-fits h used)
@@ -215,7 +215,7 @@ module _ (s : State) (k : Kept s) (i : ℕ) (h : i < 64) (live : isFree (at s i)
   hand : (d reply : List ℕ) → 128 ≤ length reply → userOf d .number ≡ 0 → userOf d .size ≡ 8 → headerOf d ≡ H.Packet (record { 0 = userNumber (at s i .usage) i })
       → took-of s d reply ≡ took 0 i 0 reply 8
   unfolding headerTaken packetTaken leastReply
-  hand d reply room n z q = user-read (s .node) (s .table) d reply room k n ∙ rw (q, owner, z)
+  hand d reply room n z q = user-read (s .node) (s .table) d reply room k n ∙ rw (q, live-owner, z)
 
   carried-here : (x reply : List ℕ) → length x < 65536 → 128 ≤ length reply
       → Carried i reply x (packet (userNumber (at s i .usage) i) x) (took-of s (packet (userNumber (at s i .usage) i) x) reply)
