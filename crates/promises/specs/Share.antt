@@ -13,10 +13,11 @@ use borrow.Author.Tests.{eqb-true, eqb-false, ltb-true, ltb-false, ne-eqb}
 use mir.Val.{boolByte}
 use Rattle.octets.specs.Choice.{split, impossible}
 use Rattle.octets.specs.Sums.{sum-set}
-use Rattle.octets.specs.Below.{to-fewer}
+use Rattle.octets.specs.Below.{to-fewer, to-more}
 use Rattle.plan.specs.declared.Plan.{Plan}
 use Rattle.plan.specs.Limits.{parties}
-use Rattle.sharing.specs.Sharing.{Within, share, admitted, admits, guaranteeAt, ceilingAt, accepted-fair, guarantee-admits, sharable-admits}
+use Rattle.tunnel.specs.Numbering.{places}
+use Rattle.sharing.specs.Sharing.{Within, share, shareOf, admitted, admits, guaranteeAt, ceilingAt, accepted-fair, guarantee-admits, sharable-admits, share-less}
 use Rattle.session.specs.declared.Session.{Session}
 use Rattle.session.specs.Session.{isFree, isOn, freed, blankAt}
 use Rattle.table.specs.Rules.{liveOn}
@@ -109,6 +110,15 @@ pub record FreedIsRoom : Type 0 where
       → step e (reached p es) .table ≡ changedAt freed i (reached p es .table) → NewCreate p (step e (reached p es)) d c
       → (reply : List ℕ) → 128 ≤ length reply → answered (control d reply) (step e (reached p es)) ≡ 0
 
+  -- a place that any access point gave up is room at once, where the rule says so: u under the ceiling, and S under 64 after the call
+  pub others : (p : Plan) (es : List Event) → Run p es → (e : Event) → ofOctets e ≡ true
+      → (d : List ℕ) (c : C.Create) → NewCreate p (step e (reached p es)) d c
+      → u (step e (reached p es)) (c .point) < ceilingAt p (c .point) → shareOf p (u (step e (reached p es))) < 64
+      → (reply : List ℕ) → 128 ≤ length reply → answered (control d reply) (step e (reached p es)) ≡ 0
+  -- and freeing a place of one that has more than its guarantee makes S one less
+  pub shares : (p : Plan) (a i : ℕ) (l : List Session) → a < parties p → isOn a (getD l i nobody) ≡ true → guaranteeAt p a < liveOn a l
+      → shareOf p (λ b. liveOn b (changedAt freed i l)) + 1 ≡ shareOf p (λ b. liveOn b l)
+
 -- the counts: u < g, or S has become less
 fewer-admitted : (n : ℕ) (g c w v : ℕ → ℕ) (a : ℕ) → a < n → g a ≤ c a → Within n g c w → v a < w a → ((b : ℕ) → v b ≤ w b) → admitted n g c v a ≡ true
 unfolding share
@@ -173,6 +183,39 @@ freed-room p es r e o d c f n reply room =
     h : c .point < parties p
     h = create-point p (step e (reached p es)) k q d c n reply room
 
+any-room : (p : Plan) (es : List Event) → Run p es → (e : Event) → ofOctets e ≡ true
+    → (d : List ℕ) (c : C.Create) → NewCreate p (step e (reached p es)) d c
+    → u (step e (reached p es)) (c .point) < ceilingAt p (c .point) → shareOf p (u (step e (reached p es))) < 64
+    → (reply : List ℕ) → 128 ≤ length reply → answered (control d reply) (step e (reached p es)) ≡ 0
+unfolding places
+any-room p es r e o d c n under room reply wide =
+    number-yes p s (step-keeps e (reached p es) o (reached-keeps p es r)) (step-plan e (reached p es) ∙ reached-plan p es (r .plan)) d c n reply wide
+    (sharable-admits (parties p) (guaranteeAt p) (ceilingAt p) (askedU c s) (c .point) (let l = asked-less c s (c .point) in omega arith)
+    (let m = share-less (parties p) (guaranteeAt p) (u s) (askedU c s) (λ b h. asked-less c s b) in omega arith))
+  where
+    s : State
+    s = step e (reached p es)
+
+one-less-shared : (p : Plan) (a i : ℕ) (l : List Session) → a < parties p → isOn a (getD l i nobody) ≡ true → guaranteeAt p a < liveOn a l
+    → shareOf p (λ b. liveOn b (changedAt freed i l)) + 1 ≡ shareOf p (λ b. liveOn b l)
+unfolding share
+one-less-shared p a i l h e more =
+    let o = one-less a i l e in
+    let less = o .less in
+    let down = to-fewer after before (parties p) a h (λ b q. split (eqb a b)
+        (λ z. let f = eqb-true a b z in let l′ : liveOn b (changedAt freed i l) + 1 ≡ liveOn b l = rw (← f) less in let m : guaranteeAt p b < liveOn b l = rw (← f) more in rw z (omega arith))
+        (λ z. let k = o .others b (eqb-false a b z) in rw (z, k) (omega arith))) in
+    let up = to-more before after (parties p) a (λ b q. split (eqb a b)
+        (λ z. let f = eqb-true a b z in let l′ : liveOn b (changedAt freed i l) + 1 ≡ liveOn b l = rw (← f) less in rw z (omega arith))
+        (λ z. let k = o .others b (eqb-false a b z) in rw (z, k) (omega arith))) in
+    omega arith
+  where
+    after : ℕ → ℕ
+    after b = max (liveOn b (changedAt freed i l)) (guaranteeAt p b)
+
+    before : ℕ → ℕ
+    before b = max (liveOn b l) (guaranteeAt p b)
+
 one-fewer : (a i : ℕ) (before after : State) → isOn a (at before i) ≡ true → after .table ≡ changedAt freed i (before .table) → Fewer a before after
 one-fewer a i before after h e =
     let o = one-less a i (before .table) h in
@@ -188,4 +231,6 @@ freed-is-room = record {
   counts = one-less;
   room = freed-room;
   place = λ p es r e o d c i h q. freed-room p es r e o d c (one-fewer (c .point) i (reached p es) (step e (reached p es)) h q);
+  others = any-room;
+  shares = one-less-shared;
 }
