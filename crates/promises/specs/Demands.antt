@@ -10,6 +10,7 @@ use Rattle.promises.specs.Written.{WrittenIsRead, written-is-read}
 use Rattle.promises.specs.Packets.{LiveOnly, AllCarried, live-only, all-carried}
 use Rattle.promises.specs.Repeats.{RepeatsAnswered, AgainTheSame, repeats-answered, again-the-same}
 use Rattle.promises.specs.InTime.{FreedInTime, NothingDue, freed-in-time, nothing-due}
+use Rattle.promises.specs.Resends.{ResendsWhole, resends-whole}
 use Rattle.promises.specs.Ticks.{EveryTickCounts, every-tick-counts}
 use Rattle.promises.specs.Impossible.{NotAllRefused, NotOneReply, CountedFromRecords, not-all-refused, not-one-reply, counted-from-records}
 use Rattle.promises.specs.Bounds.{RulesHold, NeitherTwoNorEleven, CeilingsKept, NoneShared, rules-hold, neither-two-nor-eleven, ceilings-kept, none-shared}
@@ -42,6 +43,7 @@ pub record Demand2 : Type 0 where
   pub repeats : RepeatsAnswered
   pub again : AgainTheSame
   pub ticks : EveryTickCounts
+  pub resends : ResendsWhole
   pub inTime : FreedInTime
   pub allSent : NothingDue
   pub notOneReply : NotOneReply
@@ -85,6 +87,7 @@ demand-2 = record {
   repeats = repeats-answered;
   again = again-the-same;
   ticks = every-tick-counts;
+  resends = resends-whole;
   inTime = freed-in-time;
   allSent = nothing-due;
   notOneReply = not-one-reply;

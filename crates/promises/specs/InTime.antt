@@ -70,62 +70,63 @@ FreedInTime = (p : Plan) (es : List Event) → Run p es → (i : ℕ) → i < 64
 unfoldable pub NothingDue : Type 0
 NothingDue = (p : Plan) (es : List Event) → Run p es → (reply : List ℕ) → answered (send reply) (reached p es) ≡ 17 → (i : ℕ) → isDue (at (reached p es) i) ≡ false
 
--- ---- a closing place through one call: closing still, and its timer and sends spend no less than the ticks
+-- ---- a closing place through one call: closing still; its timer and sends spend just the ticks; and a number that was sent stays
 pub record Spends (t ticks : ℕ) (s x : Session) : Type 0 where
   pub closing : x .state ≡ 2
-  pub spends : x .own .timer + ticks + s .own .sends * t ≤ s .own .timer + x .own .sends * t
+  pub spends : x .own .timer + ticks + s .own .sends * t ≡ s .own .timer + x .own .sends * t
+  pub number : 1 ≤ s .own .sends → x .own .number ≡ s .own .number
 
 same-spends : (t : ℕ) (s x : Session) → s .state ≡ 2 → Same s x → Spends t 0 s x
-same-spends t s x c m = record { closing = m .state ∙ c; spends = rw (m .own) (omega arith) }
+same-spends t s x c m = record { closing = m .state ∙ c; spends = rw (m .own) (omega arith); number = λ o. rw (m .own) }
 
 closed-spends : (t : ℕ) (s : Session) → s .state ≡ 2 → Spends t 0 s (closed s)
 unfolding closed
-closed-spends t s c = rw (ne-eqb (s .state) 1 (λ z. omega arith)) (record { closing = c; spends = omega arith })
+closed-spends t s c = rw (ne-eqb (s .state) 1 (λ z. omega arith)) (record { closing = c; spends = omega arith; number = λ o. refl })
 
 sent-spends : (t k : ℕ) (s : Session) → s .state ≡ 2 → s .own .timer ≡ 0 → s .own .sends < 255 → Spends t 0 s (sent t k s)
 unfolding sent turned sentOnce
 sent-spends t k s c z h =
     let m : (s .own .sends + 1) % 256 ≡ s .own .sends + 1 = omega arith in
-    record { closing = c; spends = rw m (omega arith) }
+    record { closing = c; spends = rw m (omega arith); number = λ o. rw (ne-eqb (s .own .sends) 0 (λ z. omega arith)) }
 
 ticked-spends : (t n : ℕ) (s : Session) → s .state ≡ 2 → isDue s ≡ false → gone (s .usage) (ticked n s) ≡ false → Spends t 1 s (ticked n s)
 unfolding ticked turned countedDown isDue isClosing
 ticked-spends t n s c d g =
     split (spent n (s .own))
     (λ q. let f : gone (s .usage) (freed s) ≡ false = rw q at g in impossible (sym f ∙ freed-gone (s .usage) s))
-    (λ q. rw q (record { closing = c; spends = less }))
+    (λ q. rw q (record { closing = c; spends = less; number = λ o. refl }))
   where
     runs : s .own .timer ≡ 0 → ⊥
     runs z = impossible (sym (rw (eq-eqb (s .state) 2 c, eq-eqb (s .own .timer) 0 z) at d))
 
-    less : s .own .timer - 1 + 1 + s .own .sends * t ≤ s .own .timer + s .own .sends * t
+    less : s .own .timer - 1 + 1 + s .own .sends * t ≡ s .own .timer + s .own .sends * t
     less = split (eqb (s .own .timer) 0) (λ z. absurd (runs (eqb-true (s .own .timer) 0 z))) (λ z. let y = eqb-false (s .own .timer) 0 z in omega arith)
 
 module _ (p : Plan) (i : ℕ) (h : i < 64) where
   -- a state of a run under the plan
-  record Good (s : State) : Type 0 where
-    kept : Kept s
-    plan : s .node .plan ≡ p
+  pub record Good (s : State) : Type 0 where
+    pub kept : Kept s
+    pub plan : s .node .plan ≡ p
 
-  good-step : (e : Event) (s : State) → ofOctets e ≡ true → Good s → Good (step e s)
+  pub good-step : (e : Event) (s : State) → ofOctets e ≡ true → Good s → Good (step e s)
   good-step e s o g = record { kept = step-keeps e s o (g .kept); plan = step-plan e s ∙ g .plan }
 
-  rules : (s : State) → Good s → Rules (s .node .plan) (s .node .echo) (s .node .next) (s .table)
+  pub rules : (s : State) → Good s → Rules (s .node .plan) (s .node .echo) (s .node .next) (s .table)
   rules s g = rules-of (s .node) (s .table) (g .kept)
 
-  there : (s : State) → Good s → i < length (s .table)
+  pub there : (s : State) → Good s → i < length (s .table)
   unfolding places
   there s g = let z = rules s g .size in omega arith
 
   -- the own request of a place that is not free is in range
-  in-range : (s : State) → Good s → (j : ℕ) → isFree (at s j) ≡ false → InRange 0 (p .resend) (p .sends) (at s j .own)
+  pub in-range : (s : State) → Good s → (j : ℕ) → isFree (at s j) ≡ false → InRange 0 (p .resend) (p .sends) (at s j .own)
   unfolding boundsOf
   in-range s g j f =
       rw (← g .plan)
       (range-of 0 (s .node .plan .resend) (s .node .plan .sends) (at s j .own)
       (own-ok (boundsOf (s .node .plan)) (at s j) (record-ok (s .node .plan) (s .node .echo) (s .node .next) (s .table) (rules s g) j) f))
 
-  closing-taken : (x : Session) → x .state ≡ 2 → isFree x ≡ false
+  pub closing-taken : (x : Session) → x .state ≡ 2 → isFree x ≡ false
   unfolding isFree
   closing-taken x c = ne-eqb (x .state) 0 (λ z. omega arith)
 
@@ -137,12 +138,12 @@ module _ (p : Plan) (i : ℕ) (h : i < 64) where
       let n = accepted-figures p a .last in
       split (eqb (at s i .own .sends) 0) (λ z. omega (arith, tests)) (λ z. let m = r .most (omega (arith, tests)) in omega arith)
 
-  due-timer : (x : Session) → isDue x ≡ true → x .own .timer ≡ 0
+  pub due-timer : (x : Session) → isDue x ≡ true → x .own .timer ≡ 0
   unfolding isDue
   due-timer x d = eqb-true (x .own .timer) 0 (and-right (isClosing x) (eqb (x .own .timer) 0) d)
 
   same-here : (s : State) → at s i .state ≡ 2 → Spends (p .resend) 0 (at s i) (at s i)
-  same-here s c = record { closing = c; spends = omega arith }
+  same-here s c = record { closing = c; spends = omega arith; number = λ o. refl }
 
   send-here : (s : State) → Good s → accepted p ≡ true → (reply : List ℕ) → at s i .state ≡ 2 → Spends (s .node .plan .resend) 0 (at s i) (at (step (send reply) s) i)
   unfolding step left sendOf dueSent echoSent placeSent noReply duePlace
@@ -156,7 +157,7 @@ module _ (p : Plan) (i : ℕ) (h : i < 64) where
       (λ d. rw (x, g .kept, z, d) same)))
     where
       same : Spends (s .node .plan .resend) 0 (at s i) (at s i)
-      same = record { closing = c; spends = omega arith }
+      same = record { closing = c; spends = omega arith; number = λ o. refl }
 
       due : i ≡ firstOf isDue (s .table) → ltb (firstOf isDue (s .table)) (length (s .table)) ≡ true → at s i .own .timer ≡ 0
       due e d = due-timer (at s i) (rw e (first-passes isDue (s .table) nobody (ltb-true (firstOf isDue (s .table)) (length (s .table)) d)))
@@ -184,7 +185,7 @@ module _ (p : Plan) (i : ℕ) (h : i < 64) where
   unfolding step
   user-here s d reply c = same-here s c
 
-  step-spends : (e : Event) (s : State) → Good s → accepted p ≡ true → at s i .state ≡ 2 → not (isTick e && isDue (at s i)) ≡ true
+  pub step-spends : (e : Event) (s : State) → Good s → accepted p ≡ true → at s i .state ≡ 2 → not (isTick e && isDue (at s i)) ≡ true
       → gone (at s i .usage) (at (step e s) i) ≡ false → Spends (p .resend) (boolByte (isTick e)) (at s i) (at (step e s) i)
   unfolding isTick
   step-spends (control d reply) s g a c n f = same-spends (p .resend) (at s i) (at (step (control d reply) s) i) c (control-here s g d reply f)
@@ -200,7 +201,7 @@ module _ (p : Plan) (i : ℕ) (h : i < 64) where
   ever-now usage [] s e = e
   ever-now usage (x ∷ es) s e = rw e
 
-  use-is : (usage : ℕ) (x : Session) → gone usage x ≡ false → x .usage ≡ usage
+  pub use-is : (usage : ℕ) (x : Session) → gone usage x ≡ false → x .usage ≡ usage
   unfolding gone
   use-is usage x e =
       split (eqb (x .usage) usage) (λ q. eqb-true (x .usage) usage q)
@@ -238,12 +239,12 @@ module _ (p : Plan) (i : ℕ) (h : i < 64) where
       (and-right (not (isTick e && isDue (at s i))) (prompt i es (step e s)) f) (omega arith))))
 
   -- the close: a live place is closing then, and nothing has been sent
-  close-is : (s : State) → Good s → at s i .state ≡ 1 → at (step (close i) s) i ≡ closed (at s i)
+  pub close-is : (s : State) → Good s → at s i .state ≡ 1 → at (step (close i) s) i ≡ closed (at s i)
   unfolding step left closeOf onSession closeOn quiet isFree
   close-is s g c =
       rw (g .kept, changed-here (λ x. closeOn x .session) i (s .table) nobody (there s g), ne-eqb (at s i .state) 0 (λ z. omega arith))
 
-  live-idle : (s : State) → Good s → at s i .state ≡ 1 → (at s i .own .sends ≡ 0) × (at s i .own .timer ≡ 0)
+  pub live-idle : (s : State) → Good s → at s i .state ≡ 1 → (at s i .own .sends ≡ 0) × (at s i .own .timer ≡ 0)
   unfolding phaseOk isClosing isFree boundsOf
   live-idle s g c =
       let f : isFree (at s i) ≡ false = ne-eqb (at s i .state) 0 (λ z. omega arith) in
@@ -254,7 +255,7 @@ module _ (p : Plan) (i : ℕ) (h : i < 64) where
       let q = eqb-true (at s i .own .sends) 0 z in
       (q, (let b = in-range s g i f .before q in omega arith))
 
-closed-now : (s : Session) → s .state ≡ 1 → (closed s .state ≡ 2) × (closed s .own ≡ s .own)
+pub closed-now : (s : Session) → s .state ≡ 1 → (closed s .state ≡ 2) × (closed s .own ≡ s .own)
 unfolding closed turned
 closed-now s c = rw (eq-eqb (s .state) 1 c) (refl, refl)
 

@@ -12,6 +12,7 @@ pub mod Pairs
 pub mod Place
 pub mod Refusals
 pub mod Repeats
+pub mod Resends
 pub mod Run
 pub mod Share
 pub mod Stays

@@ -109,7 +109,6 @@ pub record FreedIsRoom : Type 0 where
       → (d : List ℕ) (c : C.Create) (i : ℕ) → isOn (c .point) (at (reached p es) i) ≡ true
       → step e (reached p es) .table ≡ changedAt freed i (reached p es .table) → NewCreate p (step e (reached p es)) d c
       → (reply : List ℕ) → 128 ≤ length reply → answered (control d reply) (step e (reached p es)) ≡ 0
-
   -- a place that any access point gave up is room at once, where the rule says so: u under the ceiling, and S under 64 after the call
   pub others : (p : Plan) (es : List Event) → Run p es → (e : Event) → ofOctets e ≡ true
       → (d : List ℕ) (c : C.Create) → NewCreate p (step e (reached p es)) d c
@@ -203,11 +202,11 @@ one-less-shared p a i l h e more =
     let o = one-less a i l e in
     let less = o .less in
     let down = to-fewer after before (parties p) a h (λ b q. split (eqb a b)
-        (λ z. let f = eqb-true a b z in let l′ : liveOn b (changedAt freed i l) + 1 ≡ liveOn b l = rw (← f) less in let m : guaranteeAt p b < liveOn b l = rw (← f) more in rw z (omega arith))
-        (λ z. let k = o .others b (eqb-false a b z) in rw (z, k) (omega arith))) in
+    (λ z. let f = eqb-true a b z in let l′ : liveOn b (changedAt freed i l) + 1 ≡ liveOn b l = rw (← f) less in let m : guaranteeAt p b < liveOn b l = rw (← f) more in rw z (omega arith))
+    (λ z. let k = o .others b (eqb-false a b z) in rw (z, k) (omega arith))) in
     let up = to-more before after (parties p) a (λ b q. split (eqb a b)
-        (λ z. let f = eqb-true a b z in let l′ : liveOn b (changedAt freed i l) + 1 ≡ liveOn b l = rw (← f) less in rw z (omega arith))
-        (λ z. let k = o .others b (eqb-false a b z) in rw (z, k) (omega arith))) in
+    (λ z. let f = eqb-true a b z in let l′ : liveOn b (changedAt freed i l) + 1 ≡ liveOn b l = rw (← f) less in rw z (omega arith))
+    (λ z. let k = o .others b (eqb-false a b z) in rw (z, k) (omega arith))) in
     omega arith
   where
     after : ℕ → ℕ
