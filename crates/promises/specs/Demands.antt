@@ -11,6 +11,7 @@ use Rattle.promises.specs.Packets.{LiveOnly, AllCarried, live-only, all-
 use Rattle.promises.specs.Repeats.{RepeatsAnswered, AgainTheSame, repeats-answered, again-the-same}
 use Rattle.promises.specs.InTime.{FreedInTime, NothingDue, freed-in-time, nothing-due}
 use Rattle.promises.specs.Resends.{ResendsWhole, resends-whole}
+use Rattle.promises.specs.Printed.{LinesWhole, lines-whole}
 use Rattle.promises.specs.Ticks.{EveryTickCounts, every-tick-counts}
 use Rattle.promises.specs.Impossible.{NotAllRefused, NotOneReply, CountedFromRecords, not-all-refused, not-one-reply, counted-from-records}
 use Rattle.promises.specs.Bounds.{RulesHold, NeitherTwoNorEleven, CeilingsKept, NoneShared, rules-hold, neither-two-nor-eleven, ceilings-kept, none-shared}
@@ -46,6 +47,7 @@ pub record Demand2 : Type 0 where
   pub resends : ResendsWhole
   pub inTime : FreedInTime
   pub allSent : NothingDue
+  pub lines : LinesWhole
   pub notOneReply : NotOneReply
 
 -- 3. A rented place stays rented: from a fresh table under an accepted plan, after any run of calls
@@ -90,6 +92,7 @@ demand-2 = record {
   resends = resends-whole;
   inTime = freed-in-time;
   allSent = nothing-due;
+  lines = lines-whole;
   notOneReply = not-one-reply;
 }
 

@@ -10,6 +10,7 @@ pub mod Numbers
 pub mod Packets
 pub mod Pairs
 pub mod Place
+pub mod Printed
 pub mod Refusals
 pub mod Repeats
 pub mod Resends
