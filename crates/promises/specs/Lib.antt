@@ -15,6 +15,7 @@ pub mod Place
 pub mod Refusals
 pub mod Repeats
 pub mod Run
+pub mod Sent
 pub mod Share
 pub mod Stays
 pub mod Ticks
