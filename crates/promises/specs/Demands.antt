@@ -10,7 +10,7 @@ use Rattle.promises.specs.Pairs.{PairsHold, pairs-hold}
 use Rattle.promises.specs.Answers.{CreateAnswers, ModifyAnswers, DeleteAnswers, CreatesSound, ModifiesSound, ValuesAreTheirOctets, create-answers, modify-answers, delete-answers, creates-sound, modifies-sound, values-are-their-octets}
 use Rattle.promises.specs.Written.{WrittenIsRead, written-is-read}
 use Rattle.promises.specs.Sent.{SentIsFound, sent-is-found}
-use Rattle.promises.specs.Encoded.{GoodIsRead, good-is-read}
+use Rattle.promises.specs.Wellformed.{GoodIsRead, good-is-read}
 use Rattle.promises.specs.Packets.{LiveOnly, AllCarried, live-only, all-carried}
 use Rattle.promises.specs.Repeats.{RepeatsAnswered, AgainTheSame, repeats-answered, again-the-same}
 use Rattle.promises.specs.InTime.{FreedInTime, NothingDue, freed-in-time, nothing-due}

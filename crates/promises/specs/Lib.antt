@@ -3,7 +3,6 @@ pub mod Answers
 pub mod Bounds
 pub mod Counts
 pub mod Creates
-pub mod Encoded
 pub mod Examples
 pub mod Impossible
 pub mod InTime
@@ -21,5 +20,7 @@ pub mod Share
 pub mod Stays
 pub mod Ticks
 pub mod UserNumbers
+pub mod Values
+pub mod Wellformed
 pub mod Written
 pub mod Demands
