@@ -1,0 +1,394 @@
+-- Every request in range has octets that are read as that request: an encoder for Create, Modify and Delete, in the order of document 01's list, with any
+-- octets behind the values; and unknown fields may stand anywhere among those that it writes, in the message and in the Bearer Context.
+-- Assumes nothing.
+use Prim.Native.Nat.{ℕ, zero, suc, _+_, _*_, _/_, _%_, _^_, _<_, _≤_}
+use mathlib.Core.Bool.{Bool, true, false, _&&_, _||_}
+use mathlib.Core.List.{List, [], _∷_, _++_}
+use mathlib.Core.Path.{_≡_, refl, sym, ap, _∙_}
+use native.Mathlib.Nat.{pow-suc}
+use native.Mathlib.Omega.{arith}
+use lib.ListN.{length, getD, length-append}
+use lib.Dec.{eqb, leb}
+use borrow.Author.Tests.{eqb-true, le-leb}
+use Rattle.octets.specs.Choice.{pick, split, and-left, and-right, or-true, impossible}
+use Rattle.octets.specs.Every.{every}
+use Rattle.octets.specs.BigEndian.{octetsOf, length-octets}
+use Rattle.values.specs.Imsi.{isDigit, decimalFrom}
+use Rattle.values.specs.declared.Tunnel.{Tunnel}
+use Rattle.values.specs.declared.Tunnel.the-variants as T
+use Rattle.readers.specs.Kinds.{imsiKind, ratKind, tunnelKind, apnKind, paaKind, bearerKind, ebiKind, qosKind, recoveryKind}
+use Rattle.readers.specs.declared.Recovery.{Recovery}
+use Rattle.readers.specs.declared.Recovery.the-variants as R
+use Rattle.plan.specs.declared.Plan.{Plan}
+use Rattle.plan.specs.Limits.{used, parties, noPoint}
+use Rattle.plan.specs.Names.{nameOf}
+use Rattle.plan.specs.Plan.{accepted}
+use Rattle.requests.specs.declared.Create as C
+use Rattle.requests.specs.declared.Modify as M
+use Rattle.requests.specs.declared.Delete as D
+use Rattle.requests.specs.declared.Peer.{Peer}
+use Rattle.requests.specs.declared.Peer.the-variants as P
+use Rattle.requests.specs.declared.Context.{Context}
+use Rattle.requests.specs.declared.Context.the-variants as X
+use Rattle.requests.specs.declared.Ebi.{Ebi}
+use Rattle.requests.specs.declared.Ebi.the-variants as E
+use Rattle.requests.specs.declared.Request.the-variants.{Create, Modify, Delete}
+use Rattle.requests.specs.declared.Decoded.the-variants.{Sound}
+use Rattle.requests.specs.Create.{createOf, CreateSound}
+use Rattle.changes.specs.Change.{modifyOf, deleteOf}
+use Rattle.promises.specs.Sent.{Sent, fits, written, Of, None, firstOf}
+use Rattle.promises.specs.Values.{packed, ImsiValue, RatValue, TunnelValue, ApnValue, PaaValue, EbiValue, QosValue, recoverySent, Has}
+use Rattle.promises.specs.Wellformed.{CreateBearer, GoodCreate, ControlSent, UserSent, ModifyBearer, ContextSent, GoodModify, EbiSent, WholeBearer, GoodDelete, good-is-read}
+use Rattle.promises.specs.Written.{Word}
+
+-- ---- fields
+abbrev pub field : ℕ → ℕ → List ℕ → Sent
+field kind inst value = record { kind = kind; fourth = inst; value = value }
+
+-- the last w decimal digits of a number
+unfoldable pub digitsOf : ℕ → ℕ → List ℕ
+digitsOf zero n = []
+digitsOf (suc w) n = digitsOf w (n / 10) ++ (n % 10 ∷ [])
+
+unfoldable pub tunnelOctets : ℕ → ℕ → ℕ → List ℕ → List ℕ
+tunnelOctets flags teid addr behind = flags ∷ octetsOf 4 teid ++ (octetsOf 4 addr ++ behind)
+
+-- what a message says that is not kept of it: RAT, the address of the PAA, the QoS, and octets behind the values, by the type of the field, in the
+-- message and in the Bearer Context
+pub record Besides : Type 0 where
+  pub rat : ℕ
+  pub address : ℕ
+  pub qos : List ℕ
+  pub behind : ℕ → List ℕ
+  pub within : ℕ → List ℕ
+
+-- ---- Create: interface 6 has the flags 86, interface 4 the flags 84
+unfoldable pub createBearer : C.Create → Besides → List Sent
+createBearer c x =
+    field ebiKind 0 (c .ebi ∷ x .within ebiKind)
+    ∷ field tunnelKind 2 (tunnelOctets 0x84 (c .user) (c .useraddr) (x .within tunnelKind))
+    ∷ field qosKind 0 (x .qos)
+    ∷ []
+
+unfoldable pub recoveryField : Recovery → Besides → List Sent
+recoveryField R.None x = []
+recoveryField (R.Value r) x = field recoveryKind 0 (r ∷ x .behind recoveryKind) ∷ []
+
+-- with the fields b in its Bearer Context
+unfoldable pub createFields : Plan → C.Create → Besides → List Sent → List Sent
+createFields plan c x b =
+    field imsiKind 0 (packed (digitsOf 15 (c .imsi)) ++ x .behind imsiKind)
+    ∷ field ratKind 0 (x .rat ∷ x .behind ratKind)
+    ∷ field tunnelKind 0 (tunnelOctets 0x86 (c .control) (c .controladdr) (x .behind tunnelKind))
+    ∷ field apnKind 0 (nameOf (getD (used plan) (c .point) noPoint))
+    ∷ field paaKind 0 (1 ∷ octetsOf 4 (x .address) ++ x .behind paaKind)
+    ∷ field bearerKind 0 (written b)
+    ∷ recoveryField (c .recovery) x
+
+-- 15 digits, EBI 5 to 15, TEIDs not 0, an access point of the plan; RAT 1 or 6; 22 octets of QoS
+pub record CreateInRange (plan : Plan) (c : C.Create) (x : Besides) : Type 0 where
+  pub sound : CreateSound (parties plan) c
+  pub control : Word (c .control)
+  pub controladdr : Word (c .controladdr)
+  pub user : Word (c .user)
+  pub useraddr : Word (c .useraddr)
+  pub rat : (eqb (x .rat) 1 || eqb (x .rat) 6) ≡ true
+  pub qos : 22 ≤ length (x .qos)
+
+-- ---- Modify
+unfoldable pub controlField : Peer → Besides → List Sent
+controlField P.Same x = []
+controlField (P.New teid addr) x = field tunnelKind 0 (tunnelOctets 0x86 teid addr (x .behind tunnelKind)) ∷ []
+
+unfoldable pub userField : Tunnel → Besides → List Sent
+userField (T.Value teid addr) x = field tunnelKind 1 (tunnelOctets 0x84 teid addr (x .within tunnelKind)) ∷ []
+userField T.Missing x = []
+userField T.Short x = []
+userField T.Wrong x = []
+
+unfoldable pub contextField : Context → List Sent → List Sent
+contextField X.Absent b = []
+contextField (X.Present ebi user) b = field bearerKind 0 (written b) ∷ []
+
+unfoldable pub contextBearer : Context → Besides → List Sent
+contextBearer X.Absent x = []
+contextBearer (X.Present ebi user) x = field ebiKind 0 (ebi ∷ x .within ebiKind) ∷ userField user x
+
+unfoldable pub modifyFields : M.Modify → Besides → List Sent → List Sent
+modifyFields m x b = controlField (m .control) x ++ contextField (m .context) b
+
+pub record EndInRange (teid addr : ℕ) : Type 0 where
+  pub live : 0 < teid
+  pub teidFits : Word teid
+  pub addrFits : Word addr
+
+unfoldable pub PeerInRange : Peer → Type 0
+PeerInRange P.Same = Unit {0}
+PeerInRange (P.New teid addr) = EndInRange teid addr
+
+unfoldable pub UserInRange : Tunnel → Type 0
+UserInRange (T.Value teid addr) = EndInRange teid addr
+UserInRange T.Missing = Unit {0}
+UserInRange T.Short = ⊥
+UserInRange T.Wrong = ⊥
+
+unfoldable pub ContextInRange : Context → Type 0
+ContextInRange X.Absent = Unit {0}
+ContextInRange (X.Present ebi user) = (5 ≤ ebi) × (ebi ≤ 15) × UserInRange user
+
+-- ---- Delete
+unfoldable pub deleteFields : Ebi → Besides → List Sent
+deleteFields E.Absent x = []
+deleteFields (E.Given ebi) x = field ebiKind 0 (ebi ∷ x .behind ebiKind) ∷ []
+
+unfoldable pub EbiInRange : Ebi → Type 0
+EbiInRange E.Absent = Unit {0}
+EbiInRange (E.Given ebi) = ebi ≤ 15
+
+-- ---- unknown fields: those of another type or instance than the ones that are looked for
+pub record Name : Type 0 where
+  pub kind : ℕ
+  pub inst : ℕ
+
+abbrev name : ℕ → ℕ → Name
+name kind inst = record { kind = kind; inst = inst }
+
+unfoldable pub createNames : List Name
+createNames = name imsiKind 0 ∷ name ratKind 0 ∷ name tunnelKind 0 ∷ name apnKind 0 ∷ name paaKind 0 ∷ name bearerKind 0 ∷ name recoveryKind 0 ∷ []
+
+unfoldable pub createWithin : List Name
+createWithin = name ebiKind 0 ∷ name tunnelKind 2 ∷ name qosKind 0 ∷ []
+
+unfoldable pub modifyNames : List Name
+modifyNames = name tunnelKind 0 ∷ name bearerKind 0 ∷ []
+
+unfoldable pub modifyWithin : List Name
+modifyWithin = name ebiKind 0 ∷ name tunnelKind 1 ∷ []
+
+unfoldable pub deleteNames : List Name
+deleteNames = name ebiKind 0 ∷ name bearerKind 0 ∷ []
+
+unfoldable pub known : List Name → Sent → Bool
+known [] f = false
+known (q ∷ n) f = (eqb (f .kind) (q .kind) && eqb (f .fourth % 16) (q .inst)) || known n f
+
+-- the fields that are left without the unknown ones
+unfoldable pub knownOf : List Name → List Sent → List Sent
+knownOf n [] = []
+knownOf n (f ∷ l) = pick (known n f) (f ∷ knownOf n l) (knownOf n l)
+
+-- ---- the promise: fields l that, but for unknown ones, are those of a request in range, are read as that request
+pub record EncodedIsRead : Type 0 where
+  pub create : (plan : Plan) (c : C.Create) (x : Besides) (l b : List Sent) → accepted plan ≡ true → CreateInRange plan c x
+      → every fits l ≡ true → every fits b ≡ true → knownOf createNames l ≡ createFields plan c x b → knownOf createWithin b ≡ createBearer c x
+      → createOf plan (written l) ≡ Sound (Create c)
+  pub modify : (m : M.Modify) (x : Besides) (l b : List Sent) → PeerInRange (m .control) → ContextInRange (m .context)
+      → every fits l ≡ true → every fits b ≡ true → knownOf modifyNames l ≡ modifyFields m x b → knownOf modifyWithin b ≡ contextBearer (m .context) x
+      → modifyOf (written l) ≡ Sound (Modify m)
+  pub delete : (d : D.Delete) (x : Besides) (l : List Sent) → EbiInRange (d .ebi)
+      → every fits l ≡ true → knownOf deleteNames l ≡ deleteFields (d .ebi) x
+      → deleteOf (written l) ≡ Sound (Delete d)
+
+-- ---- laws
+-- digits write their number
+every-last : (p : ℕ → Bool) (l : List ℕ) (x : ℕ) → every p l ≡ true → p x ≡ true → every p (l ++ (x ∷ [])) ≡ true
+unfolding every
+every-last p [] x e h = rw h
+every-last p (y ∷ l) x e h = rw (and-left (p y) (every p l) e) (every-last p l x (and-right (p y) (every p l) e) h)
+
+decimal-last : (n : ℕ) (l : List ℕ) (x : ℕ) → decimalFrom n (l ++ (x ∷ [])) ≡ decimalFrom n l * 10 + x
+unfolding decimalFrom
+decimal-last n [] x = refl
+decimal-last n (y ∷ l) x = decimal-last (n * 10 + y) l x
+
+digits-each : (w n : ℕ) → every isDigit (digitsOf w n) ≡ true
+unfolding digitsOf every isDigit
+digits-each zero n = refl
+digits-each (suc w) n = every-last isDigit (digitsOf w (n / 10)) (n % 10) (digits-each w (n / 10)) (le-leb (n % 10) 9 (omega arith))
+
+digits-length : (w n : ℕ) → length (digitsOf w n) ≡ w
+unfolding digitsOf
+digits-length zero n = refl
+digits-length (suc w) n = let r = digits-length w (n / 10) in simp length-append (omega arith)
+
+digits-back : (w n : ℕ) → n < 10 ^ w → decimalFrom 0 (digitsOf w n) ≡ n
+unfolding digitsOf decimalFrom
+digits-back zero n h = omega arith
+digits-back (suc w) n h =
+    let p = pow-suc 10 w in
+    let r = digits-back w (n / 10) (omega arith) in
+    let s = decimal-last 0 (digitsOf w (n / 10)) (n % 10) in
+    omega arith
+
+-- unknown fields are passed over
+unfoldable listed : ℕ → ℕ → List Name → Bool
+listed kind inst [] = false
+listed kind inst (q ∷ n) = (eqb (q .kind) kind && eqb (q .inst) inst) || listed kind inst n
+
+known-hit : (n : List Name) (f : Sent) (kind inst : ℕ) → listed kind inst n ≡ true → (eqb (f .kind) kind && eqb (f .fourth % 16) inst) ≡ true → known n f ≡ true
+unfolding listed known
+known-hit [] f kind inst e h = e
+known-hit (q ∷ n) f kind inst e h =
+    split (eqb (q .kind) kind && eqb (q .inst) inst)
+    (λ t.
+    let a = eqb-true (q .kind) kind (and-left (eqb (q .kind) kind) (eqb (q .inst) inst) t) in
+    let b = eqb-true (q .inst) inst (and-right (eqb (q .kind) kind) (eqb (q .inst) inst) t) in
+    rw (a, b, h))
+    (λ t. rw (known-hit n f kind inst (rw t at e) h) (or-true (eqb (f .kind) (q .kind) && eqb (f .fourth % 16) (q .inst))))
+
+first-known : (n : List Name) (l : List Sent) (kind inst : ℕ) → listed kind inst n ≡ true → firstOf (knownOf n l) kind inst ≡ firstOf l kind inst
+unfolding knownOf firstOf
+first-known n [] kind inst e = refl
+first-known n (f ∷ l) kind inst e =
+    split (eqb (f .kind) kind && eqb (f .fourth % 16) inst)
+    (λ t. rw (known-hit n f kind inst e t, t))
+    (λ t. split (known n f) (λ k. rw (k, t) (first-known n l kind inst e)) (λ k. rw (k, t) (first-known n l kind inst e)))
+
+-- the first of a name in a list is the first of it among the known ones
+has-known : (n : List Name) (l k : List Sent) (kind inst : ℕ) (v : List ℕ) (Good : List ℕ → Type 0) → listed kind inst n ≡ true → knownOf n l ≡ k
+    → firstOf k kind inst ≡ Of v → Good v → Has l kind inst Good
+has-known n l k kind inst v Good e q f g = record { value = v; first = sym (first-known n l kind inst e) ∙ rw q f; good = g }
+
+none-known : (n : List Name) (l k : List Sent) (kind inst : ℕ) → listed kind inst n ≡ true → knownOf n l ≡ k → firstOf k kind inst ≡ None → firstOf l kind inst ≡ None
+none-known n l k kind inst e q f = sym (first-known n l kind inst e) ∙ rw q f
+
+tunnel-good : (flags interface teid addr : ℕ) (behind : List ℕ) → 128 ≤ flags → flags % 64 ≡ interface → 0 < teid → Word teid → Word addr
+    → TunnelValue interface teid addr (tunnelOctets flags teid addr behind)
+unfolding tunnelOctets
+tunnel-good flags interface teid addr behind a b h t u =
+    record { flags = flags; behind = behind; v4 = a; its = b; live = h; teidFits = t; addrFits = u; octets = refl }
+
+-- ---- a Create
+qos-good : (v : List ℕ) → 22 ≤ length v → QosValue v
+qos-good [] h = absurd (omega arith)
+qos-good (y ∷ v) h = record { first = y; behind = v; long = omega arith; octets = refl }
+
+module _ (plan : Plan) (c : C.Create) (x : Besides) (l b : List Sent) (r : CreateInRange plan c x) (fl : every fits l ≡ true) (fb : every fits b ≡ true)
+    (el : knownOf createNames l ≡ createFields plan c x b) (eb : knownOf createWithin b ≡ createBearer c x) where
+  bearer-good : CreateBearer c (written b)
+  unfolding createWithin createBearer listed firstOf
+  bearer-good =
+      let lo = r .sound .low in
+      let hi = r .sound .high in
+      record {
+        fields = b;
+        fit = fb;
+        ebi = has-known createWithin b (createBearer c x) ebiKind 0 (c .ebi ∷ x .within ebiKind) (EbiValue (c .ebi)) refl eb refl
+        (record { octet = c .ebi; behind = x .within ebiKind; low = omega arith; octets = refl });
+        five = lo;
+        user = has-known createWithin b (createBearer c x) tunnelKind 2 (tunnelOctets 0x84 (c .user) (c .useraddr) (x .within tunnelKind))
+        (TunnelValue 4 (c .user) (c .useraddr)) refl eb refl
+        (tunnel-good 0x84 4 (c .user) (c .useraddr) (x .within tunnelKind) (omega arith) refl (r .sound .user) (r .user) (r .useraddr));
+        qos = has-known createWithin b (createBearer c x) qosKind 0 (x .qos) QosValue refl eb refl (qos-good (x .qos) (r .qos));
+        octets = refl;
+      }
+
+  recovery-good : (m : Recovery) → recoverySent (firstOf (recoveryField m x) recoveryKind 0) ≡ m
+  unfolding recoverySent recoveryField firstOf
+  recovery-good R.None = refl
+  recovery-good (R.Value y) = refl
+
+  imsi-good : ImsiValue (c .imsi) (packed (digitsOf 15 (c .imsi)) ++ x .behind imsiKind)
+  imsi-good =
+      record {
+        digits = digitsOf 15 (c .imsi);
+        behind = x .behind imsiKind;
+        fifteen = digits-length 15 (c .imsi);
+        each = digits-each 15 (c .imsi);
+        number = digits-back 15 (c .imsi) (r .sound .imsi);
+        octets = refl;
+      }
+
+  create-good : GoodCreate plan l c
+  unfolding createNames createFields listed firstOf
+  create-good =
+      record {
+        fit = fl;
+        imsi = has-known createNames l (createFields plan c x b) imsiKind 0 (packed (digitsOf 15 (c .imsi)) ++ x .behind imsiKind)
+        (ImsiValue (c .imsi)) refl el refl imsi-good;
+        rat = has-known createNames l (createFields plan c x b) ratKind 0 (x .rat ∷ x .behind ratKind) RatValue refl el refl
+        (record { rat = x .rat; behind = x .behind ratKind; oneOrSix = r .rat; octets = refl });
+        control = has-known createNames l (createFields plan c x b) tunnelKind 0
+        (tunnelOctets 0x86 (c .control) (c .controladdr) (x .behind tunnelKind)) (TunnelValue 6 (c .control) (c .controladdr)) refl el refl
+        (tunnel-good 0x86 6 (c .control) (c .controladdr) (x .behind tunnelKind) (omega arith) refl (r .sound .control) (r .control) (r .controladdr));
+        apn = has-known createNames l (createFields plan c x b) apnKind 0 (nameOf (getD (used plan) (c .point) noPoint)) (ApnValue plan (c .point)) refl el refl
+        (record { known = r .sound .point; octets = refl });
+        paa = has-known createNames l (createFields plan c x b) paaKind 0 (1 ∷ octetsOf 4 (x .address) ++ x .behind paaKind) PaaValue refl el refl
+        (record { type = 1; behind = octetsOf 4 (x .address) ++ x .behind paaKind; ipv4 = refl; long = paa-long; octets = refl });
+        bearer = has-known createNames l (createFields plan c x b) bearerKind 0 (written b) (CreateBearer c) refl el refl bearer-good;
+        recovery = rw (← first-known createNames l recoveryKind 0 refl, el) (recovery-good (c .recovery));
+      }
+    where
+      paa-long : 4 ≤ length (octetsOf 4 (x .address) ++ x .behind paaKind)
+      paa-long = simp length-append (omega (arith, length-octets 4 (x .address)))
+
+-- ---- a Modify and a Delete
+ebi-good : (ebi : ℕ) (behind : List ℕ) → ebi ≤ 15 → EbiValue ebi (ebi ∷ behind)
+ebi-good ebi behind h = record { octet = ebi; behind = behind; low = omega arith; octets = refl }
+
+module _ (m : M.Modify) (x : Besides) (l b : List Sent) (rp : PeerInRange (m .control)) (rc : ContextInRange (m .context))
+    (fl : every fits l ≡ true) (fb : every fits b ≡ true)
+    (el : knownOf modifyNames l ≡ modifyFields m x b) (eb : knownOf modifyWithin b ≡ contextBearer (m .context) x) where
+  user-good : (ebi : ℕ) (t : Tunnel) → UserInRange t → knownOf modifyWithin b ≡ contextBearer (X.Present ebi t) x → UserSent b t
+  unfolding UserInRange UserSent userField contextBearer modifyWithin listed firstOf
+  user-good ebi (T.Value teid addr) r e =
+      has-known modifyWithin b _ tunnelKind 1 _ (TunnelValue 4 teid addr) refl e refl
+      (tunnel-good 0x84 4 teid addr (x .within tunnelKind) (omega arith) refl (r .live) (r .teidFits) (r .addrFits))
+  user-good ebi T.Missing r e = none-known modifyWithin b _ tunnelKind 1 refl e refl
+  user-good ebi T.Short r e = absurd r
+  user-good ebi T.Wrong r e = absurd r
+
+  within-good : (ebi : ℕ) (t : Tunnel) → ContextInRange (X.Present ebi t) → knownOf modifyWithin b ≡ contextBearer (X.Present ebi t) x → ModifyBearer ebi t (written b)
+  unfolding ContextInRange contextBearer modifyWithin listed firstOf
+  within-good ebi t r e =
+      record {
+        fields = b;
+        fit = fb;
+        its = has-known modifyWithin b _ ebiKind 0 (ebi ∷ x .within ebiKind) (EbiValue ebi) refl e refl (ebi-good ebi (x .within ebiKind) (r .1));
+        five = r .0;
+        tunnel = user-good ebi t (r .2) e;
+        octets = refl;
+      }
+
+  control-good : (p : Peer) (k : Context) → PeerInRange p → knownOf modifyNames l ≡ controlField p x ++ contextField k b → ControlSent l p
+  unfolding PeerInRange ControlSent controlField contextField modifyNames listed firstOf
+  control-good P.Same X.Absent r e = none-known modifyNames l _ tunnelKind 0 refl e refl
+  control-good P.Same (X.Present ebi t) r e = none-known modifyNames l _ tunnelKind 0 refl e refl
+  control-good (P.New teid addr) k r e =
+      has-known modifyNames l _ tunnelKind 0 _ (TunnelValue 6 teid addr) refl e refl
+      (tunnel-good 0x86 6 teid addr (x .behind tunnelKind) (omega arith) refl (r .live) (r .teidFits) (r .addrFits))
+
+  context-good : (p : Peer) (k : Context) → ContextInRange k → knownOf modifyNames l ≡ controlField p x ++ contextField k b
+      → knownOf modifyWithin b ≡ contextBearer k x → ContextSent l k
+  unfolding ContextSent controlField contextField modifyNames listed firstOf
+  context-good P.Same X.Absent r e h = none-known modifyNames l _ bearerKind 0 refl e refl
+  context-good (P.New teid addr) X.Absent r e h = none-known modifyNames l _ bearerKind 0 refl e refl
+  context-good P.Same (X.Present ebi t) r e h =
+      has-known modifyNames l _ bearerKind 0 (written b) (ModifyBearer ebi t) refl e refl (within-good ebi t r h)
+  context-good (P.New teid addr) (X.Present ebi t) r e h =
+      has-known modifyNames l _ bearerKind 0 (written b) (ModifyBearer ebi t) refl e refl (within-good ebi t r h)
+
+  modify-good : GoodModify l m
+  unfolding modifyFields
+  modify-good =
+      record { fit = fl; control = control-good (m .control) (m .context) rp el; context = context-good (m .control) (m .context) rc el eb }
+
+delete-good : (d : D.Delete) (x : Besides) (l : List Sent) → EbiInRange (d .ebi) → every fits l ≡ true → knownOf deleteNames l ≡ deleteFields (d .ebi) x
+    → GoodDelete l d
+unfolding EbiInRange EbiSent WholeBearer deleteFields deleteNames listed firstOf
+delete-good d x l r fl el = record { fit = fl; ebi = by (d .ebi) r el; bearer = rw (none (d .ebi) el) tt }
+  where
+    by : (k : Ebi) → EbiInRange k → knownOf deleteNames l ≡ deleteFields k x → EbiSent l k
+    by E.Absent h e = none-known deleteNames l _ ebiKind 0 refl e refl
+    by (E.Given ebi) h e = has-known deleteNames l _ ebiKind 0 (ebi ∷ x .behind ebiKind) (EbiValue ebi) refl e refl (ebi-good ebi (x .behind ebiKind) h)
+
+    none : (k : Ebi) → knownOf deleteNames l ≡ deleteFields k x → firstOf l bearerKind 0 ≡ None
+    none E.Absent e = none-known deleteNames l _ bearerKind 0 refl e refl
+    none (E.Given ebi) e = none-known deleteNames l _ bearerKind 0 refl e refl
+
+pub encoded-is-read : EncodedIsRead
+encoded-is-read = record {
+  create = λ plan c x l b p r fl fb el eb. good-is-read .create plan l c p (create-good plan c x l b r fl fb el eb);
+  modify = λ m x l b rp rc fl fb el eb. good-is-read .modify l m (modify-good m x l b rp rc fl fb el eb);
+  delete = λ d x l r fl el. good-is-read .delete l d (delete-good d x l r fl el);
+}
