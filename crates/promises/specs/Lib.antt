@@ -3,6 +3,7 @@ pub mod Answers
 pub mod Bounds
 pub mod Counts
 pub mod Creates
+pub mod Datagrams
 pub mod Encoded
 pub mod Examples
 pub mod Impossible

@@ -154,7 +154,7 @@ pub record WrittenIsRead : Type 0 where
 
 -- ---- laws
 -- a header with a TEID, whatever follows
-header-back : (type teid seq : ℕ) (size : ℕ) (l : List ℕ) → Word teid → Seq seq → headerOf (headerTo type size teid seq ++ l) ≡ record { kind = type; teid = teid; sequence = seq; fields = 12 }
+pub header-back : (type teid seq : ℕ) (size : ℕ) (l : List ℕ) → Word teid → Seq seq → headerOf (headerTo type size teid seq ++ l) ≡ record { kind = type; teid = teid; sequence = seq; fields = 12 }
 unfolding headerTo headerOf kindOf teidOf teidOctets sequenceOf sequenceBehind headerSize withTeid flagT octetsOf numberOf numberFrom
 header-back type teid seq size l h k = rw (number-back 4 teid h, number-back 3 seq k)
 
