@@ -1,26 +1,24 @@
--- Every request in range has octets that are read as that request: an encoder for Create, Modify and Delete, in the order of document 01's list, with any
--- octets behind the values; and unknown fields may stand anywhere among those that it writes, in the message and in the Bearer Context.
+-- Every request in range has octets that are read as that request: those of the encoder, and unknown fields may stand anywhere among them, in the
+-- message and in the Bearer Context.
 -- Assumes nothing.
-use Prim.Native.Nat.{ℕ, zero, suc, _+_, _*_, _/_, _%_, _^_, _<_, _≤_}
+use Prim.Native.Nat.{ℕ, _%_, _<_, _≤_}
 use mathlib.Core.Bool.{Bool, true, false, _&&_, _||_}
 use mathlib.Core.List.{List, [], _∷_, _++_}
-use mathlib.Core.Path.{_≡_, refl, sym, ap, _∙_}
-use native.Mathlib.Nat.{pow-suc}
+use mathlib.Core.Path.{_≡_, refl, sym, _∙_}
 use native.Mathlib.Omega.{arith}
 use lib.ListN.{length, getD, length-append}
-use lib.Dec.{eqb, leb}
-use borrow.Author.Tests.{eqb-true, le-leb}
-use Rattle.octets.specs.Choice.{pick, split, and-left, and-right, or-true, impossible}
+use lib.Dec.{eqb}
+use borrow.Author.Tests.{eqb-true}
+use Rattle.octets.specs.Choice.{pick, split, and-left, and-right, or-true}
 use Rattle.octets.specs.Every.{every}
 use Rattle.octets.specs.BigEndian.{octetsOf, length-octets}
-use Rattle.values.specs.Imsi.{isDigit, decimalFrom}
 use Rattle.values.specs.declared.Tunnel.{Tunnel}
 use Rattle.values.specs.declared.Tunnel.the-variants as T
 use Rattle.readers.specs.Kinds.{imsiKind, ratKind, tunnelKind, apnKind, paaKind, bearerKind, ebiKind, qosKind, recoveryKind}
 use Rattle.readers.specs.declared.Recovery.{Recovery}
 use Rattle.readers.specs.declared.Recovery.the-variants as R
 use Rattle.plan.specs.declared.Plan.{Plan}
-use Rattle.plan.specs.Limits.{used, parties, noPoint}
+use Rattle.plan.specs.Limits.{used, noPoint}
 use Rattle.plan.specs.Names.{nameOf}
 use Rattle.plan.specs.Plan.{accepted}
 use Rattle.requests.specs.declared.Create as C
@@ -34,116 +32,13 @@ use Rattle.requests.specs.declared.Ebi.{Ebi}
 use Rattle.requests.specs.declared.Ebi.the-variants as E
 use Rattle.requests.specs.declared.Request.the-variants.{Create, Modify, Delete}
 use Rattle.requests.specs.declared.Decoded.the-variants.{Sound}
-use Rattle.requests.specs.Create.{createOf, CreateSound}
+use Rattle.requests.specs.Create.{createOf}
 use Rattle.changes.specs.Change.{modifyOf, deleteOf}
 use Rattle.promises.specs.Sent.{Sent, fits, written, Of, None, firstOf}
 use Rattle.promises.specs.Values.{packed, ImsiValue, RatValue, TunnelValue, ApnValue, PaaValue, EbiValue, QosValue, recoverySent, Has}
 use Rattle.promises.specs.Wellformed.{CreateBearer, GoodCreate, ControlSent, UserSent, ModifyBearer, ContextSent, GoodModify, EbiSent, WholeBearer, GoodDelete, good-is-read}
+use Rattle.promises.specs.Encoder.{digitsOf, tunnelOctets, Besides, Short, createBearer, recoveryField, createFields, CreateInRange, controlField, userField, contextField, contextBearer, modifyFields, PeerInRange, UserInRange, ContextInRange, deleteFields, EbiInRange, encodedCreate, encodedModify, encodedDelete, digits-each, digits-length, digits-back, create-bearer-fits, create-fits, context-fits, modify-fits, delete-fits}
 use Rattle.promises.specs.Written.{Word}
-
--- ---- fields
-abbrev pub field : ℕ → ℕ → List ℕ → Sent
-field kind inst value = record { kind = kind; fourth = inst; value = value }
-
--- the last w decimal digits of a number
-unfoldable pub digitsOf : ℕ → ℕ → List ℕ
-digitsOf zero n = []
-digitsOf (suc w) n = digitsOf w (n / 10) ++ (n % 10 ∷ [])
-
-unfoldable pub tunnelOctets : ℕ → ℕ → ℕ → List ℕ → List ℕ
-tunnelOctets flags teid addr behind = flags ∷ octetsOf 4 teid ++ (octetsOf 4 addr ++ behind)
-
--- what a message says that is not kept of it: RAT, the address of the PAA, the QoS, and octets behind the values, by the type of the field, in the
--- message and in the Bearer Context
-pub record Besides : Type 0 where
-  pub rat : ℕ
-  pub address : ℕ
-  pub qos : List ℕ
-  pub behind : ℕ → List ℕ
-  pub within : ℕ → List ℕ
-
--- ---- Create: interface 6 has the flags 86, interface 4 the flags 84
-unfoldable pub createBearer : C.Create → Besides → List Sent
-createBearer c x =
-    field ebiKind 0 (c .ebi ∷ x .within ebiKind)
-    ∷ field tunnelKind 2 (tunnelOctets 0x84 (c .user) (c .useraddr) (x .within tunnelKind))
-    ∷ field qosKind 0 (x .qos)
-    ∷ []
-
-unfoldable pub recoveryField : Recovery → Besides → List Sent
-recoveryField R.None x = []
-recoveryField (R.Value r) x = field recoveryKind 0 (r ∷ x .behind recoveryKind) ∷ []
-
--- with the fields b in its Bearer Context
-unfoldable pub createFields : Plan → C.Create → Besides → List Sent → List Sent
-createFields plan c x b =
-    field imsiKind 0 (packed (digitsOf 15 (c .imsi)) ++ x .behind imsiKind)
-    ∷ field ratKind 0 (x .rat ∷ x .behind ratKind)
-    ∷ field tunnelKind 0 (tunnelOctets 0x86 (c .control) (c .controladdr) (x .behind tunnelKind))
-    ∷ field apnKind 0 (nameOf (getD (used plan) (c .point) noPoint))
-    ∷ field paaKind 0 (1 ∷ octetsOf 4 (x .address) ++ x .behind paaKind)
-    ∷ field bearerKind 0 (written b)
-    ∷ recoveryField (c .recovery) x
-
--- 15 digits, EBI 5 to 15, TEIDs not 0, an access point of the plan; RAT 1 or 6; 22 octets of QoS
-pub record CreateInRange (plan : Plan) (c : C.Create) (x : Besides) : Type 0 where
-  pub sound : CreateSound (parties plan) c
-  pub control : Word (c .control)
-  pub controladdr : Word (c .controladdr)
-  pub user : Word (c .user)
-  pub useraddr : Word (c .useraddr)
-  pub rat : (eqb (x .rat) 1 || eqb (x .rat) 6) ≡ true
-  pub qos : 22 ≤ length (x .qos)
-
--- ---- Modify
-unfoldable pub controlField : Peer → Besides → List Sent
-controlField P.Same x = []
-controlField (P.New teid addr) x = field tunnelKind 0 (tunnelOctets 0x86 teid addr (x .behind tunnelKind)) ∷ []
-
-unfoldable pub userField : Tunnel → Besides → List Sent
-userField (T.Value teid addr) x = field tunnelKind 1 (tunnelOctets 0x84 teid addr (x .within tunnelKind)) ∷ []
-userField T.Missing x = []
-userField T.Short x = []
-userField T.Wrong x = []
-
-unfoldable pub contextField : Context → List Sent → List Sent
-contextField X.Absent b = []
-contextField (X.Present ebi user) b = field bearerKind 0 (written b) ∷ []
-
-unfoldable pub contextBearer : Context → Besides → List Sent
-contextBearer X.Absent x = []
-contextBearer (X.Present ebi user) x = field ebiKind 0 (ebi ∷ x .within ebiKind) ∷ userField user x
-
-unfoldable pub modifyFields : M.Modify → Besides → List Sent → List Sent
-modifyFields m x b = controlField (m .control) x ++ contextField (m .context) b
-
-pub record EndInRange (teid addr : ℕ) : Type 0 where
-  pub live : 0 < teid
-  pub teidFits : Word teid
-  pub addrFits : Word addr
-
-unfoldable pub PeerInRange : Peer → Type 0
-PeerInRange P.Same = Unit {0}
-PeerInRange (P.New teid addr) = EndInRange teid addr
-
-unfoldable pub UserInRange : Tunnel → Type 0
-UserInRange (T.Value teid addr) = EndInRange teid addr
-UserInRange T.Missing = Unit {0}
-UserInRange T.Short = ⊥
-UserInRange T.Wrong = ⊥
-
-unfoldable pub ContextInRange : Context → Type 0
-ContextInRange X.Absent = Unit {0}
-ContextInRange (X.Present ebi user) = (5 ≤ ebi) × (ebi ≤ 15) × UserInRange user
-
--- ---- Delete
-unfoldable pub deleteFields : Ebi → Besides → List Sent
-deleteFields E.Absent x = []
-deleteFields (E.Given ebi) x = field ebiKind 0 (ebi ∷ x .behind ebiKind) ∷ []
-
-unfoldable pub EbiInRange : Ebi → Type 0
-EbiInRange E.Absent = Unit {0}
-EbiInRange (E.Given ebi) = ebi ≤ 15
 
 -- ---- unknown fields: those of another type or instance than the ones that are looked for
 pub record Name : Type 0 where
@@ -177,50 +72,26 @@ unfoldable pub knownOf : List Name → List Sent → List Sent
 knownOf n [] = []
 knownOf n (f ∷ l) = pick (known n f) (f ∷ knownOf n l) (knownOf n l)
 
--- ---- the promise: fields l that, but for unknown ones, are those of a request in range, are read as that request
+-- ---- the promise: what the encoder writes of a request in range is read as that request; so is every list of fields that is the encoder's but for
+-- unknown ones
 pub record EncodedIsRead : Type 0 where
-  pub create : (plan : Plan) (c : C.Create) (x : Besides) (l b : List Sent) → accepted plan ≡ true → CreateInRange plan c x
+  pub create : (plan : Plan) (c : C.Create) (x : Besides) → accepted plan ≡ true → CreateInRange plan c x → Short x
+      → createOf plan (encodedCreate plan c x) ≡ Sound (Create c)
+  pub modify : (m : M.Modify) (x : Besides) → PeerInRange (m .control) → ContextInRange (m .context) → Short x
+      → modifyOf (encodedModify m x) ≡ Sound (Modify m)
+  pub delete : (d : D.Delete) (x : Besides) → EbiInRange (d .ebi) → Short x
+      → deleteOf (encodedDelete d x) ≡ Sound (Delete d)
+  pub createMixed : (plan : Plan) (c : C.Create) (x : Besides) (l b : List Sent) → accepted plan ≡ true → CreateInRange plan c x
       → every fits l ≡ true → every fits b ≡ true → knownOf createNames l ≡ createFields plan c x b → knownOf createWithin b ≡ createBearer c x
       → createOf plan (written l) ≡ Sound (Create c)
-  pub modify : (m : M.Modify) (x : Besides) (l b : List Sent) → PeerInRange (m .control) → ContextInRange (m .context)
+  pub modifyMixed : (m : M.Modify) (x : Besides) (l b : List Sent) → PeerInRange (m .control) → ContextInRange (m .context)
       → every fits l ≡ true → every fits b ≡ true → knownOf modifyNames l ≡ modifyFields m x b → knownOf modifyWithin b ≡ contextBearer (m .context) x
       → modifyOf (written l) ≡ Sound (Modify m)
-  pub delete : (d : D.Delete) (x : Besides) (l : List Sent) → EbiInRange (d .ebi)
+  pub deleteMixed : (d : D.Delete) (x : Besides) (l : List Sent) → EbiInRange (d .ebi)
       → every fits l ≡ true → knownOf deleteNames l ≡ deleteFields (d .ebi) x
       → deleteOf (written l) ≡ Sound (Delete d)
 
--- ---- laws
--- digits write their number
-every-last : (p : ℕ → Bool) (l : List ℕ) (x : ℕ) → every p l ≡ true → p x ≡ true → every p (l ++ (x ∷ [])) ≡ true
-unfolding every
-every-last p [] x e h = rw h
-every-last p (y ∷ l) x e h = rw (and-left (p y) (every p l) e) (every-last p l x (and-right (p y) (every p l) e) h)
-
-decimal-last : (n : ℕ) (l : List ℕ) (x : ℕ) → decimalFrom n (l ++ (x ∷ [])) ≡ decimalFrom n l * 10 + x
-unfolding decimalFrom
-decimal-last n [] x = refl
-decimal-last n (y ∷ l) x = decimal-last (n * 10 + y) l x
-
-digits-each : (w n : ℕ) → every isDigit (digitsOf w n) ≡ true
-unfolding digitsOf every isDigit
-digits-each zero n = refl
-digits-each (suc w) n = every-last isDigit (digitsOf w (n / 10)) (n % 10) (digits-each w (n / 10)) (le-leb (n % 10) 9 (omega arith))
-
-digits-length : (w n : ℕ) → length (digitsOf w n) ≡ w
-unfolding digitsOf
-digits-length zero n = refl
-digits-length (suc w) n = let r = digits-length w (n / 10) in simp length-append (omega arith)
-
-digits-back : (w n : ℕ) → n < 10 ^ w → decimalFrom 0 (digitsOf w n) ≡ n
-unfolding digitsOf decimalFrom
-digits-back zero n h = omega arith
-digits-back (suc w) n h =
-    let p = pow-suc 10 w in
-    let r = digits-back w (n / 10) (omega arith) in
-    let s = decimal-last 0 (digitsOf w (n / 10)) (n % 10) in
-    omega arith
-
--- unknown fields are passed over
+-- ---- laws: unknown fields are passed over
 unfoldable listed : ℕ → ℕ → List Name → Bool
 listed kind inst [] = false
 listed kind inst (q ∷ n) = (eqb (q .kind) kind && eqb (q .inst) inst) || listed kind inst n
@@ -274,11 +145,11 @@ module _ (plan : Plan) (c : C.Create) (x : Besides) (l b : List Sent) (r : Creat
         fields = b;
         fit = fb;
         ebi = has-known createWithin b (createBearer c x) ebiKind 0 (c .ebi ∷ x .within ebiKind) (EbiValue (c .ebi)) refl eb refl
-        (record { octet = c .ebi; behind = x .within ebiKind; low = omega arith; octets = refl });
+            (record { octet = c .ebi; behind = x .within ebiKind; low = omega arith; octets = refl });
         five = lo;
         user = has-known createWithin b (createBearer c x) tunnelKind 2 (tunnelOctets 0x84 (c .user) (c .useraddr) (x .within tunnelKind))
-        (TunnelValue 4 (c .user) (c .useraddr)) refl eb refl
-        (tunnel-good 0x84 4 (c .user) (c .useraddr) (x .within tunnelKind) (omega arith) refl (r .sound .user) (r .user) (r .useraddr));
+            (TunnelValue 4 (c .user) (c .useraddr)) refl eb refl
+            (tunnel-good 0x84 4 (c .user) (c .useraddr) (x .within tunnelKind) (omega arith) refl (r .sound .user) (r .user) (r .useraddr));
         qos = has-known createWithin b (createBearer c x) qosKind 0 (x .qos) QosValue refl eb refl (qos-good (x .qos) (r .qos));
         octets = refl;
       }
@@ -305,16 +176,16 @@ module _ (plan : Plan) (c : C.Create) (x : Besides) (l b : List Sent) (r : Creat
       record {
         fit = fl;
         imsi = has-known createNames l (createFields plan c x b) imsiKind 0 (packed (digitsOf 15 (c .imsi)) ++ x .behind imsiKind)
-        (ImsiValue (c .imsi)) refl el refl imsi-good;
+            (ImsiValue (c .imsi)) refl el refl imsi-good;
         rat = has-known createNames l (createFields plan c x b) ratKind 0 (x .rat ∷ x .behind ratKind) RatValue refl el refl
-        (record { rat = x .rat; behind = x .behind ratKind; oneOrSix = r .rat; octets = refl });
+            (record { rat = x .rat; behind = x .behind ratKind; oneOrSix = r .rat; octets = refl });
         control = has-known createNames l (createFields plan c x b) tunnelKind 0
-        (tunnelOctets 0x86 (c .control) (c .controladdr) (x .behind tunnelKind)) (TunnelValue 6 (c .control) (c .controladdr)) refl el refl
-        (tunnel-good 0x86 6 (c .control) (c .controladdr) (x .behind tunnelKind) (omega arith) refl (r .sound .control) (r .control) (r .controladdr));
+            (tunnelOctets 0x86 (c .control) (c .controladdr) (x .behind tunnelKind)) (TunnelValue 6 (c .control) (c .controladdr)) refl el refl
+            (tunnel-good 0x86 6 (c .control) (c .controladdr) (x .behind tunnelKind) (omega arith) refl (r .sound .control) (r .control) (r .controladdr));
         apn = has-known createNames l (createFields plan c x b) apnKind 0 (nameOf (getD (used plan) (c .point) noPoint)) (ApnValue plan (c .point)) refl el refl
-        (record { known = r .sound .point; octets = refl });
+            (record { known = r .sound .point; octets = refl });
         paa = has-known createNames l (createFields plan c x b) paaKind 0 (1 ∷ octetsOf 4 (x .address) ++ x .behind paaKind) PaaValue refl el refl
-        (record { type = 1; behind = octetsOf 4 (x .address) ++ x .behind paaKind; ipv4 = refl; long = paa-long; octets = refl });
+            (record { type = 1; behind = octetsOf 4 (x .address) ++ x .behind paaKind; ipv4 = refl; long = paa-long; octets = refl });
         bearer = has-known createNames l (createFields plan c x b) bearerKind 0 (written b) (CreateBearer c) refl el refl bearer-good;
         recovery = rw (← first-known createNames l recoveryKind 0 refl, el) (recovery-good (c .recovery));
       }
@@ -386,9 +257,79 @@ delete-good d x l r fl el = record { fit = fl; ebi = by (d .ebi) r el; bearer = 
     none E.Absent e = none-known deleteNames l _ bearerKind 0 refl e refl
     none (E.Given ebi) e = none-known deleteNames l _ bearerKind 0 refl e refl
 
+-- ---- what the encoder writes has no unknown field
+recovery-known : (r : Recovery) (x : Besides) → knownOf createNames (recoveryField r x) ≡ recoveryField r x
+unfolding createNames recoveryField known knownOf
+recovery-known R.None x = refl
+recovery-known (R.Value r) x = refl
+
+create-known : (plan : Plan) (c : C.Create) (x : Besides) (b : List Sent) → knownOf createNames (createFields plan c x b) ≡ createFields plan c x b
+unfolding createNames createFields known knownOf
+create-known plan c x b = rw (recovery-known (c .recovery) x)
+
+within-known : (c : C.Create) (x : Besides) → knownOf createWithin (createBearer c x) ≡ createBearer c x
+unfolding createWithin createBearer known knownOf
+within-known c x = refl
+
+modify-known : (p : Peer) (k : Context) (x : Besides) (b : List Sent)
+    → knownOf modifyNames (controlField p x ++ contextField k b) ≡ controlField p x ++ contextField k b
+unfolding modifyNames controlField contextField known knownOf
+modify-known P.Same X.Absent x b = refl
+modify-known P.Same (X.Present ebi t) x b = refl
+modify-known (P.New teid addr) X.Absent x b = refl
+modify-known (P.New teid addr) (X.Present ebi t) x b = refl
+
+context-known : (k : Context) (x : Besides) → knownOf modifyWithin (contextBearer k x) ≡ contextBearer k x
+unfolding modifyWithin contextBearer userField known knownOf
+context-known X.Absent x = refl
+context-known (X.Present ebi (T.Value teid addr)) x = refl
+context-known (X.Present ebi T.Missing) x = refl
+context-known (X.Present ebi T.Short) x = refl
+context-known (X.Present ebi T.Wrong) x = refl
+
+delete-known : (k : Ebi) (x : Besides) → knownOf deleteNames (deleteFields k x) ≡ deleteFields k x
+unfolding deleteNames deleteFields known knownOf
+delete-known E.Absent x = refl
+delete-known (E.Given ebi) x = refl
+
+-- ---- that it holds
+create-mixed : (plan : Plan) (c : C.Create) (x : Besides) (l b : List Sent) → accepted plan ≡ true → CreateInRange plan c x
+    → every fits l ≡ true → every fits b ≡ true → knownOf createNames l ≡ createFields plan c x b → knownOf createWithin b ≡ createBearer c x
+    → createOf plan (written l) ≡ Sound (Create c)
+create-mixed plan c x l b p r fl fb el eb = good-is-read .create plan l c p (create-good plan c x l b r fl fb el eb)
+
+modify-mixed : (m : M.Modify) (x : Besides) (l b : List Sent) → PeerInRange (m .control) → ContextInRange (m .context)
+    → every fits l ≡ true → every fits b ≡ true → knownOf modifyNames l ≡ modifyFields m x b → knownOf modifyWithin b ≡ contextBearer (m .context) x
+    → modifyOf (written l) ≡ Sound (Modify m)
+modify-mixed m x l b rp rc fl fb el eb = good-is-read .modify l m (modify-good m x l b rp rc fl fb el eb)
+
+delete-mixed : (d : D.Delete) (x : Besides) (l : List Sent) → EbiInRange (d .ebi) → every fits l ≡ true → knownOf deleteNames l ≡ deleteFields (d .ebi) x
+    → deleteOf (written l) ≡ Sound (Delete d)
+delete-mixed d x l r fl el = good-is-read .delete l d (delete-good d x l r fl el)
+
+module _ (x : Besides) (s : Short x) where
+  create-plain : (plan : Plan) (c : C.Create) → accepted plan ≡ true → CreateInRange plan c x → createOf plan (encodedCreate plan c x) ≡ Sound (Create c)
+  unfolding encodedCreate
+  create-plain plan c p r =
+      create-mixed plan c x (createFields plan c x (createBearer c x)) (createBearer c x) p r (create-fits x s plan c p (r .sound .point)) (create-bearer-fits x s c)
+      (create-known plan c x (createBearer c x)) (within-known c x)
+
+  modify-plain : (m : M.Modify) → PeerInRange (m .control) → ContextInRange (m .context) → modifyOf (encodedModify m x) ≡ Sound (Modify m)
+  unfolding encodedModify modifyFields
+  modify-plain m rp rc =
+      modify-mixed m x (modifyFields m x (contextBearer (m .context) x)) (contextBearer (m .context) x) rp rc (modify-fits x s m) (context-fits x s (m .context))
+      (modify-known (m .control) (m .context) x (contextBearer (m .context) x)) (context-known (m .context) x)
+
+  delete-plain : (d : D.Delete) → EbiInRange (d .ebi) → deleteOf (encodedDelete d x) ≡ Sound (Delete d)
+  unfolding encodedDelete
+  delete-plain d r = delete-mixed d x (deleteFields (d .ebi) x) r (delete-fits x s (d .ebi)) (delete-known (d .ebi) x)
+
 pub encoded-is-read : EncodedIsRead
 encoded-is-read = record {
-  create = λ plan c x l b p r fl fb el eb. good-is-read .create plan l c p (create-good plan c x l b r fl fb el eb);
-  modify = λ m x l b rp rc fl fb el eb. good-is-read .modify l m (modify-good m x l b rp rc fl fb el eb);
-  delete = λ d x l r fl el. good-is-read .delete l d (delete-good d x l r fl el);
+  create = λ plan c x p r s. create-plain x s plan c p r;
+  modify = λ m x rp rc s. modify-plain x s m rp rc;
+  delete = λ d x r s. delete-plain x s d r;
+  createMixed = create-mixed;
+  modifyMixed = modify-mixed;
+  deleteMixed = delete-mixed;
 }

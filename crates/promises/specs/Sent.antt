@@ -1,19 +1,19 @@
 -- Fields as they are sent, one behind the other, and what is found when their octets are read: of each type and instance the first, whole, wherever
 -- it stands and whatever stands around it; and no overrun.
 -- Assumes nothing.
-use Prim.Native.Nat.{ℕ, zero, suc, _+_, _%_, _<_, _≤_}
+use Prim.Native.Nat.{ℕ, suc, _+_, _%_, _<_}
 use mathlib.Core.Bool.{Bool, true, false, _&&_}
 use mathlib.Core.List.{List, [], _∷_, _++_, append-assoc}
-use mathlib.Core.Path.{_≡_, refl, sym, ap, _∙_}
+use mathlib.Core.Path.{_≡_, refl, sym}
 use native.Mathlib.Nat.{add-zero, add-suc, suc-add}
 use native.Mathlib.Omega.{arith}
-use lib.ListN.{length, take, drop, getD, length-append}
+use lib.ListN.{length, length-append}
 use lib.Seq.{take-append-seam, drop-append-add}
-use lib.Dec.{eqb, ltb, leb}
+use lib.Dec.{eqb, ltb}
 use borrow.Author.Tests.{le-leb, ltb-true}
 use Rattle.octets.specs.Choice.{pick, split, and-left, and-right}
 use Rattle.octets.specs.Every.{every}
-use Rattle.octets.specs.BigEndian.{numberOf, numberFrom, octetsOf, number-back}
+use Rattle.octets.specs.BigEndian.{numberOf, octetsOf, number-back}
 use Rattle.fields.specs.Walk.{Field, part, fieldsFrom, overFrom, fieldsOf, overruns}
 use Rattle.fields.specs.Search.{find, firstIn}
 use Rattle.fields.specs.declared.Found.the-variants as F

@@ -2,7 +2,7 @@
 -- whose first field of that type and instance has such a value.
 -- Assumes nothing.
 use Prim.Native.Nat.{ℕ, suc, _+_, _*_, _/_, _%_, _<_, _≤_}
-use mathlib.Core.Bool.{true, not, _||_}
+use mathlib.Core.Bool.{true, _||_}
 use mathlib.Core.List.{List, [], _∷_, _++_}
 use mathlib.Core.Path.{_≡_, refl, sym, ap, _∙_}
 use native.Mathlib.Omega.{arith}
@@ -31,7 +31,6 @@ use Rattle.plan.specs.declared.Named.the-variants as N
 use Rattle.plan.specs.Limits.{used, parties, noPoint}
 use Rattle.plan.specs.Names.{nameOf, sameName, goesBy, namesDiffer, namedIn, named-once}
 use Rattle.plan.specs.Plan.{accepted}
-use Rattle.requests.specs.declared.Request.the-variants.{Create, Modify, Delete}
 use Rattle.promises.specs.Sent.{Holds, Sent, fits, written, Value, Of, None, firstOf, FoundAgain, SentIsFound, sent-is-found}
 use Rattle.promises.specs.Written.{Word}
 
@@ -143,7 +142,7 @@ packed-length [] = omega arith
 packed-length (x ∷ []) = omega arith
 packed-length (x ∷ y ∷ l) = let r = packed-length l in omega arith
 
-packed-most : (l : List ℕ) → length (packed l) * 2 ≤ length l + 1
+pub packed-most : (l : List ℕ) → length (packed l) * 2 ≤ length l + 1
 unfolding packed
 packed-most [] = omega arith
 packed-most (x ∷ []) = omega arith

@@ -2,7 +2,7 @@
 -- each type and instance in document 01's list has a value as the paper asks, the request is sound and holds what those values mean.
 -- Assumes nothing.
 use Prim.Native.Nat.{ℕ, _≤_}
-use mathlib.Core.Bool.{true, false, not}
+use mathlib.Core.Bool.{true, false}
 use mathlib.Core.List.{List}
 use mathlib.Core.Path.{_≡_, refl, _∙_}
 use lib.ListN.{length}
@@ -128,18 +128,25 @@ create-good plan l c p g =
     let at = found l (g .fit) .held bearerKind 0 (g .bearer .value) (g .bearer .first) in
     let apn = found l (g .fit) .held apnKind 0 (g .apn .value) (g .apn .first) in
     let name = g .apn .good in
-    rw (whole-with l (g .fit) (g .bearer .value) (b .fields) (g .bearer .first) (b .octets) (b .fit),
-    imsi-sent l (g .fit) (c .imsi) (g .imsi),
-    rat-sent l (g .fit) (g .rat),
-    tunnel-sent l (g .fit) 0 6 (c .control) (c .controladdr) (g .control),
-    apn .found,
-    paa-sent l (g .fit) (g .paa),
-    at .found, at .octets, b .octets,
-    ebi-sent (b .fields) (b .fit) (c .ebi) (b .five) (b .ebi),
-    tunnel-sent (b .fields) (b .fit) 2 4 (c .user) (c .useraddr) (b .user),
-    qos-sent (b .fields) (b .fit) (b .qos),
-    apn .octets, name .octets, named-point (used plan) (c .point) noPoint (plan-names plan p) (name .known),
-    recovery-sent l (g .fit) (firstOf l recoveryKind 0) refl, g .recovery)
+    rw (
+      whole-with l (g .fit) (g .bearer .value) (b .fields) (g .bearer .first) (b .octets) (b .fit),
+      imsi-sent l (g .fit) (c .imsi) (g .imsi),
+      rat-sent l (g .fit) (g .rat),
+      tunnel-sent l (g .fit) 0 6 (c .control) (c .controladdr) (g .control),
+      apn .found,
+      paa-sent l (g .fit) (g .paa),
+      at .found,
+      at .octets,
+      b .octets,
+      ebi-sent (b .fields) (b .fit) (c .ebi) (b .five) (b .ebi),
+      tunnel-sent (b .fields) (b .fit) 2 4 (c .user) (c .useraddr) (b .user),
+      qos-sent (b .fields) (b .fit) (b .qos),
+      apn .octets,
+      name .octets,
+      named-point (used plan) (c .point) noPoint (plan-names plan p) (name .known),
+      recovery-sent l (g .fit) (firstOf l recoveryKind 0) refl,
+      g .recovery,
+    )
 
 modify-good : (l : List Sent) (m : M.Modify) → GoodModify l m → modifyOf (written l) ≡ Sound (Modify m)
 unfolding modifyOf ControlSent UserSent ContextSent
@@ -159,13 +166,27 @@ modify-good l m g = by (m .control) (m .context) (g .control) (g .context)
     by P.Same (X.Present ebi user) h k =
         let b = k .good in
         let at = found l (g .fit) .held bearerKind 0 (k .value) (k .first) in
-        rw (whole-with l (g .fit) (k .value) (b .fields) (k .first) (b .octets) (b .fit), tunnel-lacks l (g .fit) 0 6 h,
-        at .found, at .octets, b .octets, ebi-sent (b .fields) (b .fit) ebi (b .five) (b .its), within (b .fields) (b .fit) user (b .tunnel))
+        rw (
+          whole-with l (g .fit) (k .value) (b .fields) (k .first) (b .octets) (b .fit),
+          tunnel-lacks l (g .fit) 0 6 h,
+          at .found,
+          at .octets,
+          b .octets,
+          ebi-sent (b .fields) (b .fit) ebi (b .five) (b .its),
+          within (b .fields) (b .fit) user (b .tunnel),
+        )
     by (P.New teid addr) (X.Present ebi user) h k =
         let b = k .good in
         let at = found l (g .fit) .held bearerKind 0 (k .value) (k .first) in
-        rw (whole-with l (g .fit) (k .value) (b .fields) (k .first) (b .octets) (b .fit), tunnel-sent l (g .fit) 0 6 teid addr h,
-        at .found, at .octets, b .octets, ebi-sent (b .fields) (b .fit) ebi (b .five) (b .its), within (b .fields) (b .fit) user (b .tunnel))
+        rw (
+          whole-with l (g .fit) (k .value) (b .fields) (k .first) (b .octets) (b .fit),
+          tunnel-sent l (g .fit) 0 6 teid addr h,
+          at .found,
+          at .octets,
+          b .octets,
+          ebi-sent (b .fields) (b .fit) ebi (b .five) (b .its),
+          within (b .fields) (b .fit) user (b .tunnel),
+        )
 
 delete-good : (l : List Sent) (d : D.Delete) → GoodDelete l d → deleteOf (written l) ≡ Sound (Delete d)
 unfolding deleteOf EbiSent octetIn octetAt
