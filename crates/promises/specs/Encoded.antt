@@ -36,8 +36,12 @@ use Rattle.requests.specs.Create.{createOf}
 use Rattle.changes.specs.Change.{modifyOf, deleteOf}
 use Rattle.promises.specs.Sent.{Sent, fits, written, Of, None, firstOf}
 use Rattle.promises.specs.Values.{packed, ImsiValue, RatValue, TunnelValue, ApnValue, PaaValue, EbiValue, QosValue, recoverySent, Has}
-use Rattle.promises.specs.Wellformed.{CreateBearer, GoodCreate, ControlSent, UserSent, ModifyBearer, ContextSent, GoodModify, EbiSent, WholeBearer, GoodDelete, good-is-read}
-use Rattle.promises.specs.Encoder.{digitsOf, tunnelOctets, Besides, Short, createBearer, recoveryField, createFields, CreateInRange, controlField, userField, contextField, contextBearer, modifyFields, PeerInRange, UserInRange, ContextInRange, deleteFields, EbiInRange, encodedCreate, encodedModify, encodedDelete, digits-each, digits-length, digits-back, create-bearer-fits, create-fits, context-fits, modify-fits, delete-fits}
+use Rattle.promises.specs.Wellformed.{CreateBearer, GoodCreate, ControlSent, UserSent, ModifyBearer}
+use Rattle.promises.specs.Wellformed.{ContextSent, GoodModify, EbiSent, WholeBearer, GoodDelete, good-is-read}
+use Rattle.promises.specs.Encoder.{Besides, Short, CreateInRange, PeerInRange, UserInRange, ContextInRange, EbiInRange, ModifyInRange}
+use Rattle.promises.specs.Encoder.{createBearer, createFields, contextBearer, modifyFields, deleteFields, encodedCreate, encodedModify, encodedDelete}
+use Rattle.promises.specs.Encoder.{controlFlags, userFlags, digitsOf, tunnelOctets, recoveryField, controlField, userField, contextField}
+use Rattle.promises.specs.Encoder.{digits-each, digits-length, digits-back, create-bearer-fits, create-fits, context-fits, modify-fits, delete-fits}
 use Rattle.promises.specs.Written.{Word}
 
 -- ---- unknown fields: those of another type or instance than the ones that are looked for
@@ -72,20 +76,24 @@ unfoldable pub knownOf : List Name → List Sent → List Sent
 knownOf n [] = []
 knownOf n (f ∷ l) = pick (known n f) (f ∷ knownOf n l) (knownOf n l)
 
--- ---- the promise: what the encoder writes of a request in range is read as that request; so is every list of fields that is the encoder's but for
--- unknown ones
+-- fields l with the fields b in their Bearer Context, which but for unknown ones are those of the encoder; each value fits its length
+pub record Mixed (names within : List Name) (fields bearer l b : List Sent) : Type 0 where
+  pub fit : every fits l ≡ true
+  pub fitWithin : every fits b ≡ true
+  pub known : knownOf names l ≡ fields
+  pub knownWithin : knownOf within b ≡ bearer
+
+-- ---- the promise: what the encoder writes of a request in range is read as that request; so is what it writes mixed with unknown fields
 pub record EncodedIsRead : Type 0 where
   pub create : (plan : Plan) (c : C.Create) (x : Besides) → accepted plan ≡ true → CreateInRange plan c x → Short x
       → createOf plan (encodedCreate plan c x) ≡ Sound (Create c)
-  pub modify : (m : M.Modify) (x : Besides) → PeerInRange (m .control) → ContextInRange (m .context) → Short x
-      → modifyOf (encodedModify m x) ≡ Sound (Modify m)
-  pub delete : (d : D.Delete) (x : Besides) → EbiInRange (d .ebi) → Short x
-      → deleteOf (encodedDelete d x) ≡ Sound (Delete d)
+  pub modify : (m : M.Modify) (x : Besides) → ModifyInRange m → Short x → modifyOf (encodedModify m x) ≡ Sound (Modify m)
+  pub delete : (d : D.Delete) (x : Besides) → EbiInRange (d .ebi) → Short x → deleteOf (encodedDelete d x) ≡ Sound (Delete d)
   pub createMixed : (plan : Plan) (c : C.Create) (x : Besides) (l b : List Sent) → accepted plan ≡ true → CreateInRange plan c x
-      → every fits l ≡ true → every fits b ≡ true → knownOf createNames l ≡ createFields plan c x b → knownOf createWithin b ≡ createBearer c x
+      → Mixed createNames createWithin (createFields plan c x b) (createBearer c x) l b
       → createOf plan (written l) ≡ Sound (Create c)
-  pub modifyMixed : (m : M.Modify) (x : Besides) (l b : List Sent) → PeerInRange (m .control) → ContextInRange (m .context)
-      → every fits l ≡ true → every fits b ≡ true → knownOf modifyNames l ≡ modifyFields m x b → knownOf modifyWithin b ≡ contextBearer (m .context) x
+  pub modifyMixed : (m : M.Modify) (x : Besides) (l b : List Sent) → ModifyInRange m
+      → Mixed modifyNames modifyWithin (modifyFields m x b) (contextBearer (m .context) x) l b
       → modifyOf (written l) ≡ Sound (Modify m)
   pub deleteMixed : (d : D.Delete) (x : Besides) (l : List Sent) → EbiInRange (d .ebi)
       → every fits l ≡ true → knownOf deleteNames l ≡ deleteFields (d .ebi) x
@@ -96,7 +104,8 @@ unfoldable listed : ℕ → ℕ → List Name → Bool
 listed kind inst [] = false
 listed kind inst (q ∷ n) = (eqb (q .kind) kind && eqb (q .inst) inst) || listed kind inst n
 
-known-hit : (n : List Name) (f : Sent) (kind inst : ℕ) → listed kind inst n ≡ true → (eqb (f .kind) kind && eqb (f .fourth % 16) inst) ≡ true → known n f ≡ true
+known-hit : (n : List Name) (f : Sent) (kind inst : ℕ) → listed kind inst n ≡ true
+    → (eqb (f .kind) kind && eqb (f .fourth % 16) inst) ≡ true → known n f ≡ true
 unfolding listed known
 known-hit [] f kind inst e h = e
 known-hit (q ∷ n) f kind inst e h =
@@ -120,7 +129,8 @@ has-known : (n : List Name) (l k : List Sent) (kind inst : ℕ) (v : List ℕ) (
     → firstOf k kind inst ≡ Of v → Good v → Has l kind inst Good
 has-known n l k kind inst v Good e q f g = record { value = v; first = sym (first-known n l kind inst e) ∙ rw q f; good = g }
 
-none-known : (n : List Name) (l k : List Sent) (kind inst : ℕ) → listed kind inst n ≡ true → knownOf n l ≡ k → firstOf k kind inst ≡ None → firstOf l kind inst ≡ None
+none-known : (n : List Name) (l k : List Sent) (kind inst : ℕ) → listed kind inst n ≡ true → knownOf n l ≡ k
+    → firstOf k kind inst ≡ None → firstOf l kind inst ≡ None
 none-known n l k kind inst e q f = sym (first-known n l kind inst e) ∙ rw q f
 
 tunnel-good : (flags interface teid addr : ℕ) (behind : List ℕ) → 128 ≤ flags → flags % 64 ≡ interface → 0 < teid → Word teid → Word addr
@@ -134,8 +144,8 @@ qos-good : (v : List ℕ) → 22 ≤ length v → QosValue v
 qos-good [] h = absurd (omega arith)
 qos-good (y ∷ v) h = record { first = y; behind = v; long = omega arith; octets = refl }
 
-module _ (plan : Plan) (c : C.Create) (x : Besides) (l b : List Sent) (r : CreateInRange plan c x) (fl : every fits l ≡ true) (fb : every fits b ≡ true)
-    (el : knownOf createNames l ≡ createFields plan c x b) (eb : knownOf createWithin b ≡ createBearer c x) where
+module _ (plan : Plan) (c : C.Create) (x : Besides) (l b : List Sent) (r : CreateInRange plan c x)
+    (q : Mixed createNames createWithin (createFields plan c x b) (createBearer c x) l b) where
   bearer-good : CreateBearer c (written b)
   unfolding createWithin createBearer listed firstOf
   bearer-good =
@@ -143,14 +153,14 @@ module _ (plan : Plan) (c : C.Create) (x : Besides) (l b : List Sent) (r : Creat
       let hi = r .sound .high in
       record {
         fields = b;
-        fit = fb;
-        ebi = has-known createWithin b (createBearer c x) ebiKind 0 (c .ebi ∷ x .within ebiKind) (EbiValue (c .ebi)) refl eb refl
+        fit = q .fitWithin;
+        ebi = has-known createWithin b (createBearer c x) ebiKind 0 (c .ebi ∷ x .within ebiKind) (EbiValue (c .ebi)) refl (q .knownWithin) refl
             (record { octet = c .ebi; behind = x .within ebiKind; low = omega arith; octets = refl });
         five = lo;
-        user = has-known createWithin b (createBearer c x) tunnelKind 2 (tunnelOctets 0x84 (c .user) (c .useraddr) (x .within tunnelKind))
-            (TunnelValue 4 (c .user) (c .useraddr)) refl eb refl
-            (tunnel-good 0x84 4 (c .user) (c .useraddr) (x .within tunnelKind) (omega arith) refl (r .sound .user) (r .user) (r .useraddr));
-        qos = has-known createWithin b (createBearer c x) qosKind 0 (x .qos) QosValue refl eb refl (qos-good (x .qos) (r .qos));
+        user = has-known createWithin b (createBearer c x) tunnelKind 2 (tunnelOctets userFlags (c .user) (c .useraddr) (x .within tunnelKind))
+            (TunnelValue 4 (c .user) (c .useraddr)) refl (q .knownWithin) refl
+            (tunnel-good userFlags 4 (c .user) (c .useraddr) (x .within tunnelKind) (omega arith) refl (r .sound .user) (r .user) (r .useraddr));
+        qos = has-known createWithin b (createBearer c x) qosKind 0 (x .qos) QosValue refl (q .knownWithin) refl (qos-good (x .qos) (r .qos));
         octets = refl;
       }
 
@@ -174,20 +184,20 @@ module _ (plan : Plan) (c : C.Create) (x : Besides) (l b : List Sent) (r : Creat
   unfolding createNames createFields listed firstOf
   create-good =
       record {
-        fit = fl;
+        fit = q .fit;
         imsi = has-known createNames l (createFields plan c x b) imsiKind 0 (packed (digitsOf 15 (c .imsi)) ++ x .behind imsiKind)
-            (ImsiValue (c .imsi)) refl el refl imsi-good;
-        rat = has-known createNames l (createFields plan c x b) ratKind 0 (x .rat ∷ x .behind ratKind) RatValue refl el refl
+            (ImsiValue (c .imsi)) refl (q .known) refl imsi-good;
+        rat = has-known createNames l (createFields plan c x b) ratKind 0 (x .rat ∷ x .behind ratKind) RatValue refl (q .known) refl
             (record { rat = x .rat; behind = x .behind ratKind; oneOrSix = r .rat; octets = refl });
         control = has-known createNames l (createFields plan c x b) tunnelKind 0
-            (tunnelOctets 0x86 (c .control) (c .controladdr) (x .behind tunnelKind)) (TunnelValue 6 (c .control) (c .controladdr)) refl el refl
-            (tunnel-good 0x86 6 (c .control) (c .controladdr) (x .behind tunnelKind) (omega arith) refl (r .sound .control) (r .control) (r .controladdr));
-        apn = has-known createNames l (createFields plan c x b) apnKind 0 (nameOf (getD (used plan) (c .point) noPoint)) (ApnValue plan (c .point)) refl el refl
+            (tunnelOctets controlFlags (c .control) (c .controladdr) (x .behind tunnelKind)) (TunnelValue 6 (c .control) (c .controladdr)) refl (q .known) refl
+            (tunnel-good controlFlags 6 (c .control) (c .controladdr) (x .behind tunnelKind) (omega arith) refl (r .sound .control) (r .control) (r .controladdr));
+        apn = has-known createNames l (createFields plan c x b) apnKind 0 (nameOf (getD (used plan) (c .point) noPoint)) (ApnValue plan (c .point)) refl (q .known) refl
             (record { known = r .sound .point; octets = refl });
-        paa = has-known createNames l (createFields plan c x b) paaKind 0 (1 ∷ octetsOf 4 (x .address) ++ x .behind paaKind) PaaValue refl el refl
+        paa = has-known createNames l (createFields plan c x b) paaKind 0 (1 ∷ octetsOf 4 (x .address) ++ x .behind paaKind) PaaValue refl (q .known) refl
             (record { type = 1; behind = octetsOf 4 (x .address) ++ x .behind paaKind; ipv4 = refl; long = paa-long; octets = refl });
-        bearer = has-known createNames l (createFields plan c x b) bearerKind 0 (written b) (CreateBearer c) refl el refl bearer-good;
-        recovery = rw (← first-known createNames l recoveryKind 0 refl, el) (recovery-good (c .recovery));
+        bearer = has-known createNames l (createFields plan c x b) bearerKind 0 (written b) (CreateBearer c) refl (q .known) refl bearer-good;
+        recovery = rw (← first-known createNames l recoveryKind 0 refl, q .known) (recovery-good (c .recovery));
       }
     where
       paa-long : 4 ≤ length (octetsOf 4 (x .address) ++ x .behind paaKind)
@@ -197,24 +207,24 @@ module _ (plan : Plan) (c : C.Create) (x : Besides) (l b : List Sent) (r : Creat
 ebi-good : (ebi : ℕ) (behind : List ℕ) → ebi ≤ 15 → EbiValue ebi (ebi ∷ behind)
 ebi-good ebi behind h = record { octet = ebi; behind = behind; low = omega arith; octets = refl }
 
-module _ (m : M.Modify) (x : Besides) (l b : List Sent) (rp : PeerInRange (m .control)) (rc : ContextInRange (m .context))
-    (fl : every fits l ≡ true) (fb : every fits b ≡ true)
-    (el : knownOf modifyNames l ≡ modifyFields m x b) (eb : knownOf modifyWithin b ≡ contextBearer (m .context) x) where
+module _ (m : M.Modify) (x : Besides) (l b : List Sent) (range : ModifyInRange m)
+    (q : Mixed modifyNames modifyWithin (modifyFields m x b) (contextBearer (m .context) x) l b) where
   user-good : (ebi : ℕ) (t : Tunnel) → UserInRange t → knownOf modifyWithin b ≡ contextBearer (X.Present ebi t) x → UserSent b t
   unfolding UserInRange UserSent userField contextBearer modifyWithin listed firstOf
   user-good ebi (T.Value teid addr) r e =
       has-known modifyWithin b _ tunnelKind 1 _ (TunnelValue 4 teid addr) refl e refl
-      (tunnel-good 0x84 4 teid addr (x .within tunnelKind) (omega arith) refl (r .live) (r .teidFits) (r .addrFits))
+      (tunnel-good userFlags 4 teid addr (x .within tunnelKind) (omega arith) refl (r .live) (r .teidFits) (r .addrFits))
   user-good ebi T.Missing r e = none-known modifyWithin b _ tunnelKind 1 refl e refl
   user-good ebi T.Short r e = absurd r
   user-good ebi T.Wrong r e = absurd r
 
-  within-good : (ebi : ℕ) (t : Tunnel) → ContextInRange (X.Present ebi t) → knownOf modifyWithin b ≡ contextBearer (X.Present ebi t) x → ModifyBearer ebi t (written b)
+  within-good : (ebi : ℕ) (t : Tunnel) → ContextInRange (X.Present ebi t) → knownOf modifyWithin b ≡ contextBearer (X.Present ebi t) x
+      → ModifyBearer ebi t (written b)
   unfolding ContextInRange contextBearer modifyWithin listed firstOf
   within-good ebi t r e =
       record {
         fields = b;
-        fit = fb;
+        fit = q .fitWithin;
         its = has-known modifyWithin b _ ebiKind 0 (ebi ∷ x .within ebiKind) (EbiValue ebi) refl e refl (ebi-good ebi (x .within ebiKind) (r .1));
         five = r .0;
         tunnel = user-good ebi t (r .2) e;
@@ -227,7 +237,7 @@ module _ (m : M.Modify) (x : Besides) (l b : List Sent) (rp : PeerInRange (m .co
   control-good P.Same (X.Present ebi t) r e = none-known modifyNames l _ tunnelKind 0 refl e refl
   control-good (P.New teid addr) k r e =
       has-known modifyNames l _ tunnelKind 0 _ (TunnelValue 6 teid addr) refl e refl
-      (tunnel-good 0x86 6 teid addr (x .behind tunnelKind) (omega arith) refl (r .live) (r .teidFits) (r .addrFits))
+      (tunnel-good controlFlags 6 teid addr (x .behind tunnelKind) (omega arith) refl (r .live) (r .teidFits) (r .addrFits))
 
   context-good : (p : Peer) (k : Context) → ContextInRange k → knownOf modifyNames l ≡ controlField p x ++ contextField k b
       → knownOf modifyWithin b ≡ contextBearer k x → ContextSent l k
@@ -242,16 +252,17 @@ module _ (m : M.Modify) (x : Besides) (l b : List Sent) (rp : PeerInRange (m .co
   modify-good : GoodModify l m
   unfolding modifyFields
   modify-good =
-      record { fit = fl; control = control-good (m .control) (m .context) rp el; context = context-good (m .control) (m .context) rc el eb }
+      record { fit = q .fit; control = control-good (m .control) (m .context) (range .control) (q .known); context = context-good (m .control) (m .context) (range .context) (q .known) (q .knownWithin) }
 
-delete-good : (d : D.Delete) (x : Besides) (l : List Sent) → EbiInRange (d .ebi) → every fits l ≡ true → knownOf deleteNames l ≡ deleteFields (d .ebi) x
-    → GoodDelete l d
+delete-good : (d : D.Delete) (x : Besides) (l : List Sent) → EbiInRange (d .ebi) → every fits l ≡ true
+    → knownOf deleteNames l ≡ deleteFields (d .ebi) x → GoodDelete l d
 unfolding EbiInRange EbiSent WholeBearer deleteFields deleteNames listed firstOf
 delete-good d x l r fl el = record { fit = fl; ebi = by (d .ebi) r el; bearer = rw (none (d .ebi) el) tt }
   where
     by : (k : Ebi) → EbiInRange k → knownOf deleteNames l ≡ deleteFields k x → EbiSent l k
     by E.Absent h e = none-known deleteNames l _ ebiKind 0 refl e refl
-    by (E.Given ebi) h e = has-known deleteNames l _ ebiKind 0 (ebi ∷ x .behind ebiKind) (EbiValue ebi) refl e refl (ebi-good ebi (x .behind ebiKind) h)
+    by (E.Given ebi) h e =
+        has-known deleteNames l _ ebiKind 0 (ebi ∷ x .behind ebiKind) (EbiValue ebi) refl e refl (ebi-good ebi (x .behind ebiKind) h)
 
     none : (k : Ebi) → knownOf deleteNames l ≡ deleteFields k x → firstOf l bearerKind 0 ≡ None
     none E.Absent e = none-known deleteNames l _ bearerKind 0 refl e refl
@@ -294,31 +305,40 @@ delete-known (E.Given ebi) x = refl
 
 -- ---- that it holds
 create-mixed : (plan : Plan) (c : C.Create) (x : Besides) (l b : List Sent) → accepted plan ≡ true → CreateInRange plan c x
-    → every fits l ≡ true → every fits b ≡ true → knownOf createNames l ≡ createFields plan c x b → knownOf createWithin b ≡ createBearer c x
-    → createOf plan (written l) ≡ Sound (Create c)
-create-mixed plan c x l b p r fl fb el eb = good-is-read .create plan l c p (create-good plan c x l b r fl fb el eb)
+    → Mixed createNames createWithin (createFields plan c x b) (createBearer c x) l b → createOf plan (written l) ≡ Sound (Create c)
+create-mixed plan c x l b p r q = good-is-read .create plan l c p (create-good plan c x l b r q)
 
-modify-mixed : (m : M.Modify) (x : Besides) (l b : List Sent) → PeerInRange (m .control) → ContextInRange (m .context)
-    → every fits l ≡ true → every fits b ≡ true → knownOf modifyNames l ≡ modifyFields m x b → knownOf modifyWithin b ≡ contextBearer (m .context) x
-    → modifyOf (written l) ≡ Sound (Modify m)
-modify-mixed m x l b rp rc fl fb el eb = good-is-read .modify l m (modify-good m x l b rp rc fl fb el eb)
+modify-mixed : (m : M.Modify) (x : Besides) (l b : List Sent) → ModifyInRange m
+    → Mixed modifyNames modifyWithin (modifyFields m x b) (contextBearer (m .context) x) l b → modifyOf (written l) ≡ Sound (Modify m)
+modify-mixed m x l b r q = good-is-read .modify l m (modify-good m x l b r q)
 
-delete-mixed : (d : D.Delete) (x : Besides) (l : List Sent) → EbiInRange (d .ebi) → every fits l ≡ true → knownOf deleteNames l ≡ deleteFields (d .ebi) x
-    → deleteOf (written l) ≡ Sound (Delete d)
+delete-mixed : (d : D.Delete) (x : Besides) (l : List Sent) → EbiInRange (d .ebi) → every fits l ≡ true
+    → knownOf deleteNames l ≡ deleteFields (d .ebi) x → deleteOf (written l) ≡ Sound (Delete d)
 delete-mixed d x l r fl el = good-is-read .delete l d (delete-good d x l r fl el)
 
 module _ (x : Besides) (s : Short x) where
-  create-plain : (plan : Plan) (c : C.Create) → accepted plan ≡ true → CreateInRange plan c x → createOf plan (encodedCreate plan c x) ≡ Sound (Create c)
+  create-plain : (plan : Plan) (c : C.Create) → accepted plan ≡ true → CreateInRange plan c x
+      → createOf plan (encodedCreate plan c x) ≡ Sound (Create c)
   unfolding encodedCreate
   create-plain plan c p r =
-      create-mixed plan c x (createFields plan c x (createBearer c x)) (createBearer c x) p r (create-fits x s plan c p (r .sound .point)) (create-bearer-fits x s c)
-      (create-known plan c x (createBearer c x)) (within-known c x)
+      let b = createBearer c x in
+      create-mixed plan c x (createFields plan c x b) b p r (record {
+        fit = create-fits x s plan c p (r .sound .point);
+        fitWithin = create-bearer-fits x s c;
+        known = create-known plan c x b;
+        knownWithin = within-known c x;
+      })
 
-  modify-plain : (m : M.Modify) → PeerInRange (m .control) → ContextInRange (m .context) → modifyOf (encodedModify m x) ≡ Sound (Modify m)
+  modify-plain : (m : M.Modify) → ModifyInRange m → modifyOf (encodedModify m x) ≡ Sound (Modify m)
   unfolding encodedModify modifyFields
-  modify-plain m rp rc =
-      modify-mixed m x (modifyFields m x (contextBearer (m .context) x)) (contextBearer (m .context) x) rp rc (modify-fits x s m) (context-fits x s (m .context))
-      (modify-known (m .control) (m .context) x (contextBearer (m .context) x)) (context-known (m .context) x)
+  modify-plain m r =
+      let b = contextBearer (m .context) x in
+      modify-mixed m x (modifyFields m x b) b r (record {
+        fit = modify-fits x s m;
+        fitWithin = context-fits x s (m .context);
+        known = modify-known (m .control) (m .context) x b;
+        knownWithin = context-known (m .context) x;
+      })
 
   delete-plain : (d : D.Delete) → EbiInRange (d .ebi) → deleteOf (encodedDelete d x) ≡ Sound (Delete d)
   unfolding encodedDelete
@@ -327,7 +347,7 @@ module _ (x : Besides) (s : Short x) where
 pub encoded-is-read : EncodedIsRead
 encoded-is-read = record {
   create = λ plan c x p r s. create-plain x s plan c p r;
-  modify = λ m x rp rc s. modify-plain x s m rp rc;
+  modify = λ m x r s. modify-plain x s m r;
   delete = λ d x r s. delete-plain x s d r;
   createMixed = create-mixed;
   modifyMixed = modify-mixed;

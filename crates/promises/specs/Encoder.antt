@@ -1,5 +1,5 @@
--- An encoder for Create, Modify and Delete: every request in range as fields in the order of document 01's list, with any octets behind the values; and
--- each value that it writes fits the 2 octets of its length.
+-- An encoder for Create, Modify and Delete: every request in range as fields in the order of document 01's list, with any octets behind the
+-- values; and each value that it writes fits the 2 octets of its length.
 -- Assumes nothing.
 use Prim.Native.Nat.{ℕ, zero, suc, _+_, _*_, _/_, _%_, _^_, _<_, _≤_}
 use mathlib.Core.Bool.{Bool, true, _||_}
@@ -64,11 +64,18 @@ pub record Short (x : Besides) : Type 0 where
   pub behind : (kind : ℕ) → length (x .behind kind) ≤ 10000
   pub within : (kind : ℕ) → length (x .within kind) ≤ 10000
 
--- ---- Create: interface 6 has the flags 86, interface 4 the flags 84
+-- ---- the first octet of an F-TEID: V4, and interface 6 or 4
+abbrev pub controlFlags : ℕ
+controlFlags = 0x86
+
+abbrev pub userFlags : ℕ
+userFlags = 0x84
+
+-- ---- Create
 unfoldable pub createBearer : C.Create → Besides → List Sent
 createBearer c x =
     field ebiKind 0 (c .ebi ∷ x .within ebiKind)
-    ∷ field tunnelKind 2 (tunnelOctets 0x84 (c .user) (c .useraddr) (x .within tunnelKind))
+    ∷ field tunnelKind 2 (tunnelOctets userFlags (c .user) (c .useraddr) (x .within tunnelKind))
     ∷ field qosKind 0 (x .qos)
     ∷ []
 
@@ -81,7 +88,7 @@ unfoldable pub createFields : Plan → C.Create → Besides → List Sent → Li
 createFields plan c x b =
     field imsiKind 0 (packed (digitsOf 15 (c .imsi)) ++ x .behind imsiKind)
     ∷ field ratKind 0 (x .rat ∷ x .behind ratKind)
-    ∷ field tunnelKind 0 (tunnelOctets 0x86 (c .control) (c .controladdr) (x .behind tunnelKind))
+    ∷ field tunnelKind 0 (tunnelOctets controlFlags (c .control) (c .controladdr) (x .behind tunnelKind))
     ∷ field apnKind 0 (nameOf (getD (used plan) (c .point) noPoint))
     ∷ field paaKind 0 (1 ∷ octetsOf 4 (x .address) ++ x .behind paaKind)
     ∷ field bearerKind 0 (written b)
@@ -100,10 +107,10 @@ pub record CreateInRange (plan : Plan) (c : C.Create) (x : Besides) : Type 0 whe
 -- ---- Modify
 unfoldable pub controlField : Peer → Besides → List Sent
 controlField P.Same x = []
-controlField (P.New teid addr) x = field tunnelKind 0 (tunnelOctets 0x86 teid addr (x .behind tunnelKind)) ∷ []
+controlField (P.New teid addr) x = field tunnelKind 0 (tunnelOctets controlFlags teid addr (x .behind tunnelKind)) ∷ []
 
 unfoldable pub userField : Tunnel → Besides → List Sent
-userField (T.Value teid addr) x = field tunnelKind 1 (tunnelOctets 0x84 teid addr (x .within tunnelKind)) ∷ []
+userField (T.Value teid addr) x = field tunnelKind 1 (tunnelOctets userFlags teid addr (x .within tunnelKind)) ∷ []
 userField T.Missing x = []
 userField T.Short x = []
 userField T.Wrong x = []
@@ -137,6 +144,10 @@ UserInRange T.Wrong = ⊥
 unfoldable pub ContextInRange : Context → Type 0
 ContextInRange X.Absent = Unit {0}
 ContextInRange (X.Present ebi user) = (5 ≤ ebi) × (ebi ≤ 15) × UserInRange user
+
+pub record ModifyInRange (m : M.Modify) : Type 0 where
+  pub control : PeerInRange (m .control)
+  pub context : ContextInRange (m .context)
 
 -- ---- Delete
 unfoldable pub deleteFields : Ebi → Besides → List Sent
@@ -212,10 +223,10 @@ module _ (x : Besides) (s : Short x) where
       let a = s .within ebiKind in
       let b = s .within tunnelKind in
       let q = s .qos in
-      let t = tunnel-short 0x84 (c .user) (c .useraddr) (x .within tunnelKind) in
+      let t = tunnel-short userFlags (c .user) (c .useraddr) (x .within tunnelKind) in
       rw (
         fits-field ebiKind 0 (c .ebi ∷ x .within ebiKind) (omega arith),
-        fits-field tunnelKind 2 (tunnelOctets 0x84 (c .user) (c .useraddr) (x .within tunnelKind)) (omega arith),
+        fits-field tunnelKind 2 (tunnelOctets userFlags (c .user) (c .useraddr) (x .within tunnelKind)) (omega arith),
         fits-field qosKind 0 (x .qos) (omega arith),
       )
 
@@ -225,7 +236,7 @@ module _ (x : Besides) (s : Short x) where
       let a = s .within ebiKind in
       let b = s .within tunnelKind in
       let q = s .qos in
-      let t = tunnel-short 0x84 (c .user) (c .useraddr) (x .within tunnelKind) in
+      let t = tunnel-short userFlags (c .user) (c .useraddr) (x .within tunnelKind) in
       simp length-append (omega arith)
 
   recovery-fits : (r : Recovery) → every fits (recoveryField r x) ≡ true
@@ -233,7 +244,8 @@ module _ (x : Besides) (s : Short x) where
   recovery-fits R.None = refl
   recovery-fits (R.Value r) = let a = s .behind recoveryKind in rw (fits-field recoveryKind 0 (r ∷ x .behind recoveryKind) (omega arith))
 
-  pub create-fits : (plan : Plan) (c : C.Create) → accepted plan ≡ true → c .point < parties plan → every fits (createFields plan c x (createBearer c x)) ≡ true
+  pub create-fits : (plan : Plan) (c : C.Create) → accepted plan ≡ true → c .point < parties plan
+      → every fits (createFields plan c x (createBearer c x)) ≡ true
   unfolding createFields every
   create-fits plan c p h =
       let digits = digits-length 15 (c .imsi) in
@@ -241,7 +253,7 @@ module _ (x : Besides) (s : Short x) where
       let imsi = length-append (packed (digitsOf 15 (c .imsi))) (x .behind imsiKind) in
       let paa = length-append (octetsOf 4 (x .address)) (x .behind paaKind) in
       let four = length-octets 4 (x .address) in
-      let tunnel = tunnel-short 0x86 (c .control) (c .controladdr) (x .behind tunnelKind) in
+      let tunnel = tunnel-short controlFlags (c .control) (c .controladdr) (x .behind tunnelKind) in
       let name = name-short plan (c .point) p h in
       let b1 = s .behind imsiKind in
       let b2 = s .behind ratKind in
@@ -250,7 +262,7 @@ module _ (x : Besides) (s : Short x) where
       rw (
         fits-field imsiKind 0 (packed (digitsOf 15 (c .imsi)) ++ x .behind imsiKind) (omega arith),
         fits-field ratKind 0 (x .rat ∷ x .behind ratKind) (omega arith),
-        fits-field tunnelKind 0 (tunnelOctets 0x86 (c .control) (c .controladdr) (x .behind tunnelKind)) (omega arith),
+        fits-field tunnelKind 0 (tunnelOctets controlFlags (c .control) (c .controladdr) (x .behind tunnelKind)) (omega arith),
         fits-field apnKind 0 (nameOf (getD (used plan) (c .point) noPoint)) (omega arith),
         fits-field paaKind 0 (1 ∷ octetsOf 4 (x .address) ++ x .behind paaKind) (omega arith),
         fits-field bearerKind 0 (written (createBearer c x)) (create-bearer-short c),
@@ -261,8 +273,8 @@ module _ (x : Besides) (s : Short x) where
   unfolding userField every
   user-fits (T.Value teid addr) =
       let b = s .within tunnelKind in
-      let t = tunnel-short 0x84 teid addr (x .within tunnelKind) in
-      rw (fits-field tunnelKind 1 (tunnelOctets 0x84 teid addr (x .within tunnelKind)) (omega arith))
+      let t = tunnel-short userFlags teid addr (x .within tunnelKind) in
+      rw (fits-field tunnelKind 1 (tunnelOctets userFlags teid addr (x .within tunnelKind)) (omega arith))
   user-fits T.Missing = refl
   user-fits T.Short = refl
   user-fits T.Wrong = refl
@@ -271,7 +283,7 @@ module _ (x : Besides) (s : Short x) where
   unfolding userField written octetsOf
   user-short (T.Value teid addr) =
       let b = s .within tunnelKind in
-      let t = tunnel-short 0x84 teid addr (x .within tunnelKind) in
+      let t = tunnel-short userFlags teid addr (x .within tunnelKind) in
       simp length-append (omega arith)
   user-short T.Missing = omega arith
   user-short T.Short = omega arith
@@ -300,8 +312,8 @@ module _ (x : Besides) (s : Short x) where
       by P.Same = bearer-fits (m .context)
       by (P.New teid addr) =
           let b = s .behind tunnelKind in
-          let t = tunnel-short 0x86 teid addr (x .behind tunnelKind) in
-          rw (fits-field tunnelKind 0 (tunnelOctets 0x86 teid addr (x .behind tunnelKind)) (omega arith)) (bearer-fits (m .context))
+          let t = tunnel-short controlFlags teid addr (x .behind tunnelKind) in
+          rw (fits-field tunnelKind 0 (tunnelOctets controlFlags teid addr (x .behind tunnelKind)) (omega arith)) (bearer-fits (m .context))
 
   pub delete-fits : (k : Ebi) → every fits (deleteFields k x) ≡ true
   unfolding deleteFields every

@@ -160,6 +160,8 @@ pub sent-is-found : SentIsFound
 unfolding SentIsFound find fieldsOf overruns
 sent-is-found l e = record {
   whole = over-laid l e;
-  held = λ kind inst v h. let q = lies l [] kind inst v h in record { start = q .start; found = rw (fields-laid l 0 e) (q .found); octets = q .octets };
+  held = λ kind inst v h.
+      let q = lies l [] kind inst v h in
+      record { start = q .start; found = rw (fields-laid l 0 e) (q .found); octets = q .octets };
   missing = λ kind inst h. rw (fields-laid l 0 e) (first-lacks l 0 kind inst h);
 }

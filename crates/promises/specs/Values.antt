@@ -1,5 +1,5 @@
--- The values of the fields of a Create, Modify and Delete as document 01 asks for them, with any octets behind; and what each reader makes of a message
--- whose first field of that type and instance has such a value.
+-- The values of the fields of a Create, Modify and Delete as document 01 asks for them, with any octets behind; and what each reader makes of a
+-- message whose first field of that type and instance has such a value.
 -- Assumes nothing.
 use Prim.Native.Nat.{ℕ, suc, _+_, _*_, _/_, _%_, _<_, _≤_}
 use mathlib.Core.Bool.{true, _||_}
@@ -211,7 +211,8 @@ module _ (l : List Sent) (fit : every fits l ≡ true) where
   unfolding SentIsFound
   found = sent-is-found l fit
 
-  pub octet-sent : (kind x least : ℕ) (v w : List ℕ) → firstOf l kind 0 ≡ Of v → v ≡ x ∷ w → least ≤ suc (length w) → octetIn (written l) kind least ≡ O.Value x
+  pub octet-sent : (kind x least : ℕ) (v w : List ℕ) → firstOf l kind 0 ≡ Of v → v ≡ x ∷ w → least ≤ suc (length w)
+      → octetIn (written l) kind least ≡ O.Value x
   octet-sent kind x least v w e f h = octet-held (written l) kind x least w (found .held kind 0 (x ∷ w) (rw (← f) e)) h
 
   pub imsi-sent : (imsi : ℕ) → Has l imsiKind 0 (ImsiValue imsi) → imsiIn (written l) ≡ I.Value imsi
@@ -225,7 +226,8 @@ module _ (l : List Sent) (fit : every fits l ≡ true) where
   unfolding ratIn
   rat-sent h = rw (octet-sent ratKind (h .good .rat) 1 (h .value) (h .good .behind) (h .first) (h .good .octets) (omega arith), h .good .oneOrSix)
 
-  pub tunnel-sent : (inst interface teid addr : ℕ) → Has l tunnelKind inst (TunnelValue interface teid addr) → tunnelIn (written l) inst interface ≡ T.Value teid addr
+  pub tunnel-sent : (inst interface teid addr : ℕ) → Has l tunnelKind inst (TunnelValue interface teid addr)
+      → tunnelIn (written l) inst interface ≡ T.Value teid addr
   unfolding tunnelIn tunnelAt
   tunnel-sent inst interface teid addr h =
       let r = found .held tunnelKind inst (h .value) (h .first) in

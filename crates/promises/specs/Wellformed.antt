@@ -28,7 +28,8 @@ use Rattle.requests.specs.declared.Request.the-variants.{Create, Modify, Delete
 use Rattle.requests.specs.declared.Decoded.the-variants.{Sound}
 use Rattle.requests.specs.Create.{createOf}
 use Rattle.changes.specs.Change.{modifyOf, deleteOf}
-use Rattle.promises.specs.Values.{ImsiValue, RatValue, TunnelValue, ApnValue, PaaValue, EbiValue, QosValue, recoverySent, Has, found, imsi-sent, rat-sent, tunnel-sent, tunnel-lacks, paa-sent, ebi-octet, ebi-sent, qos-sent, recovery-sent, named-point, plan-names}
+use Rattle.promises.specs.Values.{ImsiValue, RatValue, TunnelValue, ApnValue, PaaValue, EbiValue, QosValue, recoverySent, Has}
+use Rattle.promises.specs.Values.{found, imsi-sent, rat-sent, tunnel-sent, tunnel-lacks, paa-sent, ebi-octet, ebi-sent, qos-sent, recovery-sent, named-point, plan-names}
 use Rattle.promises.specs.Sent.{Sent, fits, written, Value, Of, None, firstOf, SentIsFound, sent-is-found}
 
 -- ---- a well-formed Create: the paper's list; in the Bearer Context fields of the same form
@@ -100,7 +101,8 @@ pub record GoodDelete (l : List Sent) (d : D.Delete) : Type 0 where
 
 -- ---- the promise: what is well-formed is read, and holds what was meant
 pub record GoodIsRead : Type 0 where
-  pub create : (plan : Plan) (l : List Sent) (c : C.Create) → accepted plan ≡ true → GoodCreate plan l c → createOf plan (written l) ≡ Sound (Create c)
+  pub create : (plan : Plan) (l : List Sent) (c : C.Create) → accepted plan ≡ true → GoodCreate plan l c
+      → createOf plan (written l) ≡ Sound (Create c)
   pub modify : (l : List Sent) (m : M.Modify) → GoodModify l m → modifyOf (written l) ≡ Sound (Modify m)
   pub delete : (l : List Sent) (d : D.Delete) → GoodDelete l d → deleteOf (written l) ≡ Sound (Delete d)
 
