@@ -53,7 +53,8 @@ datagram-length type teid seq l = omega arith
 
 module _ (type teid seq : ℕ) (l : List Sent) (one : OneDatagram l) (word : Word teid) (fits : Seq seq) where
   gate-taken : flagOf type ≡ 1 → (eqb type createType && ltb 0 teid) ≡ false → gateOf (datagram type teid seq l) ≡ taken
-  unfolding OneDatagram datagram headerTo gateOf versionOf flagP flagT kindOf lengthOf withTeid teidOctets teidOf headerSize controlVersion notTaken octetsOf numberOf numberFrom
+  unfolding OneDatagram datagram headerTo gateOf versionOf flagP flagT kindOf lengthOf withTeid teidOctets teidOf headerSize controlVersion
+      notTaken octetsOf numberOf numberFrom
   gate-taken f t =
       let n = length (written l) in
       let s = number-back 2 (n + 8) one in

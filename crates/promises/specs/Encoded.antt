@@ -39,9 +39,11 @@ use Rattle.promises.specs.Values.{packed, ImsiValue, RatValue, TunnelVal
 use Rattle.promises.specs.Wellformed.{CreateBearer, GoodCreate, ControlSent, UserSent, ModifyBearer}
 use Rattle.promises.specs.Wellformed.{ContextSent, GoodModify, EbiSent, WholeBearer, GoodDelete, good-is-read}
 use Rattle.promises.specs.Encoder.{Besides, Short, CreateInRange, PeerInRange, UserInRange, ContextInRange, EbiInRange, ModifyInRange}
-use Rattle.promises.specs.Encoder.{createBearer, createFields, contextBearer, modifyFields, deleteFields, encodedCreate, encodedModify, encodedDelete}
+use Rattle.promises.specs.Encoder.{createBearer, createFields, contextBearer, modifyFields}
+use Rattle.promises.specs.Encoder.{deleteFields, encodedCreate, encodedModify, encodedDelete}
 use Rattle.promises.specs.Encoder.{controlFlags, userFlags, digitsOf, tunnelOctets, recoveryField, controlField, userField, contextField}
-use Rattle.promises.specs.Encoder.{digits-each, digits-length, digits-back, create-bearer-fits, create-fits, context-fits, modify-fits, delete-fits}
+use Rattle.promises.specs.Encoder.{digits-each, digits-length, digits-back, create-bearer-fits}
+use Rattle.promises.specs.Encoder.{create-fits, context-fits, modify-fits, delete-fits}
 use Rattle.promises.specs.Written.{Word}
 
 -- ---- unknown fields: those of another type or instance than the ones that are looked for
@@ -180,28 +182,34 @@ module _ (plan : Plan) (c : C.Create) (x : Besides) (l b : List Sent) (r : Creat
         octets = refl;
       }
 
+  control-value : TunnelValue 6 (c .control) (c .controladdr) (tunnelOctets controlFlags (c .control) (c .controladdr) (x .behind tunnelKind))
+  control-value =
+      tunnel-good controlFlags 6 (c .control) (c .controladdr) (x .behind tunnelKind) (omega arith) refl
+      (r .sound .control) (r .control) (r .controladdr)
+
+  paa-value : PaaValue (1 ∷ octetsOf 4 (x .address) ++ x .behind paaKind)
+  paa-value =
+      let n = length-octets 4 (x .address) in
+      record { type = 1; behind = octetsOf 4 (x .address) ++ x .behind paaKind; ipv4 = refl; long = simp length-append (omega arith); octets = refl }
+
+  create-has : (kind : ℕ) (v : List ℕ) (Good : List ℕ → Type 0) → listed kind 0 createNames ≡ true
+      → firstOf (createFields plan c x b) kind 0 ≡ Of v → Good v → Has l kind 0 Good
+  create-has kind v Good e f g = has-known createNames l (createFields plan c x b) kind 0 v Good e (q .known) f g
+
   create-good : GoodCreate plan l c
   unfolding createNames createFields listed firstOf
   create-good =
       record {
         fit = q .fit;
-        imsi = has-known createNames l (createFields plan c x b) imsiKind 0 (packed (digitsOf 15 (c .imsi)) ++ x .behind imsiKind)
-            (ImsiValue (c .imsi)) refl (q .known) refl imsi-good;
-        rat = has-known createNames l (createFields plan c x b) ratKind 0 (x .rat ∷ x .behind ratKind) RatValue refl (q .known) refl
+        imsi = create-has imsiKind (packed (digitsOf 15 (c .imsi)) ++ x .behind imsiKind) (ImsiValue (c .imsi)) refl refl imsi-good;
+        rat = create-has ratKind (x .rat ∷ x .behind ratKind) RatValue refl refl
             (record { rat = x .rat; behind = x .behind ratKind; oneOrSix = r .rat; octets = refl });
-        control = has-known createNames l (createFields plan c x b) tunnelKind 0
-            (tunnelOctets controlFlags (c .control) (c .controladdr) (x .behind tunnelKind)) (TunnelValue 6 (c .control) (c .controladdr)) refl (q .known) refl
-            (tunnel-good controlFlags 6 (c .control) (c .controladdr) (x .behind tunnelKind) (omega arith) refl (r .sound .control) (r .control) (r .controladdr));
-        apn = has-known createNames l (createFields plan c x b) apnKind 0 (nameOf (getD (used plan) (c .point) noPoint)) (ApnValue plan (c .point)) refl (q .known) refl
-            (record { known = r .sound .point; octets = refl });
-        paa = has-known createNames l (createFields plan c x b) paaKind 0 (1 ∷ octetsOf 4 (x .address) ++ x .behind paaKind) PaaValue refl (q .known) refl
-            (record { type = 1; behind = octetsOf 4 (x .address) ++ x .behind paaKind; ipv4 = refl; long = paa-long; octets = refl });
-        bearer = has-known createNames l (createFields plan c x b) bearerKind 0 (written b) (CreateBearer c) refl (q .known) refl bearer-good;
+        control = create-has tunnelKind _ (TunnelValue 6 (c .control) (c .controladdr)) refl refl control-value;
+        apn = create-has apnKind _ (ApnValue plan (c .point)) refl refl (record { known = r .sound .point; octets = refl });
+        paa = create-has paaKind _ PaaValue refl refl paa-value;
+        bearer = create-has bearerKind (written b) (CreateBearer c) refl refl bearer-good;
         recovery = rw (← first-known createNames l recoveryKind 0 refl, q .known) (recovery-good (c .recovery));
       }
-    where
-      paa-long : 4 ≤ length (octetsOf 4 (x .address) ++ x .behind paaKind)
-      paa-long = simp length-append (omega (arith, length-octets 4 (x .address)))
 
 -- ---- a Modify and a Delete
 ebi-good : (ebi : ℕ) (behind : List ℕ) → ebi ≤ 15 → EbiValue ebi (ebi ∷ behind)
@@ -252,7 +260,11 @@ module _ (m : M.Modify) (x : Besides) (l b : List Sent) (range : ModifyInRange m
   modify-good : GoodModify l m
   unfolding modifyFields
   modify-good =
-      record { fit = q .fit; control = control-good (m .control) (m .context) (range .control) (q .known); context = context-good (m .control) (m .context) (range .context) (q .known) (q .knownWithin) }
+      record {
+        fit = q .fit;
+        control = control-good (m .control) (m .context) (range .control) (q .known);
+        context = context-good (m .control) (m .context) (range .context) (q .known) (q .knownWithin);
+      }
 
 delete-good : (d : D.Delete) (x : Besides) (l : List Sent) → EbiInRange (d .ebi) → every fits l ≡ true
     → knownOf deleteNames l ≡ deleteFields (d .ebi) x → GoodDelete l d

@@ -179,7 +179,8 @@ unfolding sameOctets
 same-itself [] = refl
 same-itself (x ∷ l) = rw (eq-eqb x x refl) (same-itself l)
 
-pub named-point : (l : List AccessPoint) (i : ℕ) (x : AccessPoint) → namesDiffer l ≡ true → i < length l → namedIn l (nameOf (getD l i x)) ≡ N.Point i
+pub named-point : (l : List AccessPoint) (i : ℕ) (x : AccessPoint) → namesDiffer l ≡ true → i < length l
+    → namedIn l (nameOf (getD l i x)) ≡ N.Point i
 unfolding namedIn goesBy sameName
 named-point l i x n h =
     let d = nameOf (getD l i x) in

@@ -1,5 +1,5 @@
--- A well-formed Create, Modify or Delete is read: fields in any order, unknown ones among them, octets behind each value; whenever the first field of
--- each type and instance in document 01's list has a value as the paper asks, the request is sound and holds what those values mean.
+-- A well-formed Create, Modify or Delete is read: fields in any order, unknown ones among them, octets behind each value; whenever the first field
+-- of each type and instance in document 01's list has a value as the paper asks, the request is sound and holds what those values mean.
 -- Assumes nothing.
 use Prim.Native.Nat.{ℕ, _≤_}
 use mathlib.Core.Bool.{true, false}
@@ -29,7 +29,8 @@ use Rattle.requests.specs.declared.Decoded.the-variants.{Sound}
 use Rattle.requests.specs.Create.{createOf}
 use Rattle.changes.specs.Change.{modifyOf, deleteOf}
 use Rattle.promises.specs.Values.{ImsiValue, RatValue, TunnelValue, ApnValue, PaaValue, EbiValue, QosValue, recoverySent, Has}
-use Rattle.promises.specs.Values.{found, imsi-sent, rat-sent, tunnel-sent, tunnel-lacks, paa-sent, ebi-octet, ebi-sent, qos-sent, recovery-sent, named-point, plan-names}
+use Rattle.promises.specs.Values.{found, imsi-sent, rat-sent, tunnel-sent, tunnel-lacks, paa-sent}
+use Rattle.promises.specs.Values.{ebi-octet, ebi-sent, qos-sent, recovery-sent, named-point, plan-names}
 use Rattle.promises.specs.Sent.{Sent, fits, written, Value, Of, None, firstOf, SentIsFound, sent-is-found}
 
 -- ---- a well-formed Create: the paper's list; in the Bearer Context fields of the same form
@@ -123,7 +124,8 @@ module _ (l : List Sent) (fit : every fits l ≡ true) where
   whole-either (Of v) e w = whole-with v (w .fields) e (w .octets) (w .fit)
 
 -- ---- laws: one request
-create-good : (plan : Plan) (l : List Sent) (c : C.Create) → accepted plan ≡ true → GoodCreate plan l c → createOf plan (written l) ≡ Sound (Create c)
+create-good : (plan : Plan) (l : List Sent) (c : C.Create) → accepted plan ≡ true → GoodCreate plan l c
+    → createOf plan (written l) ≡ Sound (Create c)
 unfolding createOf
 create-good plan l c p g =
     let b = g .bearer .good in
