@@ -14,9 +14,11 @@ use Rattle.octets.specs.Choice.{pick}
 use Rattle.octets.specs.BigEndian.{numberOf, numberFrom, octetsOf, number-back}
 use Rattle.messages.specs.Types.{echoType, echoReplyType, versionType, createReplyType, modifyReplyType, bearerType}
 use Rattle.messages.specs.Messages as messages
-use Rattle.messages.specs.Messages.{headerTo, versionNotSupported, causeField, faultField, tunnelField, ebiField, causeReply, faultReply, createAccepted, modifyBearer, deleteBearer, userEcho, errorIndication}
+use Rattle.messages.specs.Messages.{headerTo, versionNotSupported, causeField, faultField, tunnelField, ebiField, causeReply}
+use Rattle.messages.specs.Messages.{faultReply, createAccepted, modifyBearer, deleteBearer, userEcho, errorIndication}
 use Rattle.header.specs.Types.{bareTypes, tunnelTypes, notTaken, flagOf}
-use Rattle.header.specs.Header.{versionOf, flagP, flagT, kindOf, lengthOf, withTeid, teidOctets, teidOf, sequenceOf, sequenceBehind, sequenceBare, headerSize, headerOf}
+use Rattle.header.specs.Header.{versionOf, flagP, flagT, kindOf, lengthOf, withTeid, teidOctets}
+use Rattle.header.specs.Header.{teidOf, sequenceOf, sequenceBehind, sequenceBare, headerSize, headerOf}
 use Rattle.header.specs.Gate.{gateOf, controlVersion}
 use Rattle.fields.specs.declared.Found.the-variants as F
 use Rattle.fields.specs.Walk.{part, fieldsFrom, overFrom, fieldsOf, overruns}
@@ -35,8 +37,8 @@ use Rattle.carried.specs.declared.BearerReply.the-variants as B
 use Rattle.gpdu.specs.Header as user
 use Rattle.promises.specs.Sent.{Holds}
 
--- ---- the header: version 2, P unset, the type, the length that is the size less 4, the TEID (0 where there is none), the sequence number, and where the
--- fields begin
+-- ---- the header: version 2, P unset, the type, the length that is the size less 4, the TEID (0 where there is none), the sequence number, and
+-- where the fields begin
 pub record HeaderRead (d : List ℕ) (kind teid sequence fields : ℕ) : Type 0 where
   pub version : versionOf d ≡ 2
   pub plain : flagP d ≡ 0
@@ -112,8 +114,8 @@ pub record DeleteBearerRead (teid seq ebi : ℕ) : Type 0 where
   pub runs : overIn (drop 12 (deleteBearer teid seq ebi)) ≡ false
   pub bearerEbi : ebiIn (drop 12 (deleteBearer teid seq ebi)) ≡ O.Value ebi
 
--- ---- the two replies of the user side: version 1 and PT 1; S is set, E and PN are not; the length is the size less 8; TEID 0; the type and the sequence
--- number; no extension header
+-- ---- the two replies of the user side: version 1 and PT 1; S is set, E and PN are not; the length is the size less 8; TEID 0; the type and the
+-- sequence number; no extension header
 pub record UserHeaderRead (d : List ℕ) (type seq : ℕ) : Type 0 where
   pub ours : user.ours (getD d 0 0) ≡ true
   pub sequenced : user.sequenced (getD d 0 0) ≡ true
@@ -144,9 +146,11 @@ pub record WrittenIsRead : Type 0 where
   pub version : VersionRead
   pub echo : (seq recovery : ℕ) → Seq seq → EchoRead seq recovery
   pub cause : (type teid seq cause field instance : ℕ) → Word teid → Seq seq → CauseRead type teid seq cause field instance
-  pub create : (teid seq control controladdr address ebi user useraddr recovery : ℕ) → Word teid → Seq seq → Word control → 0 < control → Word controladdr → Word address
+  pub create : (teid seq control controladdr address ebi user useraddr recovery : ℕ) → Word teid → Seq seq
+      → Word control → 0 < control → Word controladdr → Word address
       → 5 ≤ ebi → ebi ≤ 15 → Word user → 0 < user → Word useraddr
-      → CreateRead (createAccepted teid seq control controladdr address ebi user useraddr recovery) teid seq control controladdr address ebi user useraddr recovery
+      → CreateRead (createAccepted teid seq control controladdr address ebi user useraddr recovery)
+      teid seq control controladdr address ebi user useraddr recovery
   pub modify : (teid seq ebi : ℕ) → Word teid → Seq seq → 5 ≤ ebi → ebi ≤ 15 → ModifyRead teid seq ebi
   pub deleteBearer : (teid seq ebi : ℕ) → Word teid → Seq seq → 5 ≤ ebi → ebi ≤ 15 → DeleteBearerRead teid seq ebi
   pub userEcho : (seq : ℕ) → seq < 65536 → UserEchoRead (userEcho seq) seq
@@ -154,11 +158,13 @@ pub record WrittenIsRead : Type 0 where
 
 -- ---- laws
 -- a header with a TEID, whatever follows
-pub header-back : (type teid seq : ℕ) (size : ℕ) (l : List ℕ) → Word teid → Seq seq → headerOf (headerTo type size teid seq ++ l) ≡ record { kind = type; teid = teid; sequence = seq; fields = 12 }
+pub header-back : (type teid seq : ℕ) (size : ℕ) (l : List ℕ) → Word teid → Seq seq
+    → headerOf (headerTo type size teid seq ++ l) ≡ record { kind = type; teid = teid; sequence = seq; fields = 12 }
 unfolding headerTo headerOf kindOf teidOf teidOctets sequenceOf sequenceBehind headerSize withTeid flagT octetsOf numberOf numberFrom
 header-back type teid seq size l h k = rw (number-back 4 teid h, number-back 3 seq k)
 
-bare-back : (type seq recovery : ℕ) → Seq seq → headerOf (messages.echoOf type seq recovery) ≡ record { kind = type; teid = 0; sequence = seq; fields = 8 }
+bare-back : (type seq recovery : ℕ) → Seq seq
+    → headerOf (messages.echoOf type seq recovery) ≡ record { kind = type; teid = 0; sequence = seq; fields = 8 }
 unfolding messages.echoOf headerOf kindOf teidOf sequenceOf sequenceBare headerSize withTeid flagT octetsOf numberOf numberFrom
 bare-back type seq recovery k = rw (number-back 3 seq k)
 
@@ -167,7 +173,8 @@ tunnel-back : (flags interface teid addr : ℕ) → leb 128 flags ≡ true → e
 unfolding tunnelOf tunnelSize tunnelGood wordAt octetsOf numberOf numberFrom
 tunnel-back flags interface teid addr f i z h k = rw (f, i, number-back 4 teid h, number-back 4 addr k, lt-ltb 0 teid z)
 
-tunnel-found : (s : List ℕ) (instance interface start size : ℕ) (v : List ℕ) (r : Tunnel) → find s tunnelKind instance ≡ F.At start size → part s start size ≡ v → tunnelOf v interface ≡ r
+tunnel-found : (s : List ℕ) (instance interface start size : ℕ) (v : List ℕ) (r : Tunnel) → find s tunnelKind instance ≡ F.At start size
+    → part s start size ≡ v → tunnelOf v interface ≡ r
     → tunnelIn s instance interface ≡ r
 unfolding tunnelIn tunnelAt
 tunnel-found s instance interface start size v r e f g = rw (e, f) g
@@ -176,7 +183,9 @@ ebi-back : (ebi : ℕ) → 5 ≤ ebi → ebi ≤ 15 → pick (ltb (ebi % 16) 5) 
 ebi-back ebi a b = let m : ebi % 16 ≡ ebi = omega arith in rw (m, le-ltb ebi 5 a)
 
 echo-read : (seq recovery : ℕ) → Seq seq → EchoRead seq recovery
-unfolding messages.echoOf gateOf versionOf lengthOf flagP flagT kindOf flagOf bareTypes tunnelTypes notTaken teidOf withTeid headerSize controlVersion octetsOf numberOf numberFrom carried.echoOf carried.echoReplyOf overIn overWithin overruns overFrom recoveryIn recoveryOf octetIn octetAt find firstIn fieldsOf fieldsFrom
+unfolding messages.echoOf gateOf versionOf lengthOf flagP flagT kindOf flagOf bareTypes tunnelTypes notTaken teidOf withTeid headerSize
+    controlVersion octetsOf numberOf numberFrom carried.echoOf carried.echoReplyOf overIn overWithin overruns overFrom recoveryIn recoveryOf
+    octetIn octetAt find firstIn fieldsOf fieldsFrom
 echo-read seq recovery h = record {
   asks = record { version = refl; plain = refl; whole = refl; header = bare-back echoType seq recovery h };
   answers = record { version = refl; plain = refl; whole = refl; header = bare-back echoReplyType seq recovery h };
@@ -189,7 +198,8 @@ echo-read seq recovery h = record {
 }
 
 cause-read : (type teid seq cause field instance : ℕ) → Word teid → Seq seq → CauseRead type teid seq cause field instance
-unfolding causeReply faultReply causeField faultField headerTo versionOf flagP lengthOf octetsOf numberOf numberFrom carried.bearerReplyOf carried.causeOf overIn overWithin overruns overFrom octetIn octetAt find firstIn fieldsOf fieldsFrom
+unfolding causeReply faultReply causeField faultField headerTo versionOf flagP lengthOf octetsOf numberOf numberFrom carried.bearerReplyOf
+    carried.causeOf overIn overWithin overruns overFrom octetIn octetAt find firstIn fieldsOf fieldsFrom
 cause-read type teid seq cause field instance h k = record {
   bare = record { version = refl; plain = refl; whole = refl; header = header-back type teid seq 14 (causeField cause) h k };
   named = record { version = refl; plain = refl; whole = refl; header = header-back type teid seq 18 (faultField cause field instance) h k };
@@ -202,33 +212,42 @@ cause-read type teid seq cause field instance h k = record {
 }
 
 modify-read : (teid seq ebi : ℕ) → Word teid → Seq seq → 5 ≤ ebi → ebi ≤ 15 → ModifyRead teid seq ebi
-unfolding modifyBearer causeField ebiField headerTo versionOf flagP lengthOf octetsOf numberOf numberFrom overIn overWithin overruns overFrom ebiIn octetIn octetAt find firstIn fieldsOf fieldsFrom
+unfolding modifyBearer causeField ebiField headerTo versionOf flagP lengthOf octetsOf numberOf numberFrom overIn overWithin overruns
+    overFrom ebiIn octetIn octetAt find firstIn fieldsOf fieldsFrom
 modify-read teid seq ebi h k a b = record {
-  header = record { version = refl; plain = refl; whole = refl; header = header-back modifyReplyType teid seq 29 (causeField 16 ++ (0x5D ∷ 0 ∷ 11 ∷ 0 ∷ []) ++ ebiField ebi ++ causeField 16) h k };
+  header = record { version = refl; plain = refl; whole = refl; header = head };
   runs = refl;
   cause = refl;
   bearerAt = refl;
   bearerEbi = ebi-back ebi a b;
   bearerCause = refl;
 }
+  where
+    head : headerOf (modifyBearer teid seq ebi) ≡ record { kind = modifyReplyType; teid = teid; sequence = seq; fields = 12 }
+    head = header-back modifyReplyType teid seq 29 (drop 12 (modifyBearer teid seq ebi)) h k
 
 delete-bearer-read : (teid seq ebi : ℕ) → Word teid → Seq seq → 5 ≤ ebi → ebi ≤ 15 → DeleteBearerRead teid seq ebi
-unfolding deleteBearer ebiField headerTo versionOf flagP lengthOf octetsOf numberOf numberFrom overIn overWithin overruns overFrom ebiIn octetIn octetAt find firstIn fieldsOf fieldsFrom
+unfolding deleteBearer ebiField headerTo versionOf flagP lengthOf octetsOf numberOf numberFrom overIn overWithin overruns overFrom ebiIn
+    octetIn octetAt find firstIn fieldsOf fieldsFrom
 delete-bearer-read teid seq ebi h k a b = record {
   header = record { version = refl; plain = refl; whole = refl; header = header-back bearerType teid seq 13 (ebiField ebi) h k };
   runs = refl;
   bearerEbi = ebi-back ebi a b;
 }
 
-create-read : (teid seq control controladdr address ebi user useraddr recovery : ℕ) → Word teid → Seq seq → Word control → 0 < control → Word controladdr → Word address
+create-read : (teid seq control controladdr address ebi user useraddr recovery : ℕ) → Word teid → Seq seq
+    → Word control → 0 < control → Word controladdr → Word address
     → 5 ≤ ebi → ebi ≤ 15 → Word user → 0 < user → Word useraddr
-    → CreateRead (createAccepted teid seq control controladdr address ebi user useraddr recovery) teid seq control controladdr address ebi user useraddr recovery
-unfolding createAccepted causeField tunnelField ebiField headerTo versionOf flagP lengthOf octetsOf numberOf numberFrom overIn overWithin overruns overFrom paaIn ebiIn recoveryIn recoveryOf octetIn octetAt find firstIn fieldsOf fieldsFrom wordAt
+    → CreateRead (createAccepted teid seq control controladdr address ebi user useraddr recovery)
+    teid seq control controladdr address ebi user useraddr recovery
+unfolding createAccepted causeField tunnelField ebiField headerTo versionOf flagP lengthOf octetsOf numberOf numberFrom overIn overWithin
+    overruns overFrom paaIn ebiIn recoveryIn recoveryOf octetIn octetAt find firstIn fieldsOf fieldsFrom wordAt
 create-read teid seq control controladdr address ebi user useraddr recovery h k hc zc ha hd a b hu zu hv = record {
   header = record { version = refl; plain = refl; whole = refl; header = head };
   runs = refl;
   cause = refl;
-  controlTunnel = tunnel-found rest 1 7 10 9 (0x87 ∷ octetsOf 4 control ++ octetsOf 4 controladdr) (T.Value control controladdr) refl refl (tunnel-back 0x87 7 control controladdr refl refl zc hc ha);
+  controlTunnel = tunnel-found rest 1 7 10 9 (0x87 ∷ octetsOf 4 control ++ octetsOf 4 controladdr) (T.Value control controladdr) refl refl
+      (tunnel-back 0x87 7 control controladdr refl refl zc hc ha);
   paa = refl;
   paaAt = refl;
   pdnAddress = number-back 4 address hd;
@@ -236,18 +255,21 @@ create-read teid seq control controladdr address ebi user useraddr recovery h k 
   bearerAt = refl;
   bearerEbi = ebi-back ebi a b;
   bearerCause = refl;
-  userTunnel = tunnel-found (part rest 37 24) 2 5 15 9 (0x85 ∷ octetsOf 4 user ++ octetsOf 4 useraddr) (T.Value user useraddr) refl refl (tunnel-back 0x85 5 user useraddr refl refl zu hu hv);
+  userTunnel = tunnel-found (part rest 37 24) 2 5 15 9 (0x85 ∷ octetsOf 4 user ++ octetsOf 4 useraddr) (T.Value user useraddr) refl refl
+      (tunnel-back 0x85 5 user useraddr refl refl zu hu hv);
   recoveryValue = refl;
 }
   where
     rest : List ℕ
     rest = drop 12 (createAccepted teid seq control controladdr address ebi user useraddr recovery)
 
-    head : headerOf (createAccepted teid seq control controladdr address ebi user useraddr recovery) ≡ record { kind = createReplyType; teid = teid; sequence = seq; fields = 12 }
-    head = header-back createReplyType teid seq 74 (drop 12 (createAccepted teid seq control controladdr address ebi user useraddr recovery)) h k
+    head : headerOf (createAccepted teid seq control controladdr address ebi user useraddr recovery)
+        ≡ record { kind = createReplyType; teid = teid; sequence = seq; fields = 12 }
+    head = header-back createReplyType teid seq 74 rest h k
 
 version-read : VersionRead
-unfolding versionNotSupported gateOf headerOf versionOf lengthOf flagP flagT kindOf flagOf bareTypes tunnelTypes notTaken teidOf sequenceOf sequenceBare withTeid headerSize controlVersion numberOf numberFrom
+unfolding versionNotSupported gateOf headerOf versionOf lengthOf flagP flagT kindOf flagOf bareTypes tunnelTypes notTaken teidOf sequenceOf
+    sequenceBare withTeid headerSize controlVersion numberOf numberFrom
 version-read = record { header = record { version = refl; plain = refl; whole = refl; header = refl }; headerTaken = refl; bare = refl }
 
 user-echo-read : (seq : ℕ) → seq < 65536 → UserEchoRead (userEcho seq) seq
