@@ -7,6 +7,10 @@ use Rattle.promises.specs.Kept.{CallsKeep, calls-keep}
 use Rattle.promises.specs.Pairs.{PairsHold, pairs-hold}
 use Rattle.promises.specs.Answers.{CreateAnswers, ModifyAnswers, DeleteAnswers, CreatesSound, ModifiesSound, ValuesAreTheirOctets, create-answers, modify-answers, delete-answers, creates-sound, modifies-sound, values-are-their-octets}
 use Rattle.promises.specs.Written.{WrittenIsRead, written-is-read}
+use Rattle.promises.specs.Sent.{SentIsFound, sent-is-found}
+use Rattle.promises.specs.Wellformed.{GoodIsRead, good-is-read}
+use Rattle.promises.specs.Encoded.{EncodedIsRead, encoded-is-read}
+use Rattle.promises.specs.Datagrams.{DatagramsTaken, datagrams-taken}
 use Rattle.promises.specs.Packets.{LiveOnly, AllCarried, live-only, all-carried}
 use Rattle.promises.specs.Repeats.{RepeatsAnswered, AgainTheSame, repeats-answered, again-the-same}
 use Rattle.promises.specs.InTime.{FreedInTime, NothingDue, freed-in-time, nothing-due}
@@ -37,6 +41,10 @@ pub record Demand2 : Type 0 where
   pub created : CreatesSound
   pub modified : ModifiesSound
   pub octets : ValuesAreTheirOctets
+  pub sent : SentIsFound
+  pub read : GoodIsRead
+  pub encoded : EncodedIsRead
+  pub datagrams : DatagramsTaken
   pub written : WrittenIsRead
   pub handedUp : LiveOnly
   pub carried : AllCarried
@@ -82,6 +90,10 @@ demand-2 = record {
   created = creates-sound;
   modified = modifies-sound;
   octets = values-are-their-octets;
+  sent = sent-is-found;
+  read = good-is-read;
+  encoded = encoded-is-read;
+  datagrams = datagrams-taken;
   written = written-is-read;
   handedUp = live-only;
   carried = all-carried;

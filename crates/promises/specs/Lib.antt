@@ -2,6 +2,9 @@ pub mod Answers
 pub mod Bounds
 pub mod Counts
 pub mod Creates
+pub mod Datagrams
+pub mod Encoded
+pub mod Encoder
 pub mod Examples
 pub mod Impossible
 pub mod InTime
@@ -15,9 +18,12 @@ pub mod Refusals
 pub mod Repeats
 pub mod Resends
 pub mod Run
+pub mod Sent
 pub mod Share
 pub mod Stays
 pub mod Ticks
 pub mod UserNumbers
+pub mod Values
+pub mod Wellformed
 pub mod Written
 pub mod Demands

@@ -1,0 +1,209 @@
+-- A well-formed Create, Modify or Delete is read: fields in any order, unknown ones among them, octets behind each value; whenever the first field
+-- of each type and instance in document 01's list has a value as the paper asks, the request is sound and holds what those values mean.
+-- Assumes nothing.
+use Prim.Native.Nat.{ℕ, _≤_}
+use mathlib.Core.Bool.{true, false}
+use mathlib.Core.List.{List}
+use mathlib.Core.Path.{_≡_, refl, _∙_}
+use lib.ListN.{length}
+use Rattle.octets.specs.Every.{every}
+use Rattle.fields.specs.Overrun.{overIn, over-no-bearer, over-bearer}
+use Rattle.values.specs.declared.Tunnel.{Tunnel}
+use Rattle.values.specs.declared.Tunnel.the-variants as T
+use Rattle.readers.specs.Kinds.{imsiKind, ratKind, tunnelKind, apnKind, paaKind, bearerKind, ebiKind, qosKind, recoveryKind}
+use Rattle.readers.specs.Readers.{octetAt, octetIn, tunnelIn}
+use Rattle.plan.specs.declared.Plan.{Plan}
+use Rattle.plan.specs.Limits.{used, noPoint}
+use Rattle.plan.specs.Plan.{accepted}
+use Rattle.requests.specs.declared.Create as C
+use Rattle.requests.specs.declared.Modify as M
+use Rattle.requests.specs.declared.Delete as D
+use Rattle.requests.specs.declared.Peer.{Peer}
+use Rattle.requests.specs.declared.Peer.the-variants as P
+use Rattle.requests.specs.declared.Context.{Context}
+use Rattle.requests.specs.declared.Context.the-variants as X
+use Rattle.requests.specs.declared.Ebi.{Ebi}
+use Rattle.requests.specs.declared.Ebi.the-variants as E
+use Rattle.requests.specs.declared.Request.the-variants.{Create, Modify, Delete}
+use Rattle.requests.specs.declared.Decoded.the-variants.{Sound}
+use Rattle.requests.specs.Create.{createOf}
+use Rattle.changes.specs.Change.{modifyOf, deleteOf}
+use Rattle.promises.specs.Values.{ImsiValue, RatValue, TunnelValue, ApnValue, PaaValue, EbiValue, QosValue, recoverySent, Has}
+use Rattle.promises.specs.Values.{found, imsi-sent, rat-sent, tunnel-sent, tunnel-lacks, paa-sent}
+use Rattle.promises.specs.Values.{ebi-octet, ebi-sent, qos-sent, recovery-sent, named-point, plan-names}
+use Rattle.promises.specs.Sent.{Sent, fits, written, Value, Of, None, firstOf, SentIsFound, sent-is-found}
+
+-- ---- a well-formed Create: the paper's list; in the Bearer Context fields of the same form
+pub record CreateBearer (c : C.Create) (v : List ℕ) : Type 0 where
+  pub fields : List Sent
+  pub fit : every fits fields ≡ true
+  pub ebi : Has fields ebiKind 0 (EbiValue (c .ebi))
+  pub five : 5 ≤ c .ebi
+  pub user : Has fields tunnelKind 2 (TunnelValue 4 (c .user) (c .useraddr))
+  pub qos : Has fields qosKind 0 QosValue
+  pub octets : v ≡ written fields
+
+pub record GoodCreate (plan : Plan) (l : List Sent) (c : C.Create) : Type 0 where
+  pub fit : every fits l ≡ true
+  pub imsi : Has l imsiKind 0 (ImsiValue (c .imsi))
+  pub rat : Has l ratKind 0 RatValue
+  pub control : Has l tunnelKind 0 (TunnelValue 6 (c .control) (c .controladdr))
+  pub apn : Has l apnKind 0 (ApnValue plan (c .point))
+  pub paa : Has l paaKind 0 PaaValue
+  pub bearer : Has l bearerKind 0 (CreateBearer c)
+  pub recovery : recoverySent (firstOf l recoveryKind 0) ≡ c .recovery
+
+-- ---- a well-formed Modify: Sender F-TEID and Bearer Context, each if present; in this the EBI, and the F-TEID if present
+unfoldable pub ControlSent : List Sent → Peer → Type 0
+ControlSent l P.Same = firstOf l tunnelKind 0 ≡ None
+ControlSent l (P.New teid addr) = Has l tunnelKind 0 (TunnelValue 6 teid addr)
+
+unfoldable pub UserSent : List Sent → Tunnel → Type 0
+UserSent b T.Missing = firstOf b tunnelKind 1 ≡ None
+UserSent b (T.Value teid addr) = Has b tunnelKind 1 (TunnelValue 4 teid addr)
+UserSent b T.Short = ⊥
+UserSent b T.Wrong = ⊥
+
+pub record ModifyBearer (ebi : ℕ) (user : Tunnel) (v : List ℕ) : Type 0 where
+  pub fields : List Sent
+  pub fit : every fits fields ≡ true
+  pub its : Has fields ebiKind 0 (EbiValue ebi)
+  pub five : 5 ≤ ebi
+  pub tunnel : UserSent fields user
+  pub octets : v ≡ written fields
+
+unfoldable pub ContextSent : List Sent → Context → Type 0
+ContextSent l X.Absent = firstOf l bearerKind 0 ≡ None
+ContextSent l (X.Present ebi user) = Has l bearerKind 0 (ModifyBearer ebi user)
+
+pub record GoodModify (l : List Sent) (m : M.Modify) : Type 0 where
+  pub fit : every fits l ≡ true
+  pub control : ControlSent l (m .control)
+  pub context : ContextSent l (m .context)
+
+-- ---- a well-formed Delete: EBI if present; a Bearer Context is not looked at, but has whole fields too
+unfoldable pub EbiSent : List Sent → Ebi → Type 0
+EbiSent l E.Absent = firstOf l ebiKind 0 ≡ None
+EbiSent l (E.Given ebi) = Has l ebiKind 0 (EbiValue ebi)
+
+pub record WholeFields (v : List ℕ) : Type 0 where
+  pub fields : List Sent
+  pub fit : every fits fields ≡ true
+  pub octets : v ≡ written fields
+
+unfoldable pub WholeBearer : Value → Type 0
+WholeBearer None = Unit {0}
+WholeBearer (Of v) = WholeFields v
+
+pub record GoodDelete (l : List Sent) (d : D.Delete) : Type 0 where
+  pub fit : every fits l ≡ true
+  pub ebi : EbiSent l (d .ebi)
+  pub bearer : WholeBearer (firstOf l bearerKind 0)
+
+-- ---- the promise: what is well-formed is read, and holds what was meant
+pub record GoodIsRead : Type 0 where
+  pub create : (plan : Plan) (l : List Sent) (c : C.Create) → accepted plan ≡ true → GoodCreate plan l c
+      → createOf plan (written l) ≡ Sound (Create c)
+  pub modify : (l : List Sent) (m : M.Modify) → GoodModify l m → modifyOf (written l) ≡ Sound (Modify m)
+  pub delete : (l : List Sent) (d : D.Delete) → GoodDelete l d → deleteOf (written l) ≡ Sound (Delete d)
+
+-- ---- laws: no overrun
+module _ (l : List Sent) (fit : every fits l ≡ true) where
+  whole-without : firstOf l bearerKind 0 ≡ None → overIn (written l) ≡ false
+  whole-without e = over-no-bearer (written l) (found l fit .whole) (found l fit .missing bearerKind 0 e)
+
+  whole-with : (v : List ℕ) (b : List Sent) → firstOf l bearerKind 0 ≡ Of v → v ≡ written b → every fits b ≡ true → overIn (written l) ≡ false
+  unfolding SentIsFound
+  whole-with v b e f w =
+      let r = found l fit .held bearerKind 0 v e in
+      over-bearer (written l) (r .start) (length v) (found l fit .whole) (r .found) ∙ rw (r .octets, f) (sent-is-found b w .whole)
+
+  whole-either : (m : Value) → firstOf l bearerKind 0 ≡ m → WholeBearer m → overIn (written l) ≡ false
+  unfolding WholeBearer
+  whole-either None e w = whole-without e
+  whole-either (Of v) e w = whole-with v (w .fields) e (w .octets) (w .fit)
+
+-- ---- laws: one request
+create-good : (plan : Plan) (l : List Sent) (c : C.Create) → accepted plan ≡ true → GoodCreate plan l c
+    → createOf plan (written l) ≡ Sound (Create c)
+unfolding createOf
+create-good plan l c p g =
+    let b = g .bearer .good in
+    let at = found l (g .fit) .held bearerKind 0 (g .bearer .value) (g .bearer .first) in
+    let apn = found l (g .fit) .held apnKind 0 (g .apn .value) (g .apn .first) in
+    let name = g .apn .good in
+    rw (
+      whole-with l (g .fit) (g .bearer .value) (b .fields) (g .bearer .first) (b .octets) (b .fit),
+      imsi-sent l (g .fit) (c .imsi) (g .imsi),
+      rat-sent l (g .fit) (g .rat),
+      tunnel-sent l (g .fit) 0 6 (c .control) (c .controladdr) (g .control),
+      apn .found,
+      paa-sent l (g .fit) (g .paa),
+      at .found,
+      at .octets,
+      b .octets,
+      ebi-sent (b .fields) (b .fit) (c .ebi) (b .five) (b .ebi),
+      tunnel-sent (b .fields) (b .fit) 2 4 (c .user) (c .useraddr) (b .user),
+      qos-sent (b .fields) (b .fit) (b .qos),
+      apn .octets,
+      name .octets,
+      named-point (used plan) (c .point) noPoint (plan-names plan p) (name .known),
+      recovery-sent l (g .fit) (firstOf l recoveryKind 0) refl,
+      g .recovery,
+    )
+
+modify-good : (l : List Sent) (m : M.Modify) → GoodModify l m → modifyOf (written l) ≡ Sound (Modify m)
+unfolding modifyOf ControlSent UserSent ContextSent
+modify-good l m g = by (m .control) (m .context) (g .control) (g .context)
+  where
+    within : (b : List Sent) → every fits b ≡ true → (t : Tunnel) → UserSent b t → tunnelIn (written b) 1 4 ≡ t
+    within b fit T.Missing h = tunnel-lacks b fit 1 4 h
+    within b fit (T.Value teid addr) h = tunnel-sent b fit 1 4 teid addr h
+    within b fit T.Short h = absurd h
+    within b fit T.Wrong h = absurd h
+
+    by : (p : Peer) (x : Context) → ControlSent l p → ContextSent l x → modifyOf (written l) ≡ Sound (Modify (record { control = p; context = x }))
+    by P.Same X.Absent h k =
+        rw (whole-without l (g .fit) k, tunnel-lacks l (g .fit) 0 6 h, found l (g .fit) .missing bearerKind 0 k)
+    by (P.New teid addr) X.Absent h k =
+        rw (whole-without l (g .fit) k, tunnel-sent l (g .fit) 0 6 teid addr h, found l (g .fit) .missing bearerKind 0 k)
+    by P.Same (X.Present ebi user) h k =
+        let b = k .good in
+        let at = found l (g .fit) .held bearerKind 0 (k .value) (k .first) in
+        rw (
+          whole-with l (g .fit) (k .value) (b .fields) (k .first) (b .octets) (b .fit),
+          tunnel-lacks l (g .fit) 0 6 h,
+          at .found,
+          at .octets,
+          b .octets,
+          ebi-sent (b .fields) (b .fit) ebi (b .five) (b .its),
+          within (b .fields) (b .fit) user (b .tunnel),
+        )
+    by (P.New teid addr) (X.Present ebi user) h k =
+        let b = k .good in
+        let at = found l (g .fit) .held bearerKind 0 (k .value) (k .first) in
+        rw (
+          whole-with l (g .fit) (k .value) (b .fields) (k .first) (b .octets) (b .fit),
+          tunnel-sent l (g .fit) 0 6 teid addr h,
+          at .found,
+          at .octets,
+          b .octets,
+          ebi-sent (b .fields) (b .fit) ebi (b .five) (b .its),
+          within (b .fields) (b .fit) user (b .tunnel),
+        )
+
+delete-good : (l : List Sent) (d : D.Delete) → GoodDelete l d → deleteOf (written l) ≡ Sound (Delete d)
+unfolding deleteOf EbiSent octetIn octetAt
+delete-good l d g = by (d .ebi) (g .ebi)
+  where
+    by : (x : Ebi) → EbiSent l x → deleteOf (written l) ≡ Sound (Delete (record { ebi = x }))
+    by E.Absent h = rw (whole-either l (g .fit) (firstOf l bearerKind 0) refl (g .bearer), found l (g .fit) .missing ebiKind 0 h)
+    by (E.Given ebi) h =
+        rw (whole-either l (g .fit) (firstOf l bearerKind 0) refl (g .bearer), ebi-octet l (g .fit) ebi h, h .good .low)
+
+pub good-is-read : GoodIsRead
+good-is-read = record {
+  create = create-good;
+  modify = modify-good;
+  delete = delete-good;
+}
