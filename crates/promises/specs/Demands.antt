@@ -15,6 +15,7 @@ use Rattle.promises.specs.InTime.{FreedInTime, NothingDue, freed-in-time
 use Rattle.promises.specs.Ticks.{EveryTickCounts, every-tick-counts}
 use Rattle.promises.specs.Impossible.{NotAllRefused, NotOneReply, CountedFromRecords, not-all-refused, not-one-reply, counted-from-records}
 use Rattle.promises.specs.Bounds.{RulesHold, NeitherTwoNorEleven, CeilingsKept, NoneShared, rules-hold, neither-two-nor-eleven, ceilings-kept, none-shared}
+use Rattle.promises.specs.Hosts.{HostsRun, hosts-run}
 use Rattle.promises.specs.Share.{RefusalsJust, GuaranteesKept, FreedIsRoom, refusals-just, guarantees-kept, freed-is-room}
 
 -- 1. Every datagram, table and plan gets an answer, and the call ends; for each refusal it is fixed which number comes, and what buffer and
@@ -52,6 +53,7 @@ pub record Demand2 : Type 0 where
 
 -- 3. A rented place stays rented: from a fresh table under an accepted plan, after any run of calls
 pub record Demand3 : Type 0 where
+  pub hosts : HostsRun
   pub keep : CallsKeep
   pub rules : RulesHold
   pub neither : NeitherTwoNorEleven
@@ -98,6 +100,7 @@ demand-2 = record {
 
 pub demand-3 : Demand3
 demand-3 = record {
+  hosts = hosts-run;
   keep = calls-keep;
   rules = rules-hold;
   neither = neither-two-nor-eleven;

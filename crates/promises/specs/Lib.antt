@@ -4,6 +4,7 @@ pub mod Bounds
 pub mod Counts
 pub mod Creates
 pub mod Examples
+pub mod Hosts
 pub mod Impossible
 pub mod InTime
 pub mod Kept
