@@ -5,7 +5,7 @@
 use Prim.Native.Nat.{ℕ, suc, _<_}
 use mathlib.Core.Bool.{true}
 use mathlib.Core.List.{List, [], _∷_}
-use mathlib.Core.Path.{_≡_, refl, sym, _∙_, ap}
+use mathlib.Core.Path.{_≡_, refl, _∙_, ap}
 use lib.ListN.{length, getD}
 use borrow.Author.Tests.{lt-ltb}
 use Rattle.octets.specs.Every.{every}
@@ -22,7 +22,6 @@ use Rattle.placeline.specs.Line.{lineOf}
 use Rattle.userside.specs.UserSide.{userTaken}
 use Rattle.lentuser.specs.declared.Handed.{Handed}
 use Rattle.lentuser.specs.Lent.{Parcel, parcel, parcelOf}
-use Rattle.promises.specs.Kept.{LineLeaves, calls-keep}
 use Rattle.promises.specs.Run.{left, Event, control, user, tick, send, close, line, step, answered, run, start, reached, ofOctets}
 use Rattle.promises.specs.Run.{Run, Kept, fresh-starts, run-keeps}
 
@@ -74,7 +73,7 @@ module _ (k : State) (r : Answer) (x : List ℕ) (o : Outcome) (e : outcome r (k
   stored = rw (← e, ← s)
 
 called-step : (e : Event) (h k : State) (n : ℕ) → Called e h k n → k ≡ step e h
-unfolding Called step LineLeaves left
+unfolding Called step
 called-step (control d reply) h k n c = stored k (c .1) (c .2) (controlTaken (h .node) (h .table) d reply) (c .3) (c .4 .0)
 called-step (user d reply) h k n c = c .3
 called-step tick h k n c = stored k (c .0) [] (tickOf (h .node) (h .table)) (c .1) (c .2 .0)

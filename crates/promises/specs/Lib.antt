@@ -8,6 +8,7 @@ pub mod Hosts
 pub mod Impossible
 pub mod InTime
 pub mod Kept
+pub mod Leaves
 pub mod LentAgree
 pub mod Numbers
 pub mod Packets
