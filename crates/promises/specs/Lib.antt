@@ -16,6 +16,7 @@ pub mod Pairs
 pub mod Place
 pub mod Refusals
 pub mod Repeats
+pub mod Rests
 pub mod Run
 pub mod Share
 pub mod Stays
