@@ -7,6 +7,7 @@ use Rattle.promises.specs.Counts.{OthersRefused, others-refused}
 use Rattle.promises.specs.Refusals.{NumbersKnown, NoEleven, TwoNever, TwoAlways, OneFirst, numbers-known, no-eleven, two-never, two-always, one-first}
 use Rattle.promises.specs.Leaves.{Leaves, all-leave}
 use Rattle.promises.specs.Rests.{RestsStay, rests-stay}
+use Rattle.promises.specs.Sixteen.{SixteenThenTwo, sixteen-then-two}
 use Rattle.promises.specs.Kept.{CallsKeep, calls-keep}
 use Rattle.promises.specs.Pairs.{PairsHold, pairs-hold}
 use Rattle.promises.specs.Answers.{CreateAnswers, ModifyAnswers, DeleteAnswers, CreatesSound, ModifiesSound, ValuesAreTheirOctets, create-answers, modify-answers, delete-answers, creates-sound, modifies-sound, values-are-their-octets}
@@ -32,6 +33,7 @@ pub record Demand1 : Type 0 where
   pub short : OneFirst
   pub leaves : Leaves
   pub rests : RestsStay
+  pub sixteen : SixteenThenTwo
   pub notRefused : NotAllRefused
 
 -- 2. Reading and writing follow the standards: the same fields, reply octets, tunnel numbers and resends; a user packet is handed up only under
@@ -80,6 +82,7 @@ demand-1 = record {
   short = one-first;
   leaves = all-leave;
   rests = rests-stay;
+  sixteen = sixteen-then-two;
   notRefused = not-all-refused;
 }
 

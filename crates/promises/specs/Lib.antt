@@ -19,6 +19,7 @@ pub mod Repeats
 pub mod Rests
 pub mod Run
 pub mod Share
+pub mod Sixteen
 pub mod Stays
 pub mod Ticks
 pub mod UserNumbers
