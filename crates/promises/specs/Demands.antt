@@ -12,7 +12,8 @@ use Rattle.promises.specs.Kept.{CallsKeep, calls-keep}
 use Rattle.promises.specs.Pairs.{PairsHold, pairs-hold}
 use Rattle.promises.specs.Answers.{CreateAnswers, ModifyAnswers, DeleteAnswers, CreatesSound, ModifiesSound, ValuesAreTheirOctets, create-answers, modify-answers, delete-answers, creates-sound, modifies-sound, values-are-their-octets}
 use Rattle.promises.specs.Written.{WrittenIsRead, written-is-read}
-use Rattle.promises.specs.Packets.{LiveOnly, AllCarried, live-only, all-carried}
+use Rattle.promises.specs.Packets.{LiveOnly, live-only}
+use Rattle.promises.specs.Carried.{AllCarried, all-carried}
 use Rattle.promises.specs.Repeats.{RepeatsAnswered, AgainTheSame, repeats-answered, again-the-same}
 use Rattle.promises.specs.InTime.{FreedInTime, NothingDue, freed-in-time, nothing-due}
 use Rattle.promises.specs.Ticks.{EveryTickCounts, every-tick-counts}

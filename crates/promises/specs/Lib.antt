@@ -1,6 +1,7 @@
 pub mod Agree
 pub mod Answers
 pub mod Bounds
+pub mod Carried
 pub mod Counts
 pub mod Creates
 pub mod Examples
