@@ -15,7 +15,8 @@ use Rattle.promises.specs.Written.{WrittenIsRead, written-is-read}
 use Rattle.promises.specs.Packets.{LiveOnly, live-only}
 use Rattle.promises.specs.Carried.{AllCarried, all-carried}
 use Rattle.promises.specs.Repeats.{RepeatsAnswered, AgainTheSame, repeats-answered, again-the-same}
-use Rattle.promises.specs.InTime.{FreedInTime, NothingDue, freed-in-time, nothing-due}
+use Rattle.promises.specs.InTime.{FreedInTime, freed-in-time}
+use Rattle.promises.specs.Ends.{SendsEnd, sends-end}
 use Rattle.promises.specs.Ticks.{EveryTickCounts, every-tick-counts}
 use Rattle.promises.specs.Impossible.{NotAllRefused, NotOneReply, CountedFromRecords, not-all-refused, not-one-reply, counted-from-records}
 use Rattle.promises.specs.Bounds.{RulesHold, NeitherTwoNorEleven, CeilingsKept, NoneShared, rules-hold, neither-two-nor-eleven, ceilings-kept, none-shared}
@@ -55,7 +56,7 @@ pub record Demand2 : Type 0 where
   pub again : AgainTheSame
   pub ticks : EveryTickCounts
   pub inTime : FreedInTime
-  pub allSent : NothingDue
+  pub allSent : SendsEnd
   pub notOneReply : NotOneReply
 
 -- 3. A rented place stays rented: from a fresh table under an accepted plan, after any run of calls
@@ -104,7 +105,7 @@ demand-2 = record {
   again = again-the-same;
   ticks = every-tick-counts;
   inTime = freed-in-time;
-  allSent = nothing-due;
+  allSent = sends-end;
   notOneReply = not-one-reply;
 }
 

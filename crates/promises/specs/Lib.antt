@@ -4,6 +4,7 @@ pub mod Bounds
 pub mod Carried
 pub mod Counts
 pub mod Creates
+pub mod Ends
 pub mod Examples
 pub mod Hosts
 pub mod Impossible
