@@ -87,7 +87,7 @@ unfoldable pub refusedOf : ℕ → C.Create → State → List ℕ → Outcome
 refusedOf seq c s reply = causeTaken createReplyType (c .control) seq noRoom (heard c s .node) (asked c s) reply
 
 -- ---- a Create comes to the sharing rule
-none-found : (p : Session → Bool) (l : List Session) → foundIn p l ≡ F.Nothing → length l ≤ firstOf p l
+pub none-found : (p : Session → Bool) (l : List Session) → foundIn p l ≡ F.Nothing → length l ≤ firstOf p l
 unfolding foundIn
 none-found p l e =
     split (ltb (firstOf p l) (length l))

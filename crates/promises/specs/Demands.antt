@@ -3,6 +3,9 @@
 -- Assumes nothing.
 use Rattle.promises.specs.Counts.{OthersRefused, others-refused}
 use Rattle.promises.specs.Refusals.{NumbersKnown, NoEleven, TwoNever, TwoAlways, OneFirst, numbers-known, no-eleven, two-never, two-always, one-first}
+use Rattle.promises.specs.Leaves.{Leaves, all-leave}
+use Rattle.promises.specs.Rests.{RestsStay, rests-stay}
+use Rattle.promises.specs.Sixteen.{SixteenThenTwo, sixteen-then-two}
 use Rattle.promises.specs.Kept.{CallsKeep, calls-keep}
 use Rattle.promises.specs.Pairs.{PairsHold, pairs-hold}
 use Rattle.promises.specs.Answers.{CreateAnswers, ModifyAnswers, DeleteAnswers, CreatesSound, ModifiesSound, ValuesAreTheirOctets, create-answers, modify-answers, delete-answers, creates-sound, modifies-sound, values-are-their-octets}
@@ -11,14 +14,17 @@ use Rattle.promises.specs.Sent.{SentIsFound, sent-is-found}
 use Rattle.promises.specs.Wellformed.{GoodIsRead, good-is-read}
 use Rattle.promises.specs.Encoded.{EncodedIsRead, encoded-is-read}
 use Rattle.promises.specs.Datagrams.{DatagramsTaken, datagrams-taken}
-use Rattle.promises.specs.Packets.{LiveOnly, AllCarried, live-only, all-carried}
 use Rattle.promises.specs.Repeats.{RepeatsAnswered, AgainTheSame, repeats-answered, again-the-same}
-use Rattle.promises.specs.InTime.{FreedInTime, NothingDue, freed-in-time, nothing-due}
 use Rattle.promises.specs.Resends.{ResendsWhole, resends-whole}
 use Rattle.promises.specs.Printed.{LinesWhole, lines-whole}
+use Rattle.promises.specs.Packets.{LiveOnly, live-only}
+use Rattle.promises.specs.Carried.{AllCarried, all-carried}
+use Rattle.promises.specs.InTime.{FreedInTime, freed-in-time}
+use Rattle.promises.specs.Ends.{SendsEnd, sends-end}
 use Rattle.promises.specs.Ticks.{EveryTickCounts, every-tick-counts}
 use Rattle.promises.specs.Impossible.{NotAllRefused, NotOneReply, CountedFromRecords, not-all-refused, not-one-reply, counted-from-records}
 use Rattle.promises.specs.Bounds.{RulesHold, NeitherTwoNorEleven, CeilingsKept, NoneShared, rules-hold, neither-two-nor-eleven, ceilings-kept, none-shared}
+use Rattle.promises.specs.Hosts.{HostsRun, hosts-run}
 use Rattle.promises.specs.Share.{RefusalsJust, GuaranteesKept, FreedIsRoom, refusals-just, guarantees-kept, freed-is-room}
 
 -- 1. Every datagram, table and plan gets an answer, and the call ends; for each refusal it is fixed which number comes, and what buffer and
@@ -29,6 +35,9 @@ pub record Demand1 : Type 0 where
   pub sound : TwoNever
   pub counts : OthersRefused
   pub short : OneFirst
+  pub leaves : Leaves
+  pub rests : RestsStay
+  pub sixteen : SixteenThenTwo
   pub notRefused : NotAllRefused
 
 -- 2. Reading and writing follow the standards: the same fields, reply octets, tunnel numbers and resends; a user packet is handed up only under
@@ -54,12 +63,13 @@ pub record Demand2 : Type 0 where
   pub ticks : EveryTickCounts
   pub resends : ResendsWhole
   pub inTime : FreedInTime
-  pub allSent : NothingDue
+  pub allSent : SendsEnd
   pub lines : LinesWhole
   pub notOneReply : NotOneReply
 
 -- 3. A rented place stays rented: from a fresh table under an accepted plan, after any run of calls
 pub record Demand3 : Type 0 where
+  pub hosts : HostsRun
   pub keep : CallsKeep
   pub rules : RulesHold
   pub neither : NeitherTwoNorEleven
@@ -78,6 +88,9 @@ demand-1 = record {
   sound = two-never;
   counts = others-refused;
   short = one-first;
+  leaves = all-leave;
+  rests = rests-stay;
+  sixteen = sixteen-then-two;
   notRefused = not-all-refused;
 }
 
@@ -103,13 +116,14 @@ demand-2 = record {
   ticks = every-tick-counts;
   resends = resends-whole;
   inTime = freed-in-time;
-  allSent = nothing-due;
+  allSent = sends-end;
   lines = lines-whole;
   notOneReply = not-one-reply;
 }
 
 pub demand-3 : Demand3
 demand-3 = record {
+  hosts = hosts-run;
   keep = calls-keep;
   rules = rules-hold;
   neither = neither-two-nor-eleven;

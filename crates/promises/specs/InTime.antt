@@ -8,11 +8,11 @@ use native.Mathlib.Nat.{mul-le-mul-right}
 use native.Mathlib.Omega.{arith}
 use lib.ListN.{length}
 use lib.Dec.{eqb, ltb}
-use borrow.Author.Tests.{eqb-true, eqb-false, eq-eqb, ne-eqb, ltb-true, ltb-false, not-true}
+use borrow.Author.Tests.{eqb-true, eqb-false, eq-eqb, ne-eqb, ltb-true, not-true}
 use mir.Val.{boolByte}
 use Rattle.octets.specs.Choice.{split, impossible, and-left, and-right, or-true, tests}
 use Rattle.octets.specs.Every.{every}
-use Rattle.octets.specs.Search.{firstOf, first-passes, first-before}
+use Rattle.octets.specs.Search.{firstOf, first-passes}
 use Rattle.octets.specs.Sums.{sumOf, countOf}
 use Rattle.tunnel.specs.Numbering.{places}
 use Rattle.plan.specs.declared.Plan.{Plan}
@@ -23,15 +23,14 @@ use Rattle.session.specs.declared.Session.{Session}
 use Rattle.session.specs.Request.{requestOk, spent, sentOnce, countedDown, InRange, range-of}
 use Rattle.session.specs.Session.{isFree, isClosing, isDue, closed, sent, ticked, turned, phaseOk, freed}
 use Rattle.session.specs.Keep.{own-ok, live-of}
-use Rattle.table.specs.declared.Node.{Node}
-use Rattle.table.specs.Rules.{keepsRules, boundsOf, Rules, rules-of}
+use Rattle.table.specs.Rules.{boundsOf, Rules, rules-of}
 use Rattle.table.specs.Change.{at-changed, nobody, record-ok, changed-here}
 use Rattle.table.specs.Number.{takenNumber}
-use Rattle.table.specs.Own.{duePlace, due-in}
+use Rattle.table.specs.Own.{duePlace}
 use Rattle.timing.specs.OnSession.{on-at}
 use Rattle.timing.specs.Outcome.{State, quiet, onSession, leastReply, noReply}
 use Rattle.timing.specs.Timing.{closeOn, closeOf, echoSent, placeSent, dueSent, sendOf}
-use Rattle.promises.specs.Run.{left, Event, control, user, tick, send, close, line, step, line-step, answered, reached, ofOctets, Run, Kept, step-keeps, reached-keeps}
+use Rattle.promises.specs.Run.{left, Event, control, user, tick, send, close, line, step, line-step, reached, ofOctets, Run, Kept, step-keeps, reached-keeps}
 use Rattle.promises.specs.Stays.{step-plan, reached-plan}
 use Rattle.promises.specs.Bounds.{at}
 use Rattle.promises.specs.Ticks.{place-ticked, all-freed}
@@ -65,10 +64,6 @@ FreedInTime = (p : Plan) (es : List Event) → Run p es → (i : ℕ) → i < 64
     → (later : List Event) → every ofOctets later ≡ true → prompt i later (step (close i) (reached p es)) ≡ true
     → p .sends * p .resend ≤ ticksIn later
     → everGone i (at (reached p es) i .usage) later (step (close i) (reached p es)) ≡ true
-
--- and all due has been sent when send next due answers 17: then no place's request is due
-unfoldable pub NothingDue : Type 0
-NothingDue = (p : Plan) (es : List Event) → Run p es → (reply : List ℕ) → answered (send reply) (reached p es) ≡ 17 → (i : ℕ) → isDue (at (reached p es) i) ≡ false
 
 -- ---- a closing place through one call: closing still; its timer and sends spend just the ticks; and a number that was sent stays
 pub record Spends (t ticks : ℕ) (s x : Session) : Type 0 where
@@ -280,23 +275,3 @@ freed-in-time p es r i h c later o f m =
 
     q : (at (reached p es) i .own .sends ≡ 0) × (at (reached p es) i .own .timer ≡ 0)
     q = live-idle p i h (reached p es) good c
-
-none-due : (node : Node) (t : List Session) → keepsRules node t ≡ true → (reply : List ℕ) → sendOf node t reply .answer .number ≡ 17 → length t ≤ firstOf isDue t
-unfolding sendOf dueSent echoSent placeSent noReply duePlace
-none-due node t k reply e =
-    split (ltb (length reply) leastReply) (λ a. let z : _≡_ {A = ℕ} 1 17 = rw a at e in absurd (omega arith))
-    (λ a. split (eqb (node .echo .timer) 0) (λ b. let z : _≡_ {A = ℕ} 0 17 = rw (a, k, b) at e in absurd (omega arith))
-    (λ b. split (ltb (firstOf isDue t) (length t)) (λ c. let z : _≡_ {A = ℕ} 0 17 = rw (a, k, b, c) at e in absurd (omega arith))
-    (λ c. ltb-false (firstOf isDue t) (length t) c)))
-
-pub nothing-due : NothingDue
-unfolding NothingDue answered
-nothing-due p es r reply e i =
-    let k = reached-keeps p es r in
-    let n = none-due (reached p es .node) (reached p es .table) k reply e in
-    split (isDue (at (reached p es) i))
-    (λ d. let q = rules-of (reached p es .node) (reached p es .table) k in
-    let h = due-in (reached p es .node .plan) (reached p es .node .echo) (reached p es .node .next) (reached p es .table) q i d in
-    let m = first-before isDue (reached p es .table) i nobody h d in
-    absurd (omega arith))
-    (λ d. d)

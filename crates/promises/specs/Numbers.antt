@@ -85,9 +85,13 @@ lineNumbers = 0 ∷ 1 ∷ 10 ∷ []
 unfoldable pub controlNumbers : List ℕ
 controlNumbers = 0 ∷ 1 ∷ 3 ∷ 4 ∷ 5 ∷ 6 ∷ 7 ∷ 8 ∷ 9 ∷ 64 ∷ 67 ∷ 69 ∷ 70 ∷ 73 ∷ 78 ∷ 83 ∷ []
 
+-- what a control datagram is answered that is read and asks for nothing
+unfoldable pub silentNumbers : List ℕ
+silentNumbers = 0 ∷ 3 ∷ 4 ∷ 6 ∷ 7 ∷ 8 ∷ 9 ∷ []
+
 -- ---- laws of lists of numbers
 -- a number of one list is a number of a list that has all of it
-among-more : (n : ℕ) (l m : List ℕ) → every (λ x. among x m) l ≡ true → among n l ≡ true → among n m ≡ true
+pub among-more : (n : ℕ) (l m : List ℕ) → every (λ x. among x m) l ≡ true → among n l ≡ true → among n m ≡ true
 unfolding every
 among-more n [] m w h = impossible h
 among-more n (x ∷ l) m w h =
@@ -134,11 +138,11 @@ Answered o = among (o .answer .number) controlNumbers ≡ true
 abbrev AnsweredOn : Done → Type 0
 AnsweredOn d = among (d .number) controlNumbers ≡ true
 
--- a cause that was read is one of the list
-unfoldable ConcernKnown : Concern → Type 0
+-- a cause that was read is one of a Create's
+unfoldable pub ConcernKnown : Concern → Type 0
 ConcernKnown (S.Modify m) = Unit {0}
 ConcernKnown (S.Delete d) = Unit {0}
-ConcernKnown (S.Refused type w) = among (w .cause) controlNumbers ≡ true
+ConcernKnown (S.Refused type w) = among (w .cause) createNumbers ≡ true
 ConcernKnown (S.Bearer b) = Unit {0}
 
 module _ (seq : ℕ) (s : Session) where
@@ -166,10 +170,10 @@ module _ (seq : ℕ) (s : Session) where
   bearer-number (B.Cause cause) = split (waitsFor seq s) (λ e. rw e) (λ e. rw e)
 
   live-number : (x : Concern) → ConcernKnown x → AnsweredOn (liveOn x seq s)
-  unfolding liveOn causeOn ConcernKnown
+  unfolding liveOn causeOn ConcernKnown createNumbers controlNumbers every
   live-number (S.Modify m) h = modify-number m
   live-number (S.Delete d) h = delete-number d
-  live-number (S.Refused type w) h = h
+  live-number (S.Refused type w) h = among-more (w .cause) createNumbers controlNumbers refl h
   live-number (S.Bearer b) h = bearer-number b
 
   none-number : (x : Concern) → AnsweredOn (noneOn x seq s)
@@ -214,38 +218,38 @@ refuse-among : (n : ℕ) (t : Bool) (rest : ℕ) (l : List ℕ) → among n l �
 refuse-among n true rest l a b = a
 refuse-among n false rest l a b = b
 
-refusals-among : (a b c d e f g h : Bool) → among (refuse 3 a (refuse 5 b (refuse 4 c (refuse 7 d (refuse 8 e (refuse 6 f (refuse 6 g (refuse 8 h 0)))))))) controlNumbers ≡ true
-unfolding controlNumbers
+refusals-among : (a b c d e f g h : Bool) → among (refuse 3 a (refuse 5 b (refuse 4 c (refuse 7 d (refuse 8 e (refuse 6 f (refuse 6 g (refuse 8 h 0)))))))) (5 ∷ silentNumbers) ≡ true
+unfolding silentNumbers
 refusals-among a b c d e f g h =
-    refuse-among 3 a (refuse 5 b (refuse 4 c (refuse 7 d (refuse 8 e (refuse 6 f (refuse 6 g (refuse 8 h 0))))))) controlNumbers refl
-    (refuse-among 5 b (refuse 4 c (refuse 7 d (refuse 8 e (refuse 6 f (refuse 6 g (refuse 8 h 0)))))) controlNumbers refl
-    (refuse-among 4 c (refuse 7 d (refuse 8 e (refuse 6 f (refuse 6 g (refuse 8 h 0))))) controlNumbers refl
-    (refuse-among 7 d (refuse 8 e (refuse 6 f (refuse 6 g (refuse 8 h 0)))) controlNumbers refl
-    (refuse-among 8 e (refuse 6 f (refuse 6 g (refuse 8 h 0))) controlNumbers refl
-    (refuse-among 6 f (refuse 6 g (refuse 8 h 0)) controlNumbers refl
-    (refuse-among 6 g (refuse 8 h 0) controlNumbers refl
-    (refuse-among 8 h 0 controlNumbers refl refl)))))))
+    refuse-among 3 a (refuse 5 b (refuse 4 c (refuse 7 d (refuse 8 e (refuse 6 f (refuse 6 g (refuse 8 h 0))))))) (5 ∷ silentNumbers) refl
+    (refuse-among 5 b (refuse 4 c (refuse 7 d (refuse 8 e (refuse 6 f (refuse 6 g (refuse 8 h 0)))))) (5 ∷ silentNumbers) refl
+    (refuse-among 4 c (refuse 7 d (refuse 8 e (refuse 6 f (refuse 6 g (refuse 8 h 0))))) (5 ∷ silentNumbers) refl
+    (refuse-among 7 d (refuse 8 e (refuse 6 f (refuse 6 g (refuse 8 h 0)))) (5 ∷ silentNumbers) refl
+    (refuse-among 8 e (refuse 6 f (refuse 6 g (refuse 8 h 0))) (5 ∷ silentNumbers) refl
+    (refuse-among 6 f (refuse 6 g (refuse 8 h 0)) (5 ∷ silentNumbers) refl
+    (refuse-among 6 g (refuse 8 h 0) (5 ∷ silentNumbers) refl
+    (refuse-among 8 h 0 (5 ∷ silentNumbers) refl refl)))))))
 
-gate-number : (d : List ℕ) → among (gateOf d) controlNumbers ≡ true
+gate-number : (d : List ℕ) → among (gateOf d) (5 ∷ silentNumbers) ≡ true
 unfolding gateOf
 gate-number d =
     refusals-among (ltb (length d) 8) (not (eqb (versionOf d) controlVersion)) (eqb (flagP d) 1) (eqb (flagOf (kindOf d)) notTaken)
     (not (eqb (flagOf (kindOf d)) (flagT d))) (not (eqb (lengthOf d + 4) (length d))) (ltb (length d) (headerSize d))
     (eqb (kindOf d) createType && ltb 0 (teidOf d))
 
--- ---- what is asked for: the numbers and causes that were read are of the list
-unfoldable AskedKnown : Asked → Type 0
-AskedKnown (A.Silent number) = among number controlNumbers ≡ true
+-- ---- what is asked for: the numbers and causes that were read are of these lists
+unfoldable pub AskedKnown : Asked → Type 0
+AskedKnown (A.Silent number) = among number silentNumbers ≡ true
 AskedKnown A.Version = Unit {0}
 AskedKnown (A.Echo recovery seq) = Unit {0}
 AskedKnown (A.EchoReply recovery) = Unit {0}
 AskedKnown (A.Create c seq) = Unit {0}
-AskedKnown (A.Refused w to seq) = among (w .cause) controlNumbers ≡ true
+AskedKnown (A.Refused w to seq) = among (w .cause) createNumbers ≡ true
 AskedKnown (A.Session teid seq x) = ConcernKnown x
 
 module _ (node : Node) (h : HeaderCursor) (rest : List ℕ) where
-  request-known : (d : Decoded) (refused : Refusal → Asked) → ((w : Refusal) → among (w .cause) controlNumbers ≡ true → AskedKnown (refused w))
-      → among (numberFor d) controlNumbers ≡ true → AskedKnown (requestAsked h d refused)
+  request-known : (d : Decoded) (refused : Refusal → Asked) → ((w : Refusal) → among (w .cause) createNumbers ≡ true → AskedKnown (refused w))
+      → among (numberFor d) createNumbers ≡ true → AskedKnown (requestAsked h d refused)
   unfolding AskedKnown ConcernKnown requestAsked soundAsked sessionAsked numberFor
   request-known (R.Refused w) refused k e = k w e
   request-known (R.Sound (Q.Create c)) refused k e = tt
@@ -253,38 +257,41 @@ module _ (node : Node) (h : HeaderCursor) (rest : List ℕ) where
   request-known (R.Sound (Q.Delete d)) refused k e = tt
 
   end-known : (r : EchoReply) → AskedKnown (endAsked r (h .sequence) node)
-  unfolding AskedKnown endAsked controlNumbers
+  unfolding AskedKnown endAsked silentNumbers
   end-known E.Unreadable = refl
   end-known (E.Carries recovery) = split (awaits (h .sequence) (node .echo)) (λ q. rw q tt) (λ q. rw q)
 
   kind-known : (k : Kind) → AskedKnown (kindAsked k h rest node)
-  unfolding AskedKnown ConcernKnown kindAsked createRefused changeRefused sessionAsked CreateAnswers ModifyAnswers DeleteAnswers createNumbers modifyNumbers deleteNumbers controlNumbers every
+  unfolding AskedKnown ConcernKnown kindAsked createRefused changeRefused sessionAsked CreateAnswers ModifyAnswers DeleteAnswers createNumbers modifyNumbers deleteNumbers silentNumbers every
   kind-known K.Echo = tt
   kind-known K.EchoReply = end-known (carried.echoReplyOf rest)
-  kind-known K.Create =
-      let d = createOf (node .plan) rest in request-known d (createRefused h rest) (λ w k. k) (among-more (numberFor d) createNumbers controlNumbers refl (create-answers (node .plan) rest .number))
+  kind-known K.Create = request-known (createOf (node .plan) rest) (createRefused h rest) (λ w k. k) (create-answers (node .plan) rest .number)
   kind-known K.Modify =
-      let d = modifyOf rest in request-known d (changeRefused h modifyReplyType) (λ w k. k) (among-more (numberFor d) modifyNumbers controlNumbers refl (modify-answers rest .number))
+      let d = modifyOf rest in
+      request-known d (changeRefused h modifyReplyType) (λ w k. k)
+      (among-more (numberFor d) modifyNumbers createNumbers refl (modify-answers rest .number))
   kind-known K.Delete =
-      let d = deleteOf rest in request-known d (changeRefused h deleteReplyType) (λ w k. k) (among-more (numberFor d) deleteNumbers controlNumbers refl (delete-answers rest .number))
+      let d = deleteOf rest in
+      request-known d (changeRefused h deleteReplyType) (λ w k. k)
+      (among-more (numberFor d) deleteNumbers createNumbers refl (delete-answers rest .number))
   kind-known K.BearerReply = tt
   kind-known K.Other = refl
 
-asked-known : (node : Node) (d : List ℕ) → AskedKnown (askedOf node d)
-unfolding AskedKnown askedOf
+pub asked-known : (node : Node) (d : List ℕ) → AskedKnown (askedOf node d)
+unfolding AskedKnown askedOf silentNumbers
 asked-known node d =
     split (eqb (gateOf d) 0) (λ b. rw b (kind-known node (headerOf d) (drop (headerOf d .fields) d) (kindBy (headerOf d .kind))))
-    (λ b. split (eqb (gateOf d) 5) (λ c. rw (b, c) tt) (λ c. rw (b, c) (gate-number d)))
+    (λ b. split (eqb (gateOf d) 5) (λ c. rw (b, c) tt) (λ c. rw (b, c) (rw c at (gate-number d))))
 
 module _ (node : Node) (t : List Session) (e : keepsRules node t ≡ true) (reply : List ℕ) where
   asked-number : (a : Asked) → AskedKnown a → Answered (askedTaken node t a reply)
-  unfolding askedTaken AskedKnown echoTaken echoReplyTaken causeTaken onOwner onSession noReply controlNumbers
-  asked-number (A.Silent number) h = h
+  unfolding askedTaken AskedKnown echoTaken echoReplyTaken causeTaken onOwner onSession noReply silentNumbers createNumbers controlNumbers every
+  asked-number (A.Silent number) h = among-more number silentNumbers controlNumbers refl h
   asked-number A.Version h = refl
   asked-number (A.Echo recovery seq) h = refl
   asked-number (A.EchoReply recovery) h = refl
   asked-number (A.Create c seq) h = create-number node t c seq reply e
-  asked-number (A.Refused w to seq) h = h
+  asked-number (A.Refused w to seq) h = among-more (w .cause) createNumbers controlNumbers refl h
   asked-number (A.Session teid seq x) h = session-number seq (getD t (placeFound (ownerOf controlOffset (teid .0) t) t) nobody) x h
 
   control-number : (d : List ℕ) → Answered (controlTaken node t d reply)

@@ -1,35 +1,31 @@
--- User packets after any run: handed up only under a live user number, at the place that has it; never where there is a refusal or a reply; and
--- what a plain G-PDU to a live number carries is what is handed up, octet by octet.
+-- User packets after any run: handed up only under a live user number, at the place that has it; never where there is a refusal or a reply.
+-- What is handed up is what was carried: Carried.antt.
 -- Assumes nothing.
-use Prim.Native.Nat.{ℕ, _+_, _-_, _<_, _≤_}
+use Prim.Native.Nat.{ℕ, _<_, _≤_}
 use mathlib.Core.Bool.{Bool, true, false, not, _&&_}
-use mathlib.Core.List.{List, _∷_, _++_}
+use mathlib.Core.List.{List}
 use mathlib.Core.Logic.{_≢_}
-use mathlib.Core.Path.{_≡_, refl, sym, _∙_, ap}
+use mathlib.Core.Path.{_≡_, refl, sym, _∙_}
 use native.Mathlib.Omega.{arith}
-use lib.ListN.{length, drop, getD}
-use lib.Dec.{eqb, leb, ltb}
-use borrow.Author.Tests.{eqb-true, eqb-false, eq-eqb, le-ltb, leb-true, ltb-true, ltb-false}
+use lib.ListN.{length, getD}
+use lib.Dec.{eqb, ltb}
+use borrow.Author.Tests.{eqb-true, eqb-false, ltb-true, ltb-false}
 use Rattle.octets.specs.Choice.{split, or-split, impossible, and-left, and-right}
-use Rattle.octets.specs.BigEndian.{numberOf, numberFrom, octetsOf, number-back}
-use Rattle.tunnel.specs.Numbering.{places, userOffset, teids, user-fits}
+use Rattle.tunnel.specs.Numbering.{places, userOffset, user-fits}
 use Rattle.tunnel.specs.declared.Holder.{Holder}
 use Rattle.tunnel.specs.declared.Holder.the-variants as K
-use Rattle.tunnel.specs.Tunnel.{userNumber, holderOf, number-holder, number-fits, holder-held}
+use Rattle.tunnel.specs.Tunnel.{userNumber, holderOf, holder-held}
 use Rattle.plan.specs.declared.Plan.{Plan}
 use Rattle.session.specs.declared.Session.{Session}
-use Rattle.session.specs.Session.{isFree, heldOk, recordOk}
-use Rattle.session.specs.Keep.{live-of, ok-usage}
+use Rattle.session.specs.Session.{isFree}
 use Rattle.table.specs.declared.Found.{Found}
 use Rattle.table.specs.declared.Found.the-variants as F
-use Rattle.table.specs.Rules.{boundsOf, Rules, rules-of}
-use Rattle.table.specs.Change.{nobody, record-ok}
-use Rattle.table.specs.Find.{ownerOf, heldIn, owner-is, held-yes}
+use Rattle.table.specs.Change.{nobody}
+use Rattle.table.specs.Find.{ownerOf, heldIn, owner-is}
 use Rattle.messages.specs.Messages.{size-user-echo}
 use Rattle.timing.specs.Outcome.{State, leastReply}
-use Rattle.gpdu.specs.declared.Header.the-variants as H
-use Rattle.gpdu.specs.Header.{echoType, packetType, ours, optional, sizeOf, typeTaken, typeOf, lengthOf, teidOf, sequenceOf, refusalOf, headerOf, teid-there, header-packet, header-echo, header-passed}
-use Rattle.gpdu.specs.User.{userOf, user-passed, user-plain}
+use Rattle.gpdu.specs.Header.{echoType, packetType, typeTaken, typeOf, teidOf, sequenceOf, refusalOf, headerOf, header-packet, header-echo, header-passed}
+use Rattle.gpdu.specs.User.{userOf, user-passed}
 use Rattle.userside.specs.UserSide.{Took, took, headerTaken, packetTaken, userTaken, user-short, user-unread, user-read}
 use Rattle.promises.specs.Run.{Event, reached, Run, Kept, reached-keeps}
 use Rattle.promises.specs.Bounds.{at, reached-rules}
@@ -55,19 +51,6 @@ pub record Fairly (s : State) (d : List ℕ) (w : Took) : Type 0 where
 
 unfoldable pub LiveOnly : Type 0
 LiveOnly = (p : Plan) (es : List Event) → Run p es → (d reply : List ℕ) → Fairly (reached p es) d (took-of (reached p es) d reply)
-
--- a plain G-PDU with a tunnel number and what it carries
-unfoldable pub packet : ℕ → List ℕ → List ℕ
-packet teid x = 0x30 ∷ 0xFF ∷ octetsOf 2 (length x) ++ (octetsOf 4 teid ++ x)
-
-pub record Carried (i : ℕ) (reply x : List ℕ) (d : List ℕ) (w : Took) : Type 0 where
-  pub taken : w ≡ took 0 i 0 reply 8
-  pub octets : drop (w .start) d ≡ x
-
-unfoldable pub AllCarried : Type 0
-AllCarried = (p : Plan) (es : List Event) → Run p es → (i : ℕ) → i < 64 → isFree (at (reached p es) i) ≡ false
-    → (x reply : List ℕ) → length x < 65536 → 128 ≤ length reply
-    → Carried i reply x (packet (userNumber (at (reached p es) i .usage) i) x) (took-of (reached p es) (packet (userNumber (at (reached p es) i .usage) i) x) reply)
 
 -- ---- who has a number
 pub record Owns (n place : ℕ) (l : List Session) : Type 0 where
@@ -159,75 +142,3 @@ module _ (s : State) (k : Kept s) (size : length (s .table) ≡ 64) (d reply : L
 pub live-only : LiveOnly
 unfolding LiveOnly places
 live-only p es r d reply = user-fair (reached p es) (reached-keeps p es r) (reached-rules p es r .size) d reply
-
--- ---- all that is carried
-module _ (n : ℕ) (x : List ℕ) (small : length x < 65536) where
-  packet-refusal : refusalOf (packet n x) ≡ 0
-  unfolding packet octetsOf refusalOf ours optional typeTaken numberOf numberFrom
-  packet-refusal =
-      let a : ltb (length (packet n x)) 8 ≡ false = le-ltb (length (packet n x)) 8 (omega arith) in
-      let b : eqb (lengthOf (packet n x)) (length (packet n x) - 8) ≡ true = eq-eqb (lengthOf (packet n x)) (length (packet n x) - 8) (omega arith) in
-      rw (a, b)
-
-  packet-number : n < 4294967296 → teidOf (packet n x) ≡ n
-  unfolding packet octetsOf numberOf numberFrom
-  packet-number h = teid-there (packet n x) (omega arith) ∙ number-back 4 n h
-
-  packet-read : (userOf (packet n x) .number ≡ 0) × (userOf (packet n x) .size ≡ 8)
-  unfolding packet octetsOf sizeOf optional
-  packet-read = user-plain (packet n x) 8 refl packet-refusal refl
-
-  packet-header : n < 4294967296 → headerOf (packet n x) ≡ H.Packet (record { 0 = n })
-  unfolding packet octetsOf
-  packet-header h = header-packet (packet n x) (λ e. omega arith) ∙ ap (λ (m : ℕ). H.Packet (record { 0 = m })) (packet-number h)
-
-  packet-rest : drop 8 (packet n x) ≡ x
-  unfolding packet octetsOf
-  packet-rest = refl
-
--- whoever is live in a table that keeps its rules has a use, and is found by its number
-module _ (s : State) (k : Kept s) (i : ℕ) (h : i < 64) (live : isFree (at s i) ≡ false) where
-  rules : Rules (s .node .plan) (s .node .echo) (s .node .next) (s .table)
-  rules = rules-of (s .node) (s .table) k
-
-  ok : recordOk (boundsOf (s .node .plan)) (at s i) ≡ true
-  ok = record-ok (s .node .plan) (s .node .echo) (s .node .next) (s .table) rules i
-
-  used : 1 ≤ at s i .usage
-  unfolding heldOk
-  used =
-      let v = live-of (boundsOf (s .node .plan)) (at s i) ok live .held in
-      let u : leb 1 (at s i .usage) ≡ true = search (and-left) in
-      leb-true 1 (at s i .usage) u
-
-  small-number : userNumber (at s i .usage) i < 4294967296
-  unfolding places teids
-  small-number = number-fits userOffset (at s i .usage) i user-fits h (ok-usage (boundsOf (s .node .plan)) (at s i) ok)
-
-  pub live-owner : ownerOf userOffset (userNumber (at s i .usage) i) (s .table) ≡ F.At i
-  unfolding places
-  live-owner =
-      let z = rules .size in
-      owner-is userOffset (userNumber (at s i .usage) i) (s .table) user-fits (omega arith)
-      ∙ rw (number-holder userOffset (at s i .usage) i user-fits h used)
-      (held-yes i (at s i .usage) (s .table) (omega arith) (rw (live, eq-eqb (at s i .usage) (at s i .usage) refl)))
-
-  hand : (d reply : List ℕ) → 128 ≤ length reply → userOf d .number ≡ 0 → userOf d .size ≡ 8 → headerOf d ≡ H.Packet (record { 0 = userNumber (at s i .usage) i })
-      → took-of s d reply ≡ took 0 i 0 reply 8
-  unfolding headerTaken packetTaken leastReply
-  hand d reply room n z q = user-read (s .node) (s .table) d reply room k n ∙ rw (q, live-owner, z)
-
-  carried-here : (x reply : List ℕ) → length x < 65536 → 128 ≤ length reply
-      → Carried i reply x (packet (userNumber (at s i .usage) i) x) (took-of s (packet (userNumber (at s i .usage) i) x) reply)
-  carried-here x reply small room = record { taken = e; octets = ap (λ (w : Took). drop (w .start) d) e ∙ packet-rest (userNumber (at s i .usage) i) x small }
-    where
-      d : List ℕ
-      d = packet (userNumber (at s i .usage) i) x
-
-      e : took-of s (packet (userNumber (at s i .usage) i) x) reply ≡ took 0 i 0 reply 8
-      e = hand (packet (userNumber (at s i .usage) i) x) reply room (packet-read (userNumber (at s i .usage) i) x small .0) (packet-read (userNumber (at s i .usage) i) x small .1)
-          (packet-header (userNumber (at s i .usage) i) x small small-number)
-
-pub all-carried : AllCarried
-unfolding AllCarried
-all-carried p es r i h live = carried-here (reached p es) (reached-keeps p es r) i h live

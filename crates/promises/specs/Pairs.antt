@@ -38,7 +38,7 @@ use Rattle.promises.specs.Run.{control, answered, Kept}
 use Rattle.promises.specs.Bounds.{at}
 use Rattle.promises.specs.Creates.{NewCreate, askedU}
 use Rattle.promises.specs.Share.{number-yes, number-no}
-use Rattle.promises.specs.Packets.{live-owner}
+use Rattle.promises.specs.Carried.{live-owner}
 
 pub data Pair : Type 0 where
   -- a place, its use, its control number and its user number

@@ -7,6 +7,7 @@ use mathlib.Core.Path.{_≡_, refl}
 use lib.ListN.{length, drop}
 use lib.Dec.{eqb, ltb, leb}
 use Rattle.octets.specs.Choice.{split}
+use Rattle.octets.specs.Every.{every}
 use Rattle.tunnel.specs.Numbering.{userOffset}
 use Rattle.session.specs.declared.Session.{Session}
 use Rattle.table.specs.declared.Node.{Node}
@@ -22,13 +23,18 @@ use Rattle.gpdu.specs.Header.{refusalOf, headerOf, sizeOf, ours, typeTaken, opt
 use Rattle.gpdu.specs.Extensions.{walkOf, extensionsOf, firstMust, unfit, extent, nextType}
 use Rattle.gpdu.specs.User.{userOf, firstType}
 use Rattle.userside.specs.UserSide.{packetTaken, headerTaken, userTaken}
+use Rattle.promises.specs.Numbers.{among-more}
 
 unfoldable pub userNumbers : List ℕ
 userNumbers = 0 ∷ 1 ∷ 3 ∷ 6 ∷ 7 ∷ 12 ∷ 13 ∷ 14 ∷ 15 ∷ []
 
+-- of these, what is answered to a datagram by itself, whatever the table holds
+unfoldable pub userReads : List ℕ
+userReads = 0 ∷ 3 ∷ 6 ∷ 7 ∷ 12 ∷ 13 ∷ 14 ∷ []
+
 -- the header's refusals
-refusal-number : (d : List ℕ) → among (refusalOf d) userNumbers ≡ true
-unfolding refusalOf userNumbers
+refusal-number : (d : List ℕ) → among (refusalOf d) userReads ≡ true
+unfolding refusalOf userReads
 refusal-number d =
     split (ltb (length d) fixedSize) (λ a. rw a)
     (λ a. split (ours (octet d 0))
@@ -40,15 +46,15 @@ refusal-number d =
     (λ b. rw (a, b)))
 
 -- those of the extension headers
-walk-number : (n : ℕ) (l : List ℕ) (type : ℕ) → among (walkOf n l type .number) userNumbers ≡ true
-unfolding walkOf userNumbers
+walk-number : (n : ℕ) (l : List ℕ) (type : ℕ) → among (walkOf n l type .number) userReads ≡ true
+unfolding walkOf userReads
 walk-number zero l type = split (eqb type 0) (λ a. rw a) (λ a. split (leb firstMust type) (λ b. rw (a, b)) (λ b. rw (a, b)))
 walk-number (suc n) l type =
     split (eqb type 0) (λ a. rw a)
     (λ a. split (leb firstMust type) (λ b. rw (a, b))
     (λ b. split (unfit l) (λ u. rw (a, b, u)) (λ u. rw (a, b, u) (walk-number n (drop (extent l) l) (nextType l)))))
 
-read-number : (d : List ℕ) → among (userOf d .number) userNumbers ≡ true
+pub read-number : (d : List ℕ) → among (userOf d .number) userReads ≡ true
 unfolding userOf extensionsOf
 read-number d =
     split (eqb (refusalOf d) 0)
@@ -72,9 +78,9 @@ unfoldable pub UserNumbers : Type 0
 UserNumbers = (node : Node) (t : List Session) (d reply : List ℕ) → keepsRules node t ≡ true → among (userTaken node t d reply .number) userNumbers ≡ true
 
 pub user-numbers : UserNumbers
-unfolding UserNumbers userTaken userNumbers
+unfolding UserNumbers userTaken userReads userNumbers every
 user-numbers node t d reply e =
     split (ltb (length reply) leastReply) (λ a. rw a)
     (λ a. split (eqb (userOf d .number) 0)
     (λ b. rw (a, e, b) (header-taken-number node t (headerOf d) (userOf d .size) (length d) reply))
-    (λ b. rw (a, e, b) (read-number d)))
+    (λ b. rw (a, e, b) (among-more (userOf d .number) userReads userNumbers refl (read-number d))))

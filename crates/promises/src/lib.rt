@@ -1,5 +1,9 @@
 // The customer's three demands, each a function with nothing in it, whose contract is the theorem.
 ghost use Rattle.promises.specs.Demands.{Demand1, Demand2, Demand3};
+ghost use mathlib.Core.Bool.{true};
+ghost use mathlib.Core.Path.{_≡_};
+ghost use Rattle.octets.specs.Every.{every};
+ghost use Rattle.octets.specs.BigEndian.{isOctet};
 
 // Every datagram, table and plan gets an answer, and the call ends; for each refusal it is fixed which number comes back, and what the reply
 // buffer and the table hold.
@@ -18,3 +22,12 @@ pub fn reading_and_writing_follow_the_standards()
 pub fn a_rented_place_stays_rented()
     ensures { λ _. ⌜ Demand3 ⌝ }
 {}
+
+fn nothing() {}
+
+// A datagram is made of octets by its type: the one thing that a run asks of its datagrams (specs/Run.antt) no host owes.
+pub fn octets_by_type(d: &[u8])
+    ensures { λ _. ⌜ every isOctet (now (d .entry)) ≡ true ⌝ }
+{
+    nothing();
+}
