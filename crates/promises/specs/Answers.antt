@@ -1,4 +1,5 @@
--- What holds of the decoder's definitions on every list of octets: each answers with a number of its own list; what it holds is sound; and a field's value is the very octets between its start and its end.
+-- What holds of the decoder's definitions on every list of octets: each answers with a number of its own list; what it holds is sound; and a field's
+-- value is the very octets between its start and its end.
 -- Assumes nothing.
 use Prim.Native.Nat.{ℕ, _%_}
 use mathlib.Core.Bool.{Bool, true, false, not, _&&_}
