@@ -225,7 +225,9 @@ module _ (l : List Sent) (fit : every fits l ≡ true) where
 
   pub rat-sent : (h : Has l ratKind 0 RatValue) → ratIn (written l) ≡ O.Value (h .good .rat)
   unfolding ratIn
-  rat-sent h = rw (octet-sent ratKind (h .good .rat) 1 (h .value) (h .good .behind) (h .first) (h .good .octets) (omega arith), h .good .oneOrSix)
+  rat-sent h =
+      let k : (eqb (h .good .rat) 1 || eqb (h .good .rat) 6) ≡ true = h .good .oneOrSix in
+      rw (octet-sent ratKind (h .good .rat) 1 (h .value) (h .good .behind) (h .first) (h .good .octets) (omega arith), k)
 
   pub tunnel-sent : (inst interface teid addr : ℕ) → Has l tunnelKind inst (TunnelValue interface teid addr)
       → tunnelIn (written l) inst interface ≡ T.Value teid addr
