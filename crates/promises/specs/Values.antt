@@ -12,7 +12,7 @@ use lib.Dec.{eqb, leb}
 use borrow.Author.Tests.{lt-ltb, le-ltb, le-leb, eq-eqb, leb-true}
 use Rattle.octets.specs.Choice.{and-left, and-right}
 use Rattle.octets.specs.Every.{every}
-use Rattle.octets.specs.Search as search
+use Rattle.octets.specs.Search as places
 use Rattle.octets.specs.Same.{sameOctets}
 use Rattle.octets.specs.BigEndian.{numberOf, numberFrom, octetsOf, number-back}
 use Rattle.fields.specs.Walk.{part}
@@ -185,11 +185,11 @@ unfolding namedIn goesBy sameName
 named-point l i x n h =
     let d = nameOf (getD l i x) in
     let e : goesBy d (getD l i x) ≡ true = same-itself d in
-    let a = search.first-before (goesBy d) l i x h e in
-    let k : search.firstOf (goesBy d) l < length l = omega arith in
-    let b = search.first-passes (goesBy d) l x k in
-    let q = named-once l d (search.firstOf (goesBy d) l) i x n k h b e in
-    rw (lt-ltb (search.firstOf (goesBy d) l) (length l) k, q)
+    let a = places.first-before (goesBy d) l i x h e in
+    let k : places.firstOf (goesBy d) l < length l = omega arith in
+    let b = places.first-passes (goesBy d) l x k in
+    let q = named-once l d (places.firstOf (goesBy d) l) i x n k h b e in
+    rw (lt-ltb (places.firstOf (goesBy d) l) (length l) k, q)
 
 pub plan-names : (plan : Plan) → accepted plan ≡ true → namesDiffer (used plan) ≡ true
 unfolding accepted
