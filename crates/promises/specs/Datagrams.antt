@@ -3,10 +3,10 @@
 -- Assumes nothing.
 use Prim.Native.Nat.{ℕ, _+_, _<_}
 use mathlib.Core.Bool.{true, false, _&&_}
-use mathlib.Core.List.{List, _++_}
+use mathlib.Core.List.{List, [], _∷_, _++_}
 use mathlib.Core.Path.{_≡_, refl}
 use native.Mathlib.Omega.{arith}
-use lib.ListN.{length, drop}
+use lib.ListN.{length, drop, replicate}
 use lib.Dec.{eqb, ltb}
 use borrow.Author.Tests.{le-ltb, eq-eqb}
 use Rattle.octets.specs.Number.{taken}
@@ -20,6 +20,11 @@ use Rattle.plan.specs.declared.Plan.{Plan}
 use Rattle.plan.specs.Plan.{accepted}
 use Rattle.requests.specs.declared.Create as C
 use Rattle.promises.specs.Creates.{SoundCreate}
+use Rattle.plan.specs.Limits.{noPoint, used}
+use Rattle.plan.specs.Names.{nameOf}
+use Rattle.promises.specs.Encoder.{Besides, createFields, createBearer, recoveryField, tunnelOctets, digitsOf}
+use Rattle.promises.specs.Examples.{oneParty, create, holding, first, firstImsi}
+use Rattle.promises.specs.Values.{packed}
 use Rattle.promises.specs.Sent.{Sent, written}
 use Rattle.promises.specs.Wellformed.{GoodCreate, good-is-read}
 use Rattle.promises.specs.Written.{Seq, Word, header-back}
@@ -38,13 +43,21 @@ pub record TakenAs (d : List ℕ) (type teid seq : ℕ) (l : List Sent) : Type 0
   pub header : headerOf d ≡ record { kind = type; teid = teid; sequence = seq; fields = 12 }
   pub fields : drop 12 d ≡ written l
 
--- ---- the promise
+-- what the Create of the examples says besides what is kept of it
+unfoldable pub exampleBesides : Besides
+exampleBesides = record { rat = 6; address = 0; qos = 0x61 ∷ 9 ∷ replicate 20 0; behind = λ kind. []; within = λ kind. [] }
+
+unfoldable pub exampleFields : List Sent
+exampleFields = createFields oneParty (holding firstImsi) exampleBesides (createBearer (holding firstImsi) exampleBesides)
+
+-- ---- the promise; the first Create of the examples is what the encoder writes
 pub record DatagramsTaken : Type 0 where
   pub create : (seq : ℕ) (l : List Sent) → OneDatagram l → Seq seq → TakenAs (datagram createType 0 seq l) createType 0 seq l
   pub modify : (teid seq : ℕ) (l : List Sent) → OneDatagram l → Word teid → Seq seq → TakenAs (datagram modifyType teid seq l) modifyType teid seq l
   pub delete : (teid seq : ℕ) (l : List Sent) → OneDatagram l → Word teid → Seq seq → TakenAs (datagram deleteType teid seq l) deleteType teid seq l
   pub sound : (plan : Plan) (seq : ℕ) (l : List Sent) (c : C.Create) → accepted plan ≡ true → OneDatagram l → Seq seq → GoodCreate plan l c
       → SoundCreate plan (datagram createType 0 seq l) c
+  pub example : datagram createType 0 3 exampleFields ≡ first
 
 -- ---- laws
 datagram-length : (type teid seq : ℕ) (l : List Sent) → length (datagram type teid seq l) ≡ length (written l) + 12
@@ -97,10 +110,16 @@ create-sound plan seq l c p one fits g =
     let t = create-taken seq l one fits in
     record { header = t .gate; kind = rw (t .header); fields = rw (t .header, t .fields) (good-is-read .create plan l c p g) }
 
+example-is : datagram createType 0 3 exampleFields ≡ first
+unfolding datagram headerTo written exampleFields exampleBesides oneParty holding create createFields createBearer recoveryField tunnelOctets
+    digitsOf packed octetsOf used nameOf noPoint
+example-is = refl
+
 pub datagrams-taken : DatagramsTaken
 datagrams-taken = record {
   create = create-taken;
   modify = λ teid seq l one word fits. taken-as modifyType teid seq l one word fits modify-flag refl;
   delete = λ teid seq l one word fits. taken-as deleteType teid seq l one word fits delete-flag refl;
   sound = create-sound;
+  example = example-is;
 }

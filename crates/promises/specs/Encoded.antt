@@ -6,7 +6,7 @@ use mathlib.Core.Bool.{Bool, true, false, _&&_, _||_}
 use mathlib.Core.List.{List, [], _∷_, _++_}
 use mathlib.Core.Path.{_≡_, refl, sym, _∙_}
 use native.Mathlib.Omega.{arith}
-use lib.ListN.{length, getD, length-append}
+use lib.ListN.{length, length-append}
 use lib.Dec.{eqb}
 use borrow.Author.Tests.{eqb-true}
 use Rattle.octets.specs.Choice.{pick, split, and-left, and-right, or-true}
@@ -18,8 +18,6 @@ use Rattle.readers.specs.Kinds.{imsiKind, ratKind, tunnelKind, apnKind, paaKind
 use Rattle.readers.specs.declared.Recovery.{Recovery}
 use Rattle.readers.specs.declared.Recovery.the-variants as R
 use Rattle.plan.specs.declared.Plan.{Plan}
-use Rattle.plan.specs.Limits.{used, noPoint}
-use Rattle.plan.specs.Names.{nameOf}
 use Rattle.plan.specs.Plan.{accepted}
 use Rattle.requests.specs.declared.Create as C
 use Rattle.requests.specs.declared.Modify as M

@@ -12,7 +12,7 @@ use lib.Dec.{eqb, leb}
 use borrow.Author.Tests.{lt-ltb, le-ltb, le-leb, eq-eqb, leb-true}
 use Rattle.octets.specs.Choice.{and-left, and-right}
 use Rattle.octets.specs.Every.{every}
-use Rattle.octets.specs.Search as search
+use Rattle.octets.specs.Search as places
 use Rattle.octets.specs.Same.{sameOctets}
 use Rattle.octets.specs.BigEndian.{numberOf, numberFrom, octetsOf, number-back}
 use Rattle.fields.specs.Walk.{part}
@@ -185,11 +185,11 @@ unfolding namedIn goesBy sameName
 named-point l i x n h =
     let d = nameOf (getD l i x) in
     let e : goesBy d (getD l i x) ≡ true = same-itself d in
-    let a = search.first-before (goesBy d) l i x h e in
-    let k : search.firstOf (goesBy d) l < length l = omega arith in
-    let b = search.first-passes (goesBy d) l x k in
-    let q = named-once l d (search.firstOf (goesBy d) l) i x n k h b e in
-    rw (lt-ltb (search.firstOf (goesBy d) l) (length l) k, q)
+    let a = places.first-before (goesBy d) l i x h e in
+    let k : places.firstOf (goesBy d) l < length l = omega arith in
+    let b = places.first-passes (goesBy d) l x k in
+    let q = named-once l d (places.firstOf (goesBy d) l) i x n k h b e in
+    rw (lt-ltb (places.firstOf (goesBy d) l) (length l) k, q)
 
 pub plan-names : (plan : Plan) → accepted plan ≡ true → namesDiffer (used plan) ≡ true
 unfolding accepted
@@ -225,7 +225,9 @@ module _ (l : List Sent) (fit : every fits l ≡ true) where
 
   pub rat-sent : (h : Has l ratKind 0 RatValue) → ratIn (written l) ≡ O.Value (h .good .rat)
   unfolding ratIn
-  rat-sent h = rw (octet-sent ratKind (h .good .rat) 1 (h .value) (h .good .behind) (h .first) (h .good .octets) (omega arith), h .good .oneOrSix)
+  rat-sent h =
+      let k : (eqb (h .good .rat) 1 || eqb (h .good .rat) 6) ≡ true = h .good .oneOrSix in
+      rw (octet-sent ratKind (h .good .rat) 1 (h .value) (h .good .behind) (h .first) (h .good .octets) (omega arith), k)
 
   pub tunnel-sent : (inst interface teid addr : ℕ) → Has l tunnelKind inst (TunnelValue interface teid addr)
       → tunnelIn (written l) inst interface ≡ T.Value teid addr

@@ -6,6 +6,7 @@ use mathlib.Core.Bool.{true, false}
 use mathlib.Core.List.{List}
 use mathlib.Core.Path.{_≡_, refl, _∙_}
 use lib.ListN.{length}
+use borrow.Author.Tests.{eq-eqb}
 use Rattle.octets.specs.Every.{every}
 use Rattle.fields.specs.Overrun.{overIn, over-no-bearer, over-bearer}
 use Rattle.values.specs.declared.Tunnel.{Tunnel}
@@ -27,7 +28,8 @@ use Rattle.requests.specs.declared.Ebi.the-variants as E
 use Rattle.requests.specs.declared.Request.the-variants.{Create, Modify, Delete}
 use Rattle.requests.specs.declared.Decoded.the-variants.{Sound}
 use Rattle.requests.specs.Create.{createOf}
-use Rattle.changes.specs.Change.{modifyOf, deleteOf}
+use Rattle.changes.specs.Change.{modifyOf, deleteOf, endMoves, contextMoves, movesOf, ebiMeans, meansOf}
+use Rattle.changes.specs.declared.Moves.the-variants as N
 use Rattle.promises.specs.Values.{ImsiValue, RatValue, TunnelValue, ApnValue, PaaValue, EbiValue, QosValue, recoverySent, Has}
 use Rattle.promises.specs.Values.{found, imsi-sent, rat-sent, tunnel-sent, tunnel-lacks, paa-sent}
 use Rattle.promises.specs.Values.{ebi-octet, ebi-sent, qos-sent, recovery-sent, named-point, plan-names}
@@ -100,12 +102,32 @@ pub record GoodDelete (l : List Sent) (d : D.Delete) : Type 0 where
   pub ebi : EbiSent l (d .ebi)
   pub bearer : WholeBearer (firstOf l bearerKind 0)
 
--- ---- the promise: what is well-formed is read, and holds what was meant
+-- ---- what a session is asked for by its EBI: a Modify whose Bearer Context has it, if there is one; a Delete that has it or none
+unfoldable pub ModifyFor : Context → ℕ → Type 0
+ModifyFor X.Absent ebi = Unit {0}
+ModifyFor (X.Present x user) ebi = x ≡ ebi
+
+unfoldable pub DeleteFor : Ebi → ℕ → Type 0
+DeleteFor E.Absent ebi = Unit {0}
+DeleteFor (E.Given x) ebi = x ≡ ebi
+
+-- the user end that a Modify asks for: another, or as it was
+unfoldable pub userEnd : Context → Peer
+userEnd X.Absent = P.Same
+userEnd (X.Present x (T.Value teid addr)) = P.New teid addr
+userEnd (X.Present x T.Missing) = P.Same
+userEnd (X.Present x T.Short) = P.Same
+userEnd (X.Present x T.Wrong) = P.Same
+
+-- ---- the promise: what is well-formed is read, and holds what was meant; for its session a Modify moves the peer and a Delete is meant
 pub record GoodIsRead : Type 0 where
   pub create : (plan : Plan) (l : List Sent) (c : C.Create) → accepted plan ≡ true → GoodCreate plan l c
       → createOf plan (written l) ≡ Sound (Create c)
   pub modify : (l : List Sent) (m : M.Modify) → GoodModify l m → modifyOf (written l) ≡ Sound (Modify m)
   pub delete : (l : List Sent) (d : D.Delete) → GoodDelete l d → deleteOf (written l) ≡ Sound (Delete d)
+  pub moves : (l : List Sent) (m : M.Modify) (ebi : ℕ) → GoodModify l m → ModifyFor (m .context) ebi
+      → movesOf m ebi ≡ N.To (m .control) (userEnd (m .context))
+  pub means : (l : List Sent) (d : D.Delete) (ebi : ℕ) → GoodDelete l d → DeleteFor (d .ebi) ebi → meansOf d ebi ≡ true
 
 -- ---- laws: no overrun
 module _ (l : List Sent) (fit : every fits l ≡ true) where
@@ -201,9 +223,34 @@ delete-good l d g = by (d .ebi) (g .ebi)
     by (E.Given ebi) h =
         rw (whole-either l (g .fit) (firstOf l bearerKind 0) refl (g .bearer), ebi-octet l (g .fit) ebi h, h .good .low)
 
+modify-moves : (l : List Sent) (m : M.Modify) (ebi : ℕ) → GoodModify l m → ModifyFor (m .context) ebi
+    → movesOf m ebi ≡ N.To (m .control) (userEnd (m .context))
+unfolding ModifyFor ContextSent UserSent userEnd movesOf contextMoves endMoves
+modify-moves l m ebi g h = by (m .context) (g .context) h
+  where
+    tunnel : (b : List Sent) (x : ℕ) (t : Tunnel) → UserSent b t → endMoves (m .control) t ≡ N.To (m .control) (userEnd (X.Present x t))
+    tunnel b x (T.Value teid addr) k = refl
+    tunnel b x T.Missing k = refl
+    tunnel b x T.Short k = absurd k
+    tunnel b x T.Wrong k = absurd k
+
+    by : (k : Context) → ContextSent l k → ModifyFor k ebi → contextMoves (m .control) k ebi ≡ N.To (m .control) (userEnd k)
+    by X.Absent c f = refl
+    by (X.Present x t) c f = rw (eq-eqb x ebi f) (tunnel (c .good .fields) x t (c .good .tunnel))
+
+delete-means : (l : List Sent) (d : D.Delete) (ebi : ℕ) → GoodDelete l d → DeleteFor (d .ebi) ebi → meansOf d ebi ≡ true
+unfolding DeleteFor meansOf ebiMeans
+delete-means l d ebi g h = by (d .ebi) h
+  where
+    by : (k : Ebi) → DeleteFor k ebi → ebiMeans k ebi ≡ true
+    by E.Absent f = refl
+    by (E.Given x) f = eq-eqb x ebi f
+
 pub good-is-read : GoodIsRead
 good-is-read = record {
   create = create-good;
   modify = modify-good;
   delete = delete-good;
+  moves = modify-moves;
+  means = delete-means;
 }

@@ -37,11 +37,13 @@ use Rattle.carried.specs.declared.BearerReply.the-variants as B
 use Rattle.gpdu.specs.Header as user
 use Rattle.promises.specs.Sent.{Holds}
 
--- ---- the header: version 2, P unset, the type, the length that is the size less 4, the TEID (0 where there is none), the sequence number, and
--- where the fields begin
+-- ---- the header: version 2, P unset, spare bits 0, the type, the length that is the size less 4, the TEID (0 where there is none), the sequence
+-- number, and where the fields begin, behind a spare octet of 0
 pub record HeaderRead (d : List ℕ) (kind teid sequence fields : ℕ) : Type 0 where
   pub version : versionOf d ≡ 2
   pub plain : flagP d ≡ 0
+  pub spareBits : getD d 0 0 % 8 ≡ 0
+  pub spareOctet : getD d (fields - 1) 0 ≡ 0
   pub whole : lengthOf d + 4 ≡ length d
   pub header : headerOf d ≡ record { kind = kind; teid = teid; sequence = sequence; fields = fields }
 
@@ -80,11 +82,11 @@ pub record CauseRead (type teid seq cause field instance : ℕ) : Type 0 where
   pub bareValue : Holds (drop 12 (causeReply type teid seq cause)) causeKind 0 (cause ∷ 0 ∷ [])
   pub namedField : Holds (drop 12 (faultReply type teid seq cause field instance)) causeKind 0 (cause ∷ 0 ∷ field ∷ 0 ∷ 0 ∷ instance ∷ [])
 
--- ---- the accepted reply to a Create: the places of its PAA and its Bearer Context, and every field
 -- the type of APN Restriction, which is written and never read
 abbrev pub restrictionKind : ℕ
 restrictionKind = 127
 
+-- ---- the accepted reply to a Create: the places of its PAA and its Bearer Context, and every field
 pub record CreateRead (d : List ℕ) (teid seq control controladdr address ebi user useraddr recovery : ℕ) : Type 0 where
   pub header : HeaderRead d createReplyType teid seq 12
   pub runs : overIn (drop 12 d) ≡ false
@@ -168,6 +170,31 @@ bare-back : (type seq recovery : ℕ) → Seq seq
 unfolding messages.echoOf headerOf kindOf teidOf sequenceOf sequenceBare headerSize withTeid flagT octetsOf numberOf numberFrom
 bare-back type seq recovery k = rw (number-back 3 seq k)
 
+-- every header that is written
+headed : (type teid seq size : ℕ) (l : List ℕ) → Word teid → Seq seq
+    → lengthOf (headerTo type size teid seq ++ l) + 4 ≡ length (headerTo type size teid seq ++ l)
+    → HeaderRead (headerTo type size teid seq ++ l) type teid seq 12
+unfolding headerTo versionOf flagP octetsOf
+headed type teid seq size l h k e = record {
+  version = refl;
+  plain = refl;
+  spareBits = refl;
+  spareOctet = refl;
+  whole = e;
+  header = header-back type teid seq size l h k;
+}
+
+bare-headed : (type seq recovery : ℕ) → Seq seq → HeaderRead (messages.echoOf type seq recovery) type 0 seq 8
+unfolding messages.echoOf versionOf flagP lengthOf octetsOf numberOf numberFrom
+bare-headed type seq recovery h = record {
+  version = refl;
+  plain = refl;
+  spareBits = refl;
+  spareOctet = refl;
+  whole = refl;
+  header = bare-back type seq recovery h;
+}
+
 tunnel-back : (flags interface teid addr : ℕ) → leb 128 flags ≡ true → eqb (flags % 64) interface ≡ true → 0 < teid → Word teid → Word addr
     → tunnelOf (flags ∷ octetsOf 4 teid ++ octetsOf 4 addr) interface ≡ T.Value teid addr
 unfolding tunnelOf tunnelSize tunnelGood wordAt octetsOf numberOf numberFrom
@@ -187,8 +214,8 @@ unfolding messages.echoOf gateOf versionOf lengthOf flagP flagT kindOf flagOf ba
     controlVersion octetsOf numberOf numberFrom carried.echoOf carried.echoReplyOf overIn overWithin overruns overFrom recoveryIn recoveryOf
     octetIn octetAt find firstIn fieldsOf fieldsFrom
 echo-read seq recovery h = record {
-  asks = record { version = refl; plain = refl; whole = refl; header = bare-back echoType seq recovery h };
-  answers = record { version = refl; plain = refl; whole = refl; header = bare-back echoReplyType seq recovery h };
+  asks = bare-headed echoType seq recovery h;
+  answers = bare-headed echoReplyType seq recovery h;
   asksTaken = refl;
   answersTaken = refl;
   asksRuns = refl;
@@ -201,8 +228,8 @@ cause-read : (type teid seq cause field instance : ℕ) → Word teid → Seq se
 unfolding causeReply faultReply causeField faultField headerTo versionOf flagP lengthOf octetsOf numberOf numberFrom carried.bearerReplyOf
     carried.causeOf overIn overWithin overruns overFrom octetIn octetAt find firstIn fieldsOf fieldsFrom
 cause-read type teid seq cause field instance h k = record {
-  bare = record { version = refl; plain = refl; whole = refl; header = header-back type teid seq 14 (causeField cause) h k };
-  named = record { version = refl; plain = refl; whole = refl; header = header-back type teid seq 18 (faultField cause field instance) h k };
+  bare = headed type teid seq 14 (causeField cause) h k refl;
+  named = headed type teid seq 18 (faultField cause field instance) h k refl;
   bareRuns = refl;
   namedRuns = refl;
   bareCause = refl;
@@ -215,22 +242,19 @@ modify-read : (teid seq ebi : ℕ) → Word teid → Seq seq → 5 ≤ ebi → e
 unfolding modifyBearer causeField ebiField headerTo versionOf flagP lengthOf octetsOf numberOf numberFrom overIn overWithin overruns
     overFrom ebiIn octetIn octetAt find firstIn fieldsOf fieldsFrom
 modify-read teid seq ebi h k a b = record {
-  header = record { version = refl; plain = refl; whole = refl; header = head };
+  header = headed modifyReplyType teid seq 29 (drop 12 (modifyBearer teid seq ebi)) h k refl;
   runs = refl;
   cause = refl;
   bearerAt = refl;
   bearerEbi = ebi-back ebi a b;
   bearerCause = refl;
 }
-  where
-    head : headerOf (modifyBearer teid seq ebi) ≡ record { kind = modifyReplyType; teid = teid; sequence = seq; fields = 12 }
-    head = header-back modifyReplyType teid seq 29 (drop 12 (modifyBearer teid seq ebi)) h k
 
 delete-bearer-read : (teid seq ebi : ℕ) → Word teid → Seq seq → 5 ≤ ebi → ebi ≤ 15 → DeleteBearerRead teid seq ebi
 unfolding deleteBearer ebiField headerTo versionOf flagP lengthOf octetsOf numberOf numberFrom overIn overWithin overruns overFrom ebiIn
     octetIn octetAt find firstIn fieldsOf fieldsFrom
 delete-bearer-read teid seq ebi h k a b = record {
-  header = record { version = refl; plain = refl; whole = refl; header = header-back bearerType teid seq 13 (ebiField ebi) h k };
+  header = headed bearerType teid seq 13 (ebiField ebi) h k refl;
   runs = refl;
   bearerEbi = ebi-back ebi a b;
 }
@@ -243,7 +267,7 @@ create-read : (teid seq control controladdr address ebi user useraddr recovery :
 unfolding createAccepted causeField tunnelField ebiField headerTo versionOf flagP lengthOf octetsOf numberOf numberFrom overIn overWithin
     overruns overFrom paaIn ebiIn recoveryIn recoveryOf octetIn octetAt find firstIn fieldsOf fieldsFrom wordAt
 create-read teid seq control controladdr address ebi user useraddr recovery h k hc zc ha hd a b hu zu hv = record {
-  header = record { version = refl; plain = refl; whole = refl; header = head };
+  header = headed createReplyType teid seq 74 rest h k refl;
   runs = refl;
   cause = refl;
   controlTunnel = tunnel-found rest 1 7 10 9 (0x87 ∷ octetsOf 4 control ++ octetsOf 4 controladdr) (T.Value control controladdr) refl refl
@@ -263,14 +287,14 @@ create-read teid seq control controladdr address ebi user useraddr recovery h k 
     rest : List ℕ
     rest = drop 12 (createAccepted teid seq control controladdr address ebi user useraddr recovery)
 
-    head : headerOf (createAccepted teid seq control controladdr address ebi user useraddr recovery)
-        ≡ record { kind = createReplyType; teid = teid; sequence = seq; fields = 12 }
-    head = header-back createReplyType teid seq 74 rest h k
-
 version-read : VersionRead
 unfolding versionNotSupported gateOf headerOf versionOf lengthOf flagP flagT kindOf flagOf bareTypes tunnelTypes notTaken teidOf sequenceOf
     sequenceBare withTeid headerSize controlVersion numberOf numberFrom
-version-read = record { header = record { version = refl; plain = refl; whole = refl; header = refl }; headerTaken = refl; bare = refl }
+version-read = record {
+  header = record { version = refl; plain = refl; spareBits = refl; spareOctet = refl; whole = refl; header = refl };
+  headerTaken = refl;
+  bare = refl;
+}
 
 user-echo-read : (seq : ℕ) → seq < 65536 → UserEchoRead (userEcho seq) seq
 unfolding userEcho user.ours user.teidOf user.sequenceOf octetsOf numberOf numberFrom
