@@ -16,6 +16,7 @@ use Rattle.promises.specs.Encoded.{EncodedIsRead, encoded-is-read}
 use Rattle.promises.specs.Datagrams.{DatagramsTaken, datagrams-taken}
 use Rattle.promises.specs.Repeats.{RepeatsAnswered, AgainTheSame, repeats-answered, again-the-same}
 use Rattle.promises.specs.Resends.{ResendsWhole, resends-whole}
+use Rattle.promises.specs.Echoing.{EchoWhole, echo-whole}
 use Rattle.promises.specs.Printed.{LinesWhole, lines-whole}
 use Rattle.promises.specs.Packets.{LiveOnly, live-only}
 use Rattle.promises.specs.Carried.{AllCarried, all-carried}
@@ -62,6 +63,7 @@ pub record Demand2 : Type 0 where
   pub again : AgainTheSame
   pub ticks : EveryTickCounts
   pub resends : ResendsWhole
+  pub echoes : EchoWhole
   pub inTime : FreedInTime
   pub allSent : SendsEnd
   pub lines : LinesWhole
@@ -115,6 +117,7 @@ demand-2 = record {
   again = again-the-same;
   ticks = every-tick-counts;
   resends = resends-whole;
+  echoes = echo-whole;
   inTime = freed-in-time;
   allSent = sends-end;
   lines = lines-whole;

@@ -5,6 +5,7 @@ pub mod Counts
 pub mod Creates
 pub mod Datagrams
 pub mod Demands
+pub mod Echoing
 pub mod Encoded
 pub mod Encoder
 pub mod Ends

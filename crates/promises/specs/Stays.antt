@@ -37,43 +37,52 @@ echo-reply-plan : (node : Node) (t : List Session) (r : Recovery) (reply : List 
 unfolding echoReplyTaken echoEnded timed noReply
 echo-reply-plan node t r reply = heard-plan r node t
 
-module _ (c : C.Create) (seq : ℕ) (node₀ : Node) (t₀ : List Session) (reply : List ℕ) where
-  shared-plan : (node : Node) (t : List Session) → node .plan ≡ node₀ .plan → shared c seq node t node₀ t₀ reply .answer .node .plan ≡ node₀ .plan
-  unfolding shared openedAt acceptedTaken causeTaken noReply
-  shared-plan node t e = split (admits (node .plan) (live t) (c .point)) (λ q. rw q (place (foundIn isFree t))) (λ q. rw q e)
-    where
-      place : (f : Found) → openedAt f c seq node t node₀ t₀ reply .answer .node .plan ≡ node₀ .plan
-      place F.Nothing = refl
-      place (F.At i) = e
+-- ---- a part of the node that no Recovery touches: of all control datagrams only the reply to the unit's own echo can
+module _ {B : Type 0} (f : Node → B) (hears : (r : Recovery) (node : Node) (t : List Session) → f (heardBy r node t .node) ≡ f node) where
+  module _ (c : C.Create) (seq : ℕ) (node₀ : Node) (t₀ : List Session) (reply : List ℕ) where
+    shared-part : (node : Node) (t : List Session) → f node ≡ f node₀ → f (shared c seq node t node₀ t₀ reply .answer .node) ≡ f node₀
+    unfolding shared openedAt acceptedTaken causeTaken noReply
+    shared-part node t e = split (admits (node .plan) (live t) (c .point)) (λ q. rw q (place (foundIn isFree t))) (λ q. rw q e)
+      where
+        place : (g : Found) → f (openedAt g c seq node t node₀ t₀ reply .answer .node) ≡ f node₀
+        place F.Nothing = refl
+        place (F.At i) = e
 
-  settled-plan : (node : Node) (t : List Session) → node .plan ≡ node₀ .plan → (f : Found) → settledAt f c seq node t node₀ t₀ reply .answer .node .plan ≡ node₀ .plan
-  unfolding settledAt acceptedTaken
-  settled-plan node t e F.Nothing = shared-plan node t e
-  settled-plan node t e (F.At i) =
-      split (isRepeat c seq (getD t i nobody)) (λ x. rw x e) (λ x. rw x (shared-plan node (changedAt freed i t) e))
+    settled-part : (node : Node) (t : List Session) → f node ≡ f node₀ → (g : Found) → f (settledAt g c seq node t node₀ t₀ reply .answer .node) ≡ f node₀
+    unfolding settledAt acceptedTaken
+    settled-part node t e F.Nothing = shared-part node t e
+    settled-part node t e (F.At i) =
+        split (isRepeat c seq (getD t i nobody)) (λ x. rw x e) (λ x. rw x (shared-part node (changedAt freed i t) e))
 
-create-plan : (node : Node) (t : List Session) (c : C.Create) (seq : ℕ) (reply : List ℕ) → createTaken c seq node t reply .answer .node .plan ≡ node .plan
-unfolding createTaken heardCreate
-create-plan node t c seq reply =
-    settled-plan c seq node t reply (heardBy (c .recovery) node t .node) (heardBy (c .recovery) node t .table) (heard-plan (c .recovery) node t)
-    (foundIn (hasId (c .imsi) (c .ebi)) (heardBy (c .recovery) node t .table))
+  create-part : (node : Node) (t : List Session) (c : C.Create) (seq : ℕ) (reply : List ℕ) → f (createTaken c seq node t reply .answer .node) ≡ f node
+  unfolding createTaken heardCreate
+  create-part node t c seq reply =
+      settled-part c seq node t reply (heardBy (c .recovery) node t .node) (heardBy (c .recovery) node t .table) (hears (c .recovery) node t)
+      (foundIn (hasId (c .imsi) (c .ebi)) (heardBy (c .recovery) node t .table))
+
+  pub asked-part : (node : Node) (t : List Session) (a : Asked) (reply : List ℕ)
+      → ((r : Recovery) → a ≡ A.EchoReply r → f (askedTaken node t a reply .answer .node) ≡ f node) → f (askedTaken node t a reply .answer .node) ≡ f node
+  unfolding askedTaken echoTaken causeTaken onOwner onSession noReply
+  asked-part node t (A.Silent number) reply k = refl
+  asked-part node t A.Version reply k = refl
+  asked-part node t (A.Echo r seq) reply k = hears r node t
+  asked-part node t (A.EchoReply r) reply k = k r refl
+  asked-part node t (A.Create c seq) reply k = create-part node t c seq reply
+  asked-part node t (A.Refused w to seq) reply k = refl
+  asked-part node t (A.Session teid seq x) reply k = refl
+
+  pub control-part : (node : Node) (t : List Session) (d reply : List ℕ)
+      → ((r : Recovery) → askedOf node d ≡ A.EchoReply r → f (askedTaken node t (askedOf node d) reply .answer .node) ≡ f node)
+      → f (controlTaken node t d reply .answer .node) ≡ f node
+  unfolding controlTaken noReply
+  control-part node t d reply k =
+      split (ltb (length reply) leastReply) (λ a. rw a)
+      (λ a. split (keepsRules node t) (λ e. rw (a, e) (asked-part node t (askedOf node d) reply k)) (λ e. rw (a, e)))
 
 module _ (node : Node) (t : List Session) where
-  asked-plan : (a : Asked) (reply : List ℕ) → askedTaken node t a reply .answer .node .plan ≡ node .plan
-  unfolding askedTaken echoTaken causeTaken onOwner onSession noReply
-  asked-plan (A.Silent number) reply = refl
-  asked-plan A.Version reply = refl
-  asked-plan (A.Echo r seq) reply = heard-plan r node t
-  asked-plan (A.EchoReply r) reply = echo-reply-plan node t r reply
-  asked-plan (A.Create c seq) reply = create-plan node t c seq reply
-  asked-plan (A.Refused w to seq) reply = refl
-  asked-plan (A.Session teid seq x) reply = refl
-
   control-plan : (d reply : List ℕ) → controlTaken node t d reply .answer .node .plan ≡ node .plan
-  unfolding controlTaken noReply
-  control-plan d reply =
-      split (ltb (length reply) leastReply) (λ a. rw a)
-      (λ a. split (keepsRules node t) (λ e. rw (a, e) (asked-plan (askedOf node d) reply)) (λ e. rw (a, e)))
+  unfolding askedTaken
+  control-plan d reply = control-part (λ n. n .plan) heard-plan node t d reply (λ r e. rw e (echo-reply-plan node t r reply))
 
   tick-plan : tickOf node t .answer .node .plan ≡ node .plan
   unfolding tickOf timed noReply
