@@ -44,6 +44,7 @@ pub record Demand1 : Type 0 where
 -- 2. Reading and writing follow the standards: the same fields, reply octets, tunnel numbers and resends; a user packet is handed up only under
 -- a live user number, as exactly the octets it carried
 pub record Demand2 : Type 0 where
+  pub hosts : HostsRun
   pub pairs : PairsHold
   pub create : CreateAnswers
   pub modify : ModifyAnswers
@@ -98,6 +99,7 @@ demand-1 = record {
 
 pub demand-2 : Demand2
 demand-2 = record {
+  hosts = hosts-run;
   pairs = pairs-hold;
   create = create-answers;
   modify = modify-answers;

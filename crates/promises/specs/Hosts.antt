@@ -1,6 +1,6 @@
 -- A host's run is a run. A host holds the node and the records; it lends them to one exported call after another and stores the node that
--- comes back. Of a call nothing is known but its contract and its types. So what the demands say of runs (Run.antt) they say of hosts, and
--- nothing is owed for it: that a datagram is made of octets its type says (`octets_by_type` in src/lib.rt).
+-- comes back. Of a call nothing is known but its contract and its types: that is `Called`, and crate hosts shows that each exported function
+-- meets it. So what the demands say of runs (Run.antt) they say of hosts, and a host owes nothing for it.
 -- Assumes nothing.
 use Prim.Native.Nat.{ℕ, suc, _<_}
 use mathlib.Core.Bool.{true}
@@ -30,7 +30,8 @@ abbrev pub Stores : Answer → State → ℕ → Type 0
 Stores r k n = (k .node ≡ r .node) × (n ≡ r .number)
 
 -- one call, from what the host holds to what it holds then, with the number that came back: word for word the contract of the exported
--- function, whatever answer r and reply buffer x meet it. Records that are lent to be read are as before
+-- function, whatever answer r and reply buffer x meet it. A datagram is made of octets, by its type (`octets_by_type` in src/lib.rt); records
+-- that are lent to be read are as before
 unfoldable pub Called : Event → State → State → ℕ → Type 0
 Called (control d reply) h k n =
     (every isOctet d ≡ true) × (r : Answer) × (x : List ℕ) × (outcome r (k .table) x ≡ controlTaken (h .node) (h .table) d reply) × Stores r k n

@@ -23,6 +23,7 @@ pub fn a_rented_place_stays_rented()
     ensures { λ _. ⌜ Demand3 ⌝ }
 {}
 
+// A call, before which the type of every lent slice is told.
 fn nothing() {}
 
 // A datagram is made of octets by its type: the one thing that a run asks of its datagrams (specs/Run.antt) no host owes.
