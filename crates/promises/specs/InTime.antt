@@ -1,4 +1,5 @@
 -- If all due is sent before each tick, a place has been freed by the N × T-th tick after its close: in any run, whatever else is called between.
+-- That all due can be sent, and when it has been: Ends.antt.
 -- Assumes nothing.
 use Prim.Native.Nat.{ℕ, _+_, _-_, _*_, _%_, _<_, _≤_}
 use mathlib.Core.Bool.{Bool, true, false, not, _&&_, _||_}

@@ -1,5 +1,5 @@
--- User packets after any run: handed up only under a live user number, at the place that has it; never where there is a refusal or a reply.
--- What is handed up is what was carried: Carried.antt.
+-- User packets, on any table that keeps its rules, so after any run: handed up only under a live user number, at the place that has it; never
+-- where there is a refusal or a reply. What is handed up is what was carried: Carried.antt.
 -- Assumes nothing.
 use Prim.Native.Nat.{ℕ, _<_, _≤_}
 use mathlib.Core.Bool.{Bool, true, false, not, _&&_}
@@ -15,20 +15,21 @@ use Rattle.tunnel.specs.Numbering.{places, userOffset, user-fits}
 use Rattle.tunnel.specs.declared.Holder.{Holder}
 use Rattle.tunnel.specs.declared.Holder.the-variants as K
 use Rattle.tunnel.specs.Tunnel.{userNumber, holderOf, holder-held}
-use Rattle.plan.specs.declared.Plan.{Plan}
 use Rattle.session.specs.declared.Session.{Session}
 use Rattle.session.specs.Session.{isFree}
 use Rattle.table.specs.declared.Found.{Found}
 use Rattle.table.specs.declared.Found.the-variants as F
+use Rattle.table.specs.Rules.{rules-of}
 use Rattle.table.specs.Change.{nobody}
 use Rattle.table.specs.Find.{ownerOf, heldIn, owner-is}
 use Rattle.messages.specs.Messages.{size-user-echo}
 use Rattle.timing.specs.Outcome.{State, leastReply}
-use Rattle.gpdu.specs.Header.{echoType, packetType, typeTaken, typeOf, teidOf, sequenceOf, refusalOf, headerOf, header-packet, header-echo, header-passed}
+use Rattle.gpdu.specs.Header.{echoType, packetType, typeTaken, typeOf, teidOf, sequenceOf, refusalOf, headerOf}
+use Rattle.gpdu.specs.Header.{header-packet, header-echo, header-passed}
 use Rattle.gpdu.specs.User.{userOf, user-passed}
 use Rattle.userside.specs.UserSide.{Took, took, headerTaken, packetTaken, userTaken, user-short, user-unread, user-read}
-use Rattle.promises.specs.Run.{Event, reached, Run, Kept, reached-keeps}
-use Rattle.promises.specs.Bounds.{at, reached-rules}
+use Rattle.promises.specs.Run.{Kept}
+use Rattle.promises.specs.Bounds.{at}
 
 -- what comes back for a user datagram
 abbrev pub took-of : State → List ℕ → List ℕ → Took
@@ -50,7 +51,7 @@ pub record Fairly (s : State) (d : List ℕ) (w : Took) : Type 0 where
   pub replied : w .size ≢ 0 → w .start ≡ length d
 
 unfoldable pub LiveOnly : Type 0
-LiveOnly = (p : Plan) (es : List Event) → Run p es → (d reply : List ℕ) → Fairly (reached p es) d (took-of (reached p es) d reply)
+LiveOnly = (s : State) → Kept s → (d reply : List ℕ) → Fairly s d (took-of s d reply)
 
 -- ---- who has a number
 pub record Owns (n place : ℕ) (l : List Session) : Type 0 where
@@ -126,7 +127,8 @@ module _ (s : State) (k : Kept s) (size : length (s .table) ≡ 64) (d reply : L
       split (eqb (typeOf d) echoType)
       (λ q. let z = size-user-echo (sequenceOf d) in
       rw (header-echo d (eqb-true (typeOf d) echoType q)) (record { handed = λ a b. absurd (omega arith); refused = λ a. refl; replied = λ a. refl }))
-      (λ q. rw (header-packet d (eqb-false (typeOf d) echoType q)) (packet-fair (packet-type d e (eqb-false (typeOf d) echoType q)) (ownerOf userOffset (teidOf d) (s .table)) refl))
+      (λ q. let n = eqb-false (typeOf d) echoType q in
+      rw (header-packet d n) (packet-fair (packet-type d e n) (ownerOf userOffset (teidOf d) (s .table)) refl))
 
   pub user-fair : Fairly s d (took-of s d reply)
   user-fair =
@@ -141,4 +143,4 @@ module _ (s : State) (k : Kept s) (size : length (s .table) ≡ 64) (d reply : L
 
 pub live-only : LiveOnly
 unfolding LiveOnly places
-live-only p es r d reply = user-fair (reached p es) (reached-keeps p es r) (reached-rules p es r .size) d reply
+live-only s k d reply = user-fair s k (rules-of (s .node) (s .table) k .size) d reply
