@@ -126,6 +126,10 @@ module _ (b : Bench) (t : List Session) (out : List ℕ) (h : b .made ≤ length
   unfolding planTaken planShown answered keptIn phased printed
   plan-node = split (eqb (freshOf (b .node .plan) t .answer .number) 0) (λ e. rw e) (λ e. rw e)
 
+  pub plan-lines : planTaken b t out .bench .lines ≡ b .lines
+  unfolding planTaken planShown answered keptIn phased printed
+  plan-lines = split (eqb (freshOf (b .node .plan) t .answer .number) 0) (λ e. rw e) (λ e. rw e)
+
   pub plan-table : planTaken b t out .table ≡ planTaken b t [] .table
   unfolding planTaken
   plan-table = refl
