@@ -1,3 +1,4 @@
-pub mod State
-pub mod Plans
 pub mod Ended
+pub mod Plans
+pub mod State
+pub mod Whole

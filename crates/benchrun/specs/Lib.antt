@@ -1,2 +1,4 @@
 pub mod Run
 pub mod Taken
+pub mod Replies
+pub mod Whole

@@ -17,6 +17,11 @@ use requests::Delete;
 use requests::Modify;
 use requests::Peer;
 use requests::Request;
+ghost use mathlib.Core.Path.{_≡_};
+ghost use Rattle.requestshost.specs.Host.{pointCalled, trialPlan, flag, recoveryNumber, endOf, cameOf, headNumbers, refusedNumbers};
+ghost use Rattle.requestshost.specs.Host.{createNumbers, endsNumbers, movesNumbers, modifyNumbers, goneNumbers, deleteNumbers};
+ghost use Rattle.requestshost.specs.Host.{requestNumbers, decodedNumbers, repliedTo, createIn, modifyIn, deleteIn};
+ghost use Rattle.requestshost.specs.Host.{echoUnread, echoCarries, bearerUnread, bearerCause, carriedIn, answerRow, carriedRow};
 
 #[repr(C)]
 pub struct Head {
@@ -64,8 +69,17 @@ pub struct Carried {
     pub cause: u32,
 }
 
+// A tunnel end that a Modify moves: 0 where it stays.
+pub struct End {
+    pub moved: u64,
+    pub teid: u64,
+    pub address: u64,
+}
+
 // An access point of a name, with one place promised and no ceiling but the unit's.
-fn called(name: &[u8], size: u8) -> AccessPoint {
+fn called(name: &[u8], size: u8) -> AccessPoint
+    ensures { λ r. ⌜ r ≡ pointCalled (now (name .entry)) size ⌝ }
+{
     let mut all = [0u8; 63];
     octets::copy_front(name, &mut all);
     AccessPoint {
@@ -77,7 +91,9 @@ fn called(name: &[u8], size: u8) -> AccessPoint {
 }
 
 // A plan of three access points: data, net, and a name of 63 octets.
-pub fn trial_plan() -> Plan {
+pub fn trial_plan() -> Plan
+    ensures { λ r. ⌜ r ≡ trialPlan ⌝ }
+{
     let a = called(b"\x04data", 5);
     let b = called(b"\x03net", 4);
     let c = called(
@@ -98,13 +114,31 @@ pub fn trial_plan() -> Plan {
     }
 }
 
-fn nothing() -> Answer {
+fn flag_number(b: bool) -> u64
+    ensures { λ r. ⌜ r ≡ flag b ⌝ }
+{
+    if b { 1 } else { 0 }
+}
+
+pub fn recovery_number(r: Recovery) -> u32
+    ensures { λ n. ⌜ n ≡ recoveryNumber r ⌝ }
+{
+    match r {
+        Recovery::None => 256,
+        Recovery::Value(x) => x as u32,
+    }
+}
+
+fn refused(w: Refusal) -> Answer
+    ensures { λ r. ⌜ r ≡ refusedNumbers w ⌝ }
+{
+    let named = flag_number(w.named);
     Answer {
         imsi: 0,
-        number: 0,
-        named: 0,
-        field: 0,
-        instance: 0,
+        number: w.cause as u64,
+        named,
+        field: w.kind as u64,
+        instance: w.instance as u64,
         kind: 0,
         ebi: 0,
         control: 0,
@@ -120,80 +154,140 @@ fn nothing() -> Answer {
     }
 }
 
-fn flag(b: bool) -> u64 {
-    if b { 1 } else { 0 }
-}
-
-pub fn recovery_number(r: Recovery) -> u32 {
-    match r {
-        Recovery::None => 256,
-        Recovery::Value(x) => x as u32,
+fn of_create(c: Create) -> Answer
+    ensures { λ r. ⌜ r ≡ createNumbers c ⌝ }
+{
+    let r = c.recovery;
+    let recovery = recovery_number(r);
+    Answer {
+        imsi: c.imsi,
+        number: 0,
+        named: 0,
+        field: 0,
+        instance: 0,
+        kind: MessageType::CREATE as u64,
+        ebi: c.ebi as u64,
+        control: c.control as u64,
+        controladdr: c.controladdr as u64,
+        user: c.user as u64,
+        useraddr: c.useraddr as u64,
+        point: c.point as u64,
+        recovery: recovery as u64,
+        moved: 0,
+        context: 0,
+        usermoved: 0,
+        replyto: 0,
     }
 }
 
-fn refused(w: Refusal) -> Answer {
-    let mut a = nothing();
-    a.number = w.cause as u64;
-    a.named = flag(w.named);
-    a.field = w.kind as u64;
-    a.instance = w.instance as u64;
-    a
+fn end_of(p: Peer) -> End
+    ensures { λ r. ⌜ r ≡ endOf p ⌝ }
+{
+    match p {
+        Peer::Same => End {
+            moved: 0,
+            teid: 0,
+            address: 0,
+        },
+        Peer::New { teid, address } => End {
+            moved: 1,
+            teid: teid as u64,
+            address: address as u64,
+        },
+    }
 }
 
-fn of_create(c: Create) -> Answer {
-    let mut a = nothing();
-    a.kind = MessageType::CREATE as u64;
-    a.imsi = c.imsi;
-    a.ebi = c.ebi as u64;
-    a.control = c.control as u64;
-    a.controladdr = c.controladdr as u64;
-    a.user = c.user as u64;
-    a.useraddr = c.useraddr as u64;
-    a.point = c.point as u64;
-    let recovery = c.recovery;
-    a.recovery = recovery_number(recovery) as u64;
-    a
+// Whether a Bearer Context came.
+fn came(context: Context) -> u64
+    ensures { λ r. ⌜ r ≡ cameOf context ⌝ }
+{
+    match context {
+        Context::Absent => 0,
+        Context::Present { ebi: _, user: _ } => 1,
+    }
 }
 
-fn of_moves(control: Peer, context: Context, user: Peer) -> Answer {
-    let mut a = nothing();
-    a.kind = MessageType::MODIFY as u64;
-    if let Peer::New { teid, address } = control {
-        a.moved = 1;
-        a.control = teid as u64;
-        a.controladdr = address as u64;
+fn of_ends(control: End, context: u64, user: End) -> Answer
+    ensures { λ r. ⌜ r ≡ endsNumbers control context user ⌝ }
+{
+    Answer {
+        imsi: 0,
+        number: 0,
+        named: 0,
+        field: 0,
+        instance: 0,
+        kind: MessageType::MODIFY as u64,
+        ebi: 0,
+        control: control.teid,
+        controladdr: control.address,
+        user: user.teid,
+        useraddr: user.address,
+        point: 0,
+        recovery: 0,
+        moved: control.moved,
+        context,
+        usermoved: user.moved,
+        replyto: 0,
     }
-    if let Context::Present { ebi: _, user: _ } = context {
-        a.context = 1;
-    }
-    if let Peer::New { teid, address } = user {
-        a.usermoved = 1;
-        a.user = teid as u64;
-        a.useraddr = address as u64;
-    }
-    a
 }
 
-// What a Modify and a Delete come to for a session of an EBI.
-fn of_modify(m: Modify, ebi: u8) -> Answer {
-    let context = m.context;
-    match changes::moves_of(m, ebi) {
-        Moves::To { control, user } => of_moves(control, context, user),
+fn of_moves(m: Moves, context: Context) -> Answer
+    ensures { λ r. ⌜ r ≡ movesNumbers m context ⌝ }
+{
+    match m {
+        Moves::To { control, user } => {
+            let c = end_of(control);
+            let x = came(context);
+            of_ends(c, x, end_of(user))
+        }
         Moves::Refused(w) => refused(w),
     }
 }
 
-fn of_delete(d: Delete, ebi: u8) -> Answer {
-    if !changes::means_of(d, ebi) {
-        return refused(Refusal::bare(Refusal::NOT_LIVE));
-    }
-    let mut a = nothing();
-    a.kind = MessageType::DELETE as u64;
-    a.ebi = ebi as u64;
-    a
+// What a Modify and a Delete come to for a session of an EBI.
+fn of_modify(m: Modify, ebi: u8) -> Answer
+    ensures { λ r. ⌜ r ≡ modifyNumbers m ebi ⌝ }
+{
+    let context = m.context;
+    of_moves(changes::moves_of(m, ebi), context)
 }
 
-fn of_request(q: Request, ebi: u8) -> Answer {
+fn gone(ebi: u8) -> Answer
+    ensures { λ r. ⌜ r ≡ goneNumbers ebi ⌝ }
+{
+    Answer {
+        imsi: 0,
+        number: 0,
+        named: 0,
+        field: 0,
+        instance: 0,
+        kind: MessageType::DELETE as u64,
+        ebi: ebi as u64,
+        control: 0,
+        controladdr: 0,
+        user: 0,
+        useraddr: 0,
+        point: 0,
+        recovery: 0,
+        moved: 0,
+        context: 0,
+        usermoved: 0,
+        replyto: 0,
+    }
+}
+
+fn of_delete(d: Delete, ebi: u8) -> Answer
+    ensures { λ r. ⌜ r ≡ deleteNumbers d ebi ⌝ }
+{
+    if changes::means_of(d, ebi) {
+        return gone(ebi);
+    }
+    refused(Refusal::bare(Refusal::NOT_LIVE))
+}
+
+fn of_request(q: Request, ebi: u8) -> Answer
+    ensures { λ r. ⌜ r ≡ requestNumbers q ebi ⌝ }
+{
     match q {
         Request::Create(c) => of_create(c),
         Request::Modify(m) => of_modify(m, ebi),
@@ -201,7 +295,9 @@ fn of_request(q: Request, ebi: u8) -> Answer {
     }
 }
 
-fn of_decoded(d: Decoded, ebi: u8) -> Answer {
+fn of_decoded(d: Decoded, ebi: u8) -> Answer
+    ensures { λ r. ⌜ r ≡ decodedNumbers d ebi ⌝ }
+{
     match d {
         Decoded::Sound(q) => of_request(q, ebi),
         Decoded::Refused(w) => refused(w),
@@ -209,7 +305,9 @@ fn of_decoded(d: Decoded, ebi: u8) -> Answer {
 }
 
 #[no_mangle]
-pub extern "C" fn requests_head(d: &[u8]) -> Head {
+pub extern "C" fn requests_head(d: &[u8]) -> Head
+    ensures { λ r. ⌜ r ≡ headNumbers (now (d .entry)) ⌝ }
+{
     let number = header::gate(d);
     let h = HeaderCursor::of(d);
     Head {
@@ -221,57 +319,99 @@ pub extern "C" fn requests_head(d: &[u8]) -> Head {
     }
 }
 
-// Each takes the octets behind the header.
-#[no_mangle]
-pub extern "C" fn requests_create(s: &[u8]) -> Answer {
-    let plan = trial_plan();
-    let d = requests::read_create(plan, s);
-    let mut a = of_decoded(d, 0);
-    a.replyto = requests::reply_to(s) as u64;
+// With where a cause reply goes.
+fn replied_to(to: u32, mut a: Answer) -> Answer
+    ensures { λ r. ⌜ r ≡ repliedTo to a ⌝ }
+{
+    a.replyto = to as u64;
     a
 }
 
+// Each takes the octets behind the header.
 #[no_mangle]
-pub extern "C" fn requests_modify(s: &[u8], ebi: u8) -> Answer {
+pub extern "C" fn requests_create(s: &[u8]) -> Answer
+    ensures { λ r. ⌜ r ≡ createIn (now (s .entry)) ⌝ }
+{
+    let plan = trial_plan();
+    let d = requests::read_create(plan, s);
+    let a = of_decoded(d, 0);
+    replied_to(requests::reply_to(s), a)
+}
+
+#[no_mangle]
+pub extern "C" fn requests_modify(s: &[u8], ebi: u8) -> Answer
+    ensures { λ r. ⌜ r ≡ modifyIn (now (s .entry)) ebi ⌝ }
+{
     of_decoded(changes::read_modify(s), ebi)
 }
 
 #[no_mangle]
-pub extern "C" fn requests_delete(s: &[u8], ebi: u8) -> Answer {
+pub extern "C" fn requests_delete(s: &[u8], ebi: u8) -> Answer
+    ensures { λ r. ⌜ r ≡ deleteIn (now (s .entry)) ebi ⌝ }
+{
     of_decoded(changes::read_delete(s), ebi)
 }
 
+fn echo_unread(e: EchoReply) -> u32
+    ensures { λ r. ⌜ r ≡ echoUnread e ⌝ }
+{
+    match e {
+        EchoReply::Carries(_) => 0,
+        EchoReply::Unreadable => 1,
+    }
+}
+
+fn echo_carries(e: EchoReply) -> u32
+    ensures { λ r. ⌜ r ≡ echoCarries e ⌝ }
+{
+    match e {
+        EchoReply::Carries(r) => recovery_number(r),
+        EchoReply::Unreadable => 0,
+    }
+}
+
+fn bearer_unread(e: BearerReply) -> u32
+    ensures { λ r. ⌜ r ≡ bearerUnread e ⌝ }
+{
+    match e {
+        BearerReply::Cause(_) => 0,
+        BearerReply::Unreadable => 1,
+    }
+}
+
+fn bearer_cause(e: BearerReply) -> u32
+    ensures { λ r. ⌜ r ≡ bearerCause e ⌝ }
+{
+    match e {
+        BearerReply::Cause(x) => x as u32,
+        BearerReply::Unreadable => 0,
+    }
+}
+
 #[no_mangle]
-pub extern "C" fn requests_carried(s: &[u8]) -> Carried {
-    let mut a = Carried {
-        echo: 0,
-        echounread: 0,
-        echoreply: 0,
-        bearerunread: 0,
-        cause: 0,
-    };
-    a.echo = recovery_number(carried::read_echo(s));
-    match carried::read_echo_reply(s) {
-        EchoReply::Carries(r) => {
-            a.echoreply = recovery_number(r);
-        }
-        EchoReply::Unreadable => {
-            a.echounread = 1;
-        }
+pub extern "C" fn requests_carried(s: &[u8]) -> Carried
+    ensures { λ r. ⌜ r ≡ carriedIn (now (s .entry)) ⌝ }
+{
+    let echo = recovery_number(carried::read_echo(s));
+    let e = carried::read_echo_reply(s);
+    let echounread = echo_unread(e);
+    let echoreply = echo_carries(e);
+    let b = carried::read_bearer_reply(s);
+    let bearerunread = bearer_unread(b);
+    let cause = bearer_cause(b);
+    Carried {
+        echo,
+        echounread,
+        echoreply,
+        bearerunread,
+        cause,
     }
-    match carried::read_bearer_reply(s) {
-        BearerReply::Cause(x) => {
-            a.cause = x as u32;
-        }
-        BearerReply::Unreadable => {
-            a.bearerunread = 1;
-        }
-    }
-    a
 }
 
 // The same as rows of numbers, in the order of a line of `controlvectors`.
-pub fn answer_row(a: Answer) -> [u64; 17] {
+pub fn answer_row(a: Answer) -> [u64; 17]
+    ensures { λ r. ⌜ r ≡ answerRow a ⌝ }
+{
     [
         a.number,
         a.named,
@@ -293,7 +433,9 @@ pub fn answer_row(a: Answer) -> [u64; 17] {
     ]
 }
 
-pub fn carried_row(c: Carried) -> [u64; 5] {
+pub fn carried_row(c: Carried) -> [u64; 5]
+    ensures { λ r. ⌜ r ≡ carriedRow c ⌝ }
+{
     [
         c.echo as u64,
         c.echounread as u64,
