@@ -21,7 +21,8 @@ fn emit(mut b: Bench, out: &[u8]) -> Bench {
     b
 }
 
-// One line of input has at most 8,192 characters printed: a payload of 2,048 octets, 65 datagrams of 17 octets, or 64 lines of places.
+// With 8,192 octets left nothing that a line of input prints, nor the lines of places at the end, is cut (laws `line-whole` and `end-whole` of
+// crate benchrun).
 fn emit_if_full(b: Bench, out: &[u8]) -> Bench {
     if b.made <= 65536 - 8192 {
         return b;
