@@ -103,7 +103,3 @@ unit-shown x a t reply b r out o e f = rw (← e) (ap (beside t) f)
 pub printed-by : (text : List ℕ) (next : ℕ → Bench) (made r : ℕ) (out o : List ℕ) → written r o ≡ laid made text out → shown (next r) o ≡ printed text next made out
 unfolding printed
 printed-by text next made r out o e = ap (λ (w : Written). shown (next (w .at)) (w .out)) e
-
-pub printed-length : (text : List ℕ) (next : ℕ → Bench) (made : ℕ) (out : List ℕ) → length (printed text next made out .out) ≡ length out
-unfolding printed
-printed-length text next made out = laid-length made (laid made text out .at) text out (laid made text out .out) refl

@@ -44,12 +44,3 @@ module _ (node : Node) (t : List Session) (e : keepsRules node t ≡ true) (repl
   unfolding controlTaken noReply
   control-keeps d o =
       split (ltb (length reply) leastReply) (λ a. rw a e) (λ a. rw (a, e) (asked-keeps (askedOf node d) (asked-sound node d) (asked-small node d o)))
-
--- the same, said of all
-unfoldable pub ControlKeeps : Type 0
-ControlKeeps = (node : Node) (t : List Session) → keepsRules node t ≡ true → (reply d : List ℕ) → every isOctet d ≡ true
-    → keepsRules (controlTaken node t d reply .answer .node) (controlTaken node t d reply .table) ≡ true
-
-pub control-holds : ControlKeeps
-unfolding ControlKeeps
-control-holds node t e reply d o = control-keeps node t e reply d o

@@ -19,7 +19,6 @@ ghost use Rattle.control.specs.Echoes.{restartsBy, heardNode};
 ghost use Rattle.octets.specs.Overlay.{Wrote};
 ghost use Rattle.control.specs.Amends.{notLive, causeOctets, peerTeid, peerAddr, peersOf, modifyOctets};
 ghost use Rattle.control.specs.Creates.{openingOf, acceptedOctets, noRoom, isRepeat};
-ghost use Rattle.control.specs.Kept.{ControlKeeps};
 
 // Whether a Recovery says that the exchange restarted.
 pub fn restarts(node: Node, recovery: Recovery) -> bool
@@ -161,8 +160,3 @@ pub fn is_repeat(c: Create, seq: u32, s: Session) -> bool
 {
     (s.point as usize == c.point) & (s.created == seq)
 }
-
-// Take control datagram keeps the table rules.
-pub fn control_keeps_rules()
-    ensures { λ _. ⌜ ControlKeeps ⌝ }
-{}

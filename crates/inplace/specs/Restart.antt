@@ -140,11 +140,6 @@ module _ (node : Node) (l : List Session) (k : keepsRules node l ≡ true) (c : 
   old-gone : getD gone (g .old) nobody ≡ nobody
   old-gone = past gone (g .old) size-gone (omega arith)
 
-  -- it is no repeat
-  no-repeat : (s : Session) → repeatsAt (g .old) c seq s ≡ false
-  unfolding repeatsAt
-  no-repeat s = rw (le-ltb (g .old) places (omega arith))
-
   abbrev verdict : Verdict
   verdict = verdictOf g node c seq (getD l (g .old) nobody)
 

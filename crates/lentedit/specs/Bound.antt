@@ -28,7 +28,3 @@ first-lesser f n l = split (ltb n (length l)) (λ e. rw e)
 -- a record's place fits a word
 pub place-fits : (n i : ℕ) → n * 48 < 2 ^ 63 → i < n → i * 48 < 2 ^ 64
 place-fits n i g l = omega (arith, g, l)
-
--- and so does the next place
-pub next-fits : (n i : ℕ) → n < 2 ^ 64 → i < n → i + 1 < 2 ^ 64
-next-fits n i g l = omega (arith, g, l)

@@ -49,14 +49,3 @@ module _ (wanted : Bool) (l : List Session) where
 pub read-step : (f : Session → ℕ) (l : List Session) (r : List ℕ) (i : ℕ) → i < length l
     → set (mixed i (map f l) r) i (f (getD l i (blankAt 0))) ≡ mixed (i + 1) (map f l) r
 read-step f l r i h = rw (← map-at f l i (blankAt 0) 0 h) (mixed-step i (map f l) r 0 (simp length-map h))
-
--- a number's place fits a word
-pub word-fits : (i : ℕ) → i < 64 → i * 8 < 2 ^ 64
-word-fits i h = omega arith
-
--- a record's place within a slice of records fits a word
-pub record-fits : (n i : ℕ) → n * 48 < 2 ^ 63 → i < n → i * 48 < 2 ^ 64
-record-fits n i g l = omega (arith, g, l)
-
-pub index-fits : (i : ℕ) → i < 64 → i < 2 ^ 64
-index-fits i h = omega arith

@@ -78,10 +78,6 @@ errorIndication teid addr =
     0x32 ∷ 0x1A ∷ 0 ∷ 0x10 ∷ 0 ∷ 0 ∷ 0 ∷ 0 ∷ 0 ∷ 0 ∷ 0 ∷ 0 ∷ 0x10 ∷ octetsOf 4 teid ++ (0x85 ∷ 0 ∷ 4 ∷ octetsOf 4 addr)
 
 -- ---- their lengths, as document 01 states them
-pub size-version : length versionNotSupported ≡ 8
-unfolding versionNotSupported
-size-version = refl
-
 pub size-echo : (type seq recovery : ℕ) → length (echoOf type seq recovery) ≡ 13
 unfolding echoOf octetsOf
 size-echo type seq recovery = refl

@@ -83,11 +83,6 @@ map-same b (x ∷ l) = ap (λ (m : List _). b ∷ m) (map-same b l)
 
 -- ---- an array k that a loop fills: its first i elements are f of the first i of l
 module _ {A B : Type 0} (f : A → B) (l : List A) (k : List B) (i : ℕ) where
-  pub fill-step : (d : A) → i < length l → i < length k → take i k ≡ map f (take i l) → take (i + 1) (set k i (f (getD l i d))) ≡ map f (take (i + 1) l)
-  fill-step d h g e = rw (add-one, take-suc-set k i (f (getD l i d)) g, take-suc l i d h, e, map-append f (take i l) (getD l i d ∷ []))
-
-  pub fill-end : length l ≤ i → length k ≤ i → take i k ≡ map f (take i l) → k ≡ map f l
-  fill-end h g e = rw (take-all i k g, take-all i l h) at e
 
 -- ---- a table that lists f i, f (i + 1), .., n values in all
 abbrev pub values : {A : Type 0} → (ℕ → A) → ℕ → ℕ → List A

@@ -41,18 +41,3 @@ other-phase b s h = rw (ne-eqb (s .state) 1 h) (split (isClosing s) (λ e. rw e)
 
 -- ---- a record that is not free: use and holding asked first, then only where it stands with its request
 module _ (b : Bounds) (s : Session) (held : Bool) (taken : s .state ≡ 0 → ⊥) (is : held ≡ heldOk b s) where
-  pub record-fails : not (leb (s .usage) lastUse && held) ≡ true → recordOk b s ≡ false
-  unfolding recordOk isFree
-  record-fails e = rw (ne-eqb (s .state) 0 taken, ← is) (first (leb (s .usage) lastUse) held (not-true (leb (s .usage) lastUse && held) e))
-    where
-      first : (a h : Bool) → (a && h) ≡ false → (a && (h && phaseOk b s)) ≡ false
-      first true h f = rw f
-      first false h f = refl
-
-  pub record-on : not (leb (s .usage) lastUse && held) ≡ false → recordOk b s ≡ phaseOk b s
-  unfolding recordOk isFree
-  record-on e = rw (ne-eqb (s .state) 0 taken, ← is) (first (leb (s .usage) lastUse) held (not-false (leb (s .usage) lastUse && held) e))
-    where
-      first : (a h : Bool) → (a && h) ≡ true → (a && (h && phaseOk b s)) ≡ phaseOk b s
-      first true h f = rw f
-      first false h f = impossible f

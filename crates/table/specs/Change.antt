@@ -40,10 +40,6 @@ module _ (f : Session → Session) (i : ℕ) (l : List Session) where
   unfolding changedAt
   length-changed = length-set l i (f (getD l i nobody))
 
-  pub changed-in : (d : Session) → i < length l → changedAt f i l ≡ set l i (f (getD l i d))
-  unfolding changedAt
-  changed-in d h = rw (any-default l i nobody d h)
-
   pub changed-out : length l ≤ i → changedAt f i l ≡ l
   unfolding changedAt
   changed-out h = set-out l i (f (getD l i nobody)) h

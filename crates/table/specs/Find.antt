@@ -79,10 +79,6 @@ placeFound Nothing l = length l
 -- ---- laws of the search
 module _ (p : Session → Bool) (l : List Session) where
   module _ (i : ℕ) (came : firstOf p l ≡ i + firstOf p (drop i l)) where
-    pub found-here : i < length l → firstOf p (drop i l) ≡ 0 → foundIn p l ≡ At i
-    unfolding foundIn
-    found-here h e = let k : firstOf p l ≡ i = omega arith in rw (k, lt-ltb i (length l) h)
-
     pub found-none : length l ≤ i → foundIn p l ≡ Nothing
     unfolding foundIn
     found-none h = rw (le-ltb (firstOf p l) (length l) (omega arith))

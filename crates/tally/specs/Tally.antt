@@ -1,5 +1,4 @@
--- What is read off the records as a whole: the counts of the sharing rule, how many sessions there are, and the number that the
--- next first send takes. The definitions are the table's; here is what the loops need of them.
+-- The number that the next first send takes. The definitions are the table's; here is what the loop needs of them.
 -- Assumes nothing.
 use Prim.Native.Nat.{ℕ, zero, suc, _+_, _-_, _*_, _%_, _<_, _≤_}
 use mathlib.Core.Bool.{Bool, true, false, not, _&&_}
@@ -24,14 +23,6 @@ use Rattle.table.specs.Number.{awaited, after, freeFrom}
 use Rattle.rules.specs.Survey.{waitOf, waitsOf, weightOf}
 use Rattle.rules.specs.Check.{unpackedOf, unpacked-at}
 
--- one for a session, none for a free place
-unfoldable pub oneOf : Session → ℕ
-oneOf s = boolByte (not (isFree s))
-
--- u of each of the four access points
-unfoldable pub countsOf : List Session → List ℕ
-countsOf l = liveOn 0 l ∷ liveOn 1 l ∷ liveOn 2 l ∷ liveOn 3 l ∷ []
-
 -- nobody awaits k: it is neither the echo's key nor that of a place
 unfoldable pub unclaimed : ℕ → ℕ → List ℕ → Bool
 unclaimed k echo keys = not (sameKey (k + 1) echo) && noneClash sameKey (k + 1) keys
@@ -41,27 +32,6 @@ freeAmong zero k echo keys = k
 freeAmong (suc tries) k echo keys = pick {A = ℕ} (unclaimed k echo keys) k (freeAmong tries (after k) echo keys)
 
 -- ---- laws
-pub one-most : (s : Session) → oneOf s ≤ 1
-unfolding oneOf
-one-most s = bit-most (not (isFree s))
-
-pub counts-unpacked : (l : List Session) → length l ≤ 65535 → unpackedOf (sumOf weightOf l) ≡ countsOf l
-unfolding unpackedOf countsOf
-counts-unpacked l n =
-    let a = unpacked-at l n 0 (omega arith) in
-    let b = unpacked-at l n 1 (omega arith) in
-    let c = unpacked-at l n 2 (omega arith) in
-    let d = unpacked-at l n 3 (omega arith) in
-    cc
-
-pub count-at : (l : List Session) (a : ℕ) → a < 4 → getD (countsOf l) a 0 ≡ liveOn a l
-unfolding countsOf
-count-at l zero h = refl
-count-at l (suc zero) h = refl
-count-at l (suc (suc zero)) h = refl
-count-at l (suc (suc (suc zero))) h = refl
-count-at l (suc (suc (suc (suc a)))) h = absurd (omega arith)
-
 -- a key is that of a number where the number is awaited
 key-awaits : (k : ℕ) (r : Request) → sameKey (k + 1) (waitOf r) ≡ awaits k r
 unfolding sameKey waitOf awaits

@@ -1,35 +1,11 @@
-// What is read off the records as a whole: how many sessions there are, and the number that the next first send takes.
+// The number that the next first send takes.
 use session::Request;
-use session::Session;
 use table::Table;
 ghost use Prim.Native.Nat.{_+_};
 ghost use mathlib.Core.Path.{_≡_};
 ghost use Rattle.tunnel.specs.Numbering.{places};
-ghost use Rattle.table.specs.Room.{sessions};
 ghost use Rattle.table.specs.Number.{after};
-ghost use Rattle.tally.specs.Tally.{oneOf, unclaimed, freeAmong};
-
-fn one(s: Session) -> usize
-    ensures { λ r. ⌜ r ≡ oneOf s ⌝ }
-{
-    let free = s.is_free();
-    if free { 0 } else { 1 }
-}
-
-// How many sessions there are, live or closing.
-pub fn sessions(t: Table) -> usize
-    ensures { λ r. ⌜ r ≡ sessions (t .recs) ⌝ }
-{
-    let mut n: usize = 0;
-    let mut i: usize = 0;
-    while i < Table::PLACES {
-        let s = t.recs[i];
-        let k = one(s);
-        n += k;
-        i += 1;
-    }
-    n
-}
+ghost use Rattle.tally.specs.Tally.{unclaimed, freeAmong};
 
 // The sequence number after another.
 pub fn after(k: u32) -> u32
