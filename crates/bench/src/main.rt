@@ -4,11 +4,17 @@
 // the unit before it.
 use benchplan::Bench;
 use session::Session;
+ghost use mathlib.Core.Path.{_≡_};
 ghost use Prim.Native.Nat.{_≤_};
 ghost use lib.ListN.{length};
+ghost use Rattle.bench.specs.Room.{goesOn, anewOf, startedAnew, runPrints, placed};
+ghost use Rattle.benchplan.specs.State.{ran};
+ghost use Rattle.benchplan.specs.Whole.{endPrints};
 
 // What was printed goes out. Where it cannot be written the run ends.
-fn emit(mut b: Bench, out: &[u8]) -> Bench {
+fn emit(mut b: Bench, out: &[u8]) -> Bench
+    ensures { λ r. ⌜ r .made ≡ 0 ⌝ }
+{
     let n = b.made;
     b.made = 0;
     if n <= out.len() {
@@ -21,9 +27,11 @@ fn emit(mut b: Bench, out: &[u8]) -> Bench {
     b
 }
 
-// With 8,192 octets left nothing that a line of input prints, nor the lines of places at the end, is cut (laws `line-whole` and `end-whole` of
-// crate benchrun).
-fn emit_if_full(b: Bench, out: &[u8]) -> Bench {
+// After it 8,192 octets are left. No line of input prints more: 4,400 characters at most (`line-most` of benchrun), 7,918 at the end (`end-most` of
+// benchplan), 7,941 where one run ends and the next starts (`runs-most`); so nothing is ever cut (`run-whole`, and the contract of `run_line`).
+fn emit_if_full(b: Bench, out: &[u8]) -> Bench
+    ensures { λ r. ⌜ r .made ≤ 57344 ⌝ }
+{
     if b.made <= 65536 - 8192 {
         return b;
     }
@@ -46,7 +54,9 @@ fn line_end(s: &[u8], from: usize) -> usize
 }
 
 // Of many runs one after another: N behind the first line ends the run before it, and a fresh one starts.
-fn goes_on(b: Bench, many: bool, line: &[u8]) -> bool {
+fn goes_on(b: Bench, many: bool, line: &[u8]) -> bool
+    ensures { λ r. ⌜ r ≡ goesOn b many (now (line .entry)) ⌝ }
+{
     if !many | (b.phase == Bench::FIRST) {
         return true;
     }
@@ -57,12 +67,16 @@ fn goes_on(b: Bench, many: bool, line: &[u8]) -> bool {
 }
 
 // What was printed so far goes over to the fresh run.
-fn anew(b: Bench) -> Bench {
+fn anew(b: Bench) -> Bench
+    ensures { λ r. ⌜ r ≡ anewOf b ⌝ }
+{
     let next = Bench::start();
     benchplan::with_made(next, b.made)
 }
 
-fn start_anew(b: Bench, recs: &mut [Session], many: bool, line: &[u8], out: &mut [u8]) -> Bench {
+fn start_anew(b: Bench, recs: &mut [Session], many: bool, line: &[u8], out: &mut [u8]) -> Bench
+    ensures { λ r. ⌜ ran r (now (recs .exit)) (now (out .exit)) ≡ startedAnew b (now (recs .entry)) many (now (line .entry)) (now (out .entry)) ⌝ }
+{
     let on = goes_on(b, many, line);
     if on {
         return b;
@@ -71,7 +85,11 @@ fn start_anew(b: Bench, recs: &mut [Session], many: bool, line: &[u8], out: &mut
     anew(e)
 }
 
-fn run_line(b: Bench, recs: &mut [Session], many: bool, line: &[u8], out: &mut [u8]) -> Bench {
+// What the line prints stands whole behind what was printed before; then there is room for the next.
+fn run_line(b: Bench, recs: &mut [Session], many: bool, line: &[u8], out: &mut [u8]) -> Bench
+    requires { ⌜ (b .made ≤ 57344) × (65536 ≤ length (now out)) ⌝ }
+    ensures { λ r. ⌜ (r .made ≤ 57344) × (now (out .exit) ≡ placed (b .made) (runPrints b (now (recs .entry)) many (now (line .entry))) (now (out .entry))) ⌝ }
+{
     let a = start_anew(b, recs, many, line, out);
     let c = benchrun::take_line(a, recs, line, out);
     emit_if_full(c, out)
@@ -85,7 +103,9 @@ struct Turn {
 }
 
 // The turn at a place; where that is none of the input's, nothing is left to take.
-fn turn_at(bench: Bench, s: &[u8], used: usize) -> Turn {
+fn turn_at(bench: Bench, s: &[u8], used: usize) -> Turn
+    ensures { λ r. ⌜ r .bench ≡ bench ⌝ }
+{
     let n = s.len();
     if n < used {
         return Turn {
@@ -98,7 +118,9 @@ fn turn_at(bench: Bench, s: &[u8], used: usize) -> Turn {
     Turn { bench, used, end }
 }
 
-fn bench_of(t: Turn) -> Bench {
+fn bench_of(t: Turn) -> Bench
+    ensures { λ r. ⌜ r ≡ t .bench ⌝ }
+{
     t.bench
 }
 
@@ -123,14 +145,19 @@ fn line_in<'a>(s: &'a [u8], t: Turn) -> &'a [u8] {
 }
 
 // The turn behind it.
-fn turn_after(b: Bench, s: &[u8], t: Turn) -> Turn {
+fn turn_after(b: Bench, s: &[u8], t: Turn) -> Turn
+    ensures { λ r. ⌜ r .bench ≡ b ⌝ }
+{
     if t.end < s.len() {
         return turn_at(b, s, t.end + 1);
     }
     turn_at(b, s, t.end)
 }
 
-fn take_next(t: Turn, recs: &mut [Session], many: bool, s: &[u8], out: &mut [u8]) -> Turn {
+fn take_next(t: Turn, recs: &mut [Session], many: bool, s: &[u8], out: &mut [u8]) -> Turn
+    requires { ⌜ (t .bench .made ≤ 57344) × (65536 ≤ length (now out)) ⌝ }
+    ensures { λ r. ⌜ r .bench .made ≤ 57344 ⌝ }
+{
     let line = line_in(s, t);
     let b = bench_of(t);
     let c = run_line(b, recs, many, line, out);
@@ -138,7 +165,10 @@ fn take_next(t: Turn, recs: &mut [Session], many: bool, s: &[u8], out: &mut [u8]
 }
 
 // The whole lines taken, up to the end of the run.
-fn lines_in(b: Bench, recs: &mut [Session], many: bool, s: &[u8], out: &mut [u8]) -> Turn {
+fn lines_in(b: Bench, recs: &mut [Session], many: bool, s: &[u8], out: &mut [u8]) -> Turn
+    requires { ⌜ (b .made ≤ 57344) × (65536 ≤ length (now out)) ⌝ }
+    ensures { λ r. ⌜ r .bench .made ≤ 57344 ⌝ }
+{
     let n = s.len();
     let mut t = turn_at(b, s, 0);
     let mut i: usize = 0;
@@ -160,7 +190,10 @@ fn take_lines(
     buf: &[u8],
     end: usize,
     out: &mut [u8],
-) -> Turn {
+) -> Turn
+    requires { ⌜ (b .made ≤ 57344) × (65536 ≤ length (now out)) ⌝ }
+    ensures { λ r. ⌜ r .bench .made ≤ 57344 ⌝ }
+{
     let s = benchplan::front(buf, end);
     lines_in(b, recs, many, s, out)
 }
@@ -203,7 +236,10 @@ fn keep_rest(buf: &mut [u8], t: Turn, end: usize) -> usize {
 }
 
 // The last line may lack its line end; a buffer that is full holds a line that is too long, which is a bad one.
-fn take_rest(b: Bench, recs: &mut [Session], many: bool, rest: &[u8], out: &mut [u8]) -> Bench {
+fn take_rest(b: Bench, recs: &mut [Session], many: bool, rest: &[u8], out: &mut [u8]) -> Bench
+    requires { ⌜ (b .made ≤ 57344) × (65536 ≤ length (now out)) ⌝ }
+    ensures { λ r. ⌜ r .made ≤ 57344 ⌝ }
+{
     let n = rest.len();
     if n == 0 {
         return b;
@@ -211,10 +247,20 @@ fn take_rest(b: Bench, recs: &mut [Session], many: bool, rest: &[u8], out: &mut 
     run_line(b, recs, many, rest, out)
 }
 
-fn finish(b: Bench, recs: &mut [Session], many: bool, buf: &[u8], end: usize, out: &mut [u8]) {
+// What the end of the input prints stands whole behind what was printed before.
+fn end_run(b: Bench, recs: &mut [Session], out: &mut [u8]) -> Bench
+    requires { ⌜ (b .made ≤ 57344) × (65536 ≤ length (now out)) ⌝ }
+    ensures { λ r. ⌜ now (out .exit) ≡ placed (b .made) (endPrints b (now (recs .entry))) (now (out .entry)) ⌝ }
+{
+    benchplan::end_of_input(b, recs, out)
+}
+
+fn finish(b: Bench, recs: &mut [Session], many: bool, buf: &[u8], end: usize, out: &mut [u8])
+    requires { ⌜ (b .made ≤ 57344) × (65536 ≤ length (now out)) ⌝ }
+{
     let rest = benchplan::front(buf, end);
     let c = take_rest(b, recs, many, rest, out);
-    let d = benchplan::end_of_input(c, recs, out);
+    let d = end_run(c, recs, out);
     emit(d, out);
 }
 
@@ -226,7 +272,9 @@ fn turns_most() -> usize {
     usize::MAX
 }
 
-fn run(recs: &mut [Session], buf: &mut [u8], out: &mut [u8]) {
+fn run(recs: &mut [Session], buf: &mut [u8], out: &mut [u8])
+    requires { ⌜ 65536 ≤ length (now out) ⌝ }
+{
     let many = is_many();
     let n = turns_most();
     let mut b = Bench::start();
@@ -256,7 +304,9 @@ fn records() -> [Session; 64] {
     [nobody; 64]
 }
 
-fn buffer() -> [u8; 65536] {
+fn buffer() -> [u8; 65536]
+    ensures { λ r. ⌜ length r ≡ 65536 ⌝ }
+{
     io::large_buffer()
 }
 

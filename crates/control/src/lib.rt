@@ -1,5 +1,5 @@
 // Take control datagram on values: specs/ defines it, message by message and as a whole; here is what of it is worked out on a node, a record
-// or a decoded message alone, and the promise that the table's rules are kept. It is done in place, see crates wishes, single, openings
+// or a decoded message alone. It is done in place, see crates wishes, single, openings
 // and inplace.
 use messages::MessageType;
 use plan::Plan;

@@ -4,7 +4,6 @@ use Rattle.lentkit.proofs.Walks.{_≡_, refl, ap, ℕ, Bool, [], _∷_, List, l
 use denote.Struct.Laws as LL
 use Rattle.lentkit.proofs.Branch.{on-true, off-false}
 use Rattle.lentkit.proofs.Give.{gives-up-slice}
-use Rattle.lentkit.proofs.Silent.{says-nothing}
 use Rattle.benchplan.specs.declared.Bench.{Bench}
 use Rattle.benchplan.proofs.Bench as Bench-t
 use Rattle.benchplan.proofs.Bench.Laws as Bench-l
@@ -12,6 +11,7 @@ use Rattle.session.specs.declared.Session.{Session}
 use Rattle.session.proofs.Session as Session-t
 use Rattle.benchplan.specs.Ended.{ended}
 use Rattle.benchplan.specs.State.{ran}
+use Rattle.bench.specs.Room.{anew-off, anew-on, anewOf, goesOn, startedAnew}
 use Rattle.bench.proofs.goes_on as c-goes-on′
 use Rattle.bench.proofs.goes_on.Symbol as c-goes-on-def
 use Rattle.bench.proofs.goes_on.Symbol.{name as #bench·goes-on}
@@ -100,13 +100,13 @@ module _ {M : Type 1} (𝓤 : URA M) (H : Heap 𝓤) (A : Atoms 𝓤) (W : Given
 
   -- what the contract says of the answer and of the last values
   abbrev Said : Bench → List Session → List ℕ → Type 0
-  Said r w-recs w-out = Unit {0}
+  Said r w-recs w-out = ran r w-recs w-out ≡ startedAnew b (recs .now) many (line .now) (out .now)
 
   exits : (r : Bench) (w : Val) (w-recs : List Session) (w-out : List ℕ) → Said r w-recs w-out → length w-recs ≡ length (recs .now) → length w-out ≡ length (out .now)
       → ent 𝓤 (⋆ 𝓤 H A (Toks ∷ ‵ (finally Session-t.the-row (recs .name) w-recs) ∷ ‵ (finally u8 (out .name) w-out) ∷ ‵ (Bench-t.the-row .own r (w ∷ [])) ∷ [])) (Post w)
   exits r w w-recs w-out e l-recs l-out =
       qed W (Toks ∷ ‵ (finally Session-t.the-row (recs .name) w-recs) ∷ ‵ (finally u8 (out .name) w-out) ∷ ‵ (Bench-t.the-row .own r (w ∷ [])) ∷ []) ∵
-      suffices ! _ (ends-at 𝓤 H A entry′.ended stayed (entry′.clauses 𝓤 H A mem run) W bound w r (tt, (w-recs, (tt, (tt, (w-out, tt))))) (tt, (l-recs, (tt, (tt, (l-out, tt)))))) $ says-nothing ! $ frame ! $
+      suffices ! _ (ends-at 𝓤 H A entry′.ended stayed (entry′.clauses 𝓤 H A mem run) W bound w r (tt, (w-recs, (tt, (tt, (w-out, tt))))) (tt, (l-recs, (tt, (tt, (l-out, tt)))))) $ says ! e $ frame ! $
       nothing ! $ move ! (2 ∷ 0 ∷ []) $ fjoin ! $ nothing ! $ fjoin ! $ nothing ! $ fjoin ! $ move ! (1 ∷ 0 ∷ []) $ fjoin ! $ nothing ! $ fjoin ! $ done !
 
   module _ (C : Calls 𝓤 H) (Λ : Loops 𝓤 H) (fm : FmC 𝓤 H (W .laws) C) (known-goes-on : Triple 𝓤 (C #bench·goes-on) (c-goes-on 𝓤 H A mem run)) (known-end-of-input : Triple 𝓤 (C #benchplan·end-of-input) (c-end-of-input 𝓤 H A mem run)) (known-anew : Triple 𝓤 (C #bench·anew) (c-anew 𝓤 H A mem run)) where
@@ -124,9 +124,10 @@ module _ {M : Type 1} (𝓤 : URA M) (H : Heap 𝓤) (A : Atoms 𝓤) (W : Given
         use2 W (raw (c-goes-on 𝓤 H A mem run .pre (((κ₁, tt), (q₁, tt), tt, (b, (many, (line, tt))), (v-b ∷ [], (v-many ∷ [], (v-line ∷ [], tt)))), tt))) (qed W ((‵ (flft κ₁ q₁) ⊛ ‵ ftrue) ∷ ‵ (fsep (Bench-t.the-row .own b (v-b ∷ [])) (fsep (bool .own many (v-many ∷ [])) (fsep Own-line ftrue))) ∷ []) ∵ join ! $ frame ! $ done !) $
         calls-at ! fm (c-goes-on 𝓤 H A mem run) known-goes-on (((κ₁, tt), (q₁, tt), tt, (b, (many, (line, tt))), (v-b ∷ [], (v-many ∷ [], (v-line ∷ [], tt)))), tt) (and-then ! (load ! (from ! (stop !)) (look ! 28 refl)) (and-then ! (load ! (from ! (stop !)) (look ! 24 refl)) (and-then ! (load ! (from ! (stop !)) (look ! 22 refl)) (no-more !)))) (λ w-goes-on.
         use1 W (later (some (λ (r-goes-on : Bool). ((‵ (flft κ₁ q₁) ⊛ ‵ ftrue) ⊛ ‵ (bool .own r-goes-on (w-goes-on ∷ []))) ⊛ raw (ensured 𝓤 H A c-goes-on′.ended (c-goes-on′.clauses 𝓤 H A mem run) (κ₁, tt) (b, (many, (line, tt))) tt r-goes-on)))) (id⊢ 𝓤 _) $ await ! tt $
-        pick ! (λ r-goes-on. split ! $ move ! (1 ∷ []) $ use1 W (some (λ (z-goes-on : (Unit {0}) × ((Unit {0}) × ((Unit {0}) × Unit {0}))). ‵ (lasts c-goes-on′.ended (κ₁, tt) (b, (many, (line, tt))) z-goes-on) ⊛ raw (emp 𝓤))) (id⊢ 𝓤 _) $
-        pick ! (λ z-goes-on. split ! $ move ! (1 ∷ []) $ drop ! $ fsplit ! $ drop ! $ fsplit ! $ drop ! $ fsplit ! $ drop ! $ drop ! $ split ! $ split ! $ move ! (1 ∷ []) $ drop ! $ move ! (1 ∷ []) $
-        peeks ! bool (Is bool) (shows 𝓤 H A bool) r-goes-on (w-goes-on ∷ []) (λ is-goes-on. land ! (from ! (stop !)) (init ! 19 refl (bool-lawful 𝓤 H A W .typed r-goes-on _ is-goes-on .0)) $ drop ! $
+        pick ! (λ r-goes-on. split ! $ move ! (1 ∷ []) $
+        use1 W (some (λ (z-goes-on : (Unit {0}) × ((Unit {0}) × ((Unit {0}) × Unit {0}))). ‵ (lasts c-goes-on′.ended (κ₁, tt) (b, (many, (line, tt))) z-goes-on) ⊛ raw (fact 𝓤 (r-goes-on ≡ goesOn b many (line .now))))) (id⊢ 𝓤 _) $
+        pick ! (λ z-goes-on. split ! $ move ! (1 ∷ []) $ heard ! (r-goes-on ≡ goesOn b many (line .now)) (λ e-goes-on. fsplit ! $ drop ! $ fsplit ! $ drop ! $ fsplit ! $ drop ! $ drop ! $ split ! $ split ! $ move ! (1 ∷ []) $ drop ! $
+        move ! (1 ∷ []) $ peeks ! bool (Is bool) (shows 𝓤 H A bool) r-goes-on (w-goes-on ∷ []) (λ is-goes-on. land ! (from ! (stop !)) (init ! 19 refl (bool-lawful 𝓤 H A W .typed r-goes-on _ is-goes-on .0)) $ drop ! $
         -- _8 = _6
         assigns ! (of-opd ! (load ! (from ! (stop !)) (look ! 18 refl))) (from ! (stop !)) (init ! 14 refl (bool-lawful 𝓤 H A W .typed r-goes-on _ is-goes-on .0)) $
         -- if _8
@@ -138,8 +139,8 @@ module _ {M : Type 1} (𝓤 : URA M) (H : Heap 𝓤) (A : Atoms 𝓤) (W : Given
         move ! (30 ∷ 31 ∷ []) $ free1 ! $ move ! (28 ∷ 29 ∷ []) $ free1 ! $ move ! (26 ∷ 27 ∷ []) $ free1 ! $ move ! (24 ∷ 25 ∷ []) $ free1 ! $ move ! (22 ∷ 23 ∷ []) $ free1 ! $ move ! (20 ∷ 21 ∷ []) $ free1 ! $ move ! (18 ∷ 19 ∷ []) $ free1 ! $ move ! (16 ∷ 17 ∷ []) $ free1 ! $ move ! (14 ∷ 15 ∷ []) $ free1 ! $ move ! (12 ∷ 13 ∷ []) $ free1 ! $ move ! (10 ∷ 11 ∷ []) $ free1 ! $ move ! (8 ∷ 9 ∷ []) $ free1 ! $ move ! (6 ∷ 7 ∷ []) $ free1 ! $ free0 ! $
         move ! (3 ∷ []) $ use1 W (‵ (finally Session-t.the-row (recs .name) ys-recs)) (gives-up-slice 𝓤 H A W (named 0) κ₀ Session-t.the-row recs v-recs) $ move ! (3 ∷ []) $
         use1 W (‵ (finally u8 (out .name) ys-out)) (gives-up-slice 𝓤 H A W (named 2) κ₂ u8 out v-out) $ owned ! Bench-t.the-row (Is Bench-t.the-row) (LL.makes Bench-t.the-type Bench-l.the-plain 𝓤 H A) b _ is-b $ nothing ! $
-        move ! (6 ∷ 0 ∷ []) $ join ! $ move ! (4 ∷ 0 ∷ []) $ join ! $ move ! (5 ∷ 0 ∷ []) $ join ! $ keep ! (0 ∷ 3 ∷ 2 ∷ 1 ∷ []) $ by ! (exits b v-b ys-recs ys-out (tt) refl refl)) (λ off. let t = off-false r-goes-on off in
-        skips ! $ exec ! C Λ _ mir.t-4 (atRet _ Post) $
+        move ! (6 ∷ 0 ∷ []) $ join ! $ move ! (4 ∷ 0 ∷ []) $ join ! $ move ! (5 ∷ 0 ∷ []) $ join ! $ keep ! (0 ∷ 3 ∷ 2 ∷ 1 ∷ []) $
+        by ! (exits b v-b ys-recs ys-out (anew-on b ys-recs many (now line) ys-out r-goes-on e-goes-on t) refl refl)) (λ off. let t = off-false r-goes-on off in skips ! $ exec ! C Λ _ mir.t-4 (atRet _ Post) $
         -- _9 = & _2.0.*
         assigns ! (addr ! (from ! (fld ! refl (hop ! (look-in ! 26 (sub ! 0 refl (whole !))) (stop !))))) (from ! (stop !)) (init ! 12 refl (tt, tt)) $
         -- _10 = {_9, _2.1}
@@ -165,15 +166,17 @@ module _ {M : Type 1} (𝓤 : URA M) (H : Heap 𝓤) (A : Atoms 𝓤) (W : Given
         use2 W (raw (c-anew 𝓤 H A mem run .pre ((tt, tt, tt, (r-end-of-input, tt), (w-end-of-input ∷ [], tt)), tt))) (qed W ((‵ ftrue) ∷ ‵ (fsep (Bench-t.the-row .own r-end-of-input (w-end-of-input ∷ [])) ftrue) ∷ []) ∵ join ! $ frame ! $ done !) $
         calls-at ! fm (c-anew 𝓤 H A mem run) known-anew ((tt, tt, tt, (r-end-of-input, tt), (w-end-of-input ∷ [], tt)), tt) (and-then ! (load ! (from ! (stop !)) (look ! 17 refl)) (no-more !)) (λ w-anew.
         use1 W (later (some (λ (r-anew : Bench). ((‵ ftrue) ⊛ ‵ (Bench-t.the-row .own r-anew (w-anew ∷ []))) ⊛ raw (ensured 𝓤 H A c-anew′.ended (c-anew′.clauses 𝓤 H A mem run) tt (r-end-of-input, tt) tt r-anew)))) (id⊢ 𝓤 _) $ await ! tt $
-        pick ! (λ r-anew. split ! $ move ! (1 ∷ []) $ use1 W (some (λ (z-anew : (Unit {0}) × Unit {0}). ‵ (lasts c-anew′.ended tt (r-end-of-input, tt) z-anew) ⊛ raw (emp 𝓤))) (id⊢ 𝓤 _) $ pick ! (λ z-anew. split ! $ move ! (1 ∷ []) $
-        drop ! $ fsplit ! $ drop ! $ drop ! $ split ! $ drop ! $ peeks ! Bench-t.the-row (Is Bench-t.the-row) (shows 𝓤 H A Bench-t.the-row) r-anew (w-anew ∷ []) (λ is-anew.
+        pick ! (λ r-anew. split ! $ move ! (1 ∷ []) $ use1 W (some (λ (z-anew : (Unit {0}) × Unit {0}). ‵ (lasts c-anew′.ended tt (r-end-of-input, tt) z-anew) ⊛ raw (fact 𝓤 (r-anew ≡ anewOf r-end-of-input)))) (id⊢ 𝓤 _) $ pick ! (λ z-anew.
+        split ! $ move ! (1 ∷ []) $ heard ! (r-anew ≡ anewOf r-end-of-input) (λ e-anew. fsplit ! $ drop ! $ drop ! $ split ! $ drop ! $
+        peeks ! Bench-t.the-row (Is Bench-t.the-row) (shows 𝓤 H A Bench-t.the-row) r-anew (w-anew ∷ []) (λ is-anew.
         land ! (from ! (stop !)) (init ! 31 refl (LL.lawful Bench-t.the-type Bench-l.the-laws 𝓤 H A W .typed r-anew _ is-anew .0)) $ drop ! $
         -- return
         returns ! (look ! 30 refl) $
         forget ! 6 refl $ forget ! 8 refl $ forget ! 10 refl $ forget ! 12 refl $ forget ! 14 refl $ forget ! 16 refl $ forget ! 18 refl $ forget ! 20 refl $ forget ! 22 refl $ forget ! 24 refl $ forget ! 26 refl $ forget ! 28 refl $ forget ! 30 refl $
         move ! (30 ∷ 31 ∷ []) $ free1 ! $ move ! (28 ∷ 29 ∷ []) $ free1 ! $ move ! (26 ∷ 27 ∷ []) $ free1 ! $ move ! (24 ∷ 25 ∷ []) $ free1 ! $ move ! (22 ∷ 23 ∷ []) $ free1 ! $ move ! (20 ∷ 21 ∷ []) $ free1 ! $ move ! (18 ∷ 19 ∷ []) $ free1 ! $ move ! (16 ∷ 17 ∷ []) $ free1 ! $ move ! (14 ∷ 15 ∷ []) $ free1 ! $ move ! (12 ∷ 13 ∷ []) $ free1 ! $ move ! (10 ∷ 11 ∷ []) $ free1 ! $ move ! (8 ∷ 9 ∷ []) $ free1 ! $ move ! (6 ∷ 7 ∷ []) $ free1 ! $ free0 ! $
         owned ! Bench-t.the-row (Is Bench-t.the-row) (LL.makes Bench-t.the-type Bench-l.the-plain 𝓤 H A) r-anew _ is-anew $ nothing ! $ move ! (2 ∷ 0 ∷ []) $ join ! $ move ! (5 ∷ 0 ∷ []) $ join ! $ move ! (2 ∷ 0 ∷ []) $ join ! $
-        keep ! (0 ∷ 3 ∷ 2 ∷ 1 ∷ []) $ by ! (exits r-anew w-anew (z-end-of-input .1 .0) (z-end-of-input .1 .1 .0) (tt) len-end-of-input-recs len-end-of-input-out))))))))))))))))))))))))))))))
+        keep ! (0 ∷ 3 ∷ 2 ∷ 1 ∷ []) $
+        by ! (exits r-anew w-anew (z-end-of-input .1 .0) (z-end-of-input .1 .1 .0) (anew-off b r-anew r-end-of-input ys-recs (z-end-of-input .1 .0) many (now line) ys-out (z-end-of-input .1 .1 .0) r-goes-on e-goes-on t e-end-of-input e-anew) len-end-of-input-recs len-end-of-input-out))))))))))))))))))))))))))))))))
 
 module _ {M : Type 1} (𝓤 : URA M) (H : Heap 𝓤) (A : Atoms 𝓤) (W : Given 𝓤 H A) (mem : Memory → SProp 𝓤) (run : Routine → Fun 𝓤) where
   start-anew-walks : (C : Calls 𝓤 H) (Λ : Loops 𝓤 H) → FmC 𝓤 H (W .laws) C → Triple 𝓤 (C #bench·goes-on) (c-goes-on 𝓤 H A mem run) → Triple 𝓤 (C #benchplan·end-of-input) (c-end-of-input 𝓤 H A mem run) → Triple 𝓤 (C #bench·anew) (c-anew 𝓤 H A mem run)
