@@ -81,9 +81,6 @@ pub map-same : {A B : Type 0} (b : B) (l : List A) → map (λ x. b) l ≡ repli
 map-same b [] = refl
 map-same b (x ∷ l) = ap (λ (m : List _). b ∷ m) (map-same b l)
 
--- ---- an array k that a loop fills: its first i elements are f of the first i of l
-module _ {A B : Type 0} (f : A → B) (l : List A) (k : List B) (i : ℕ) where
-
 -- ---- a table that lists f i, f (i + 1), .., n values in all
 abbrev pub values : {A : Type 0} → (ℕ → A) → ℕ → ℕ → List A
 values f i zero = []

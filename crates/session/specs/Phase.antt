@@ -1,4 +1,4 @@
--- The rules of one record, test by test: what is left to ask of a live record, of a closing one, and after a first test.
+-- The rules of one record, test by test: what is left to ask of a live record, and of a closing one.
 -- Assumes nothing.
 use Prim.Native.Nat.{ℕ}
 use mathlib.Core.Bool.{Bool, true, false, not, _&&_, _||_}
@@ -38,6 +38,3 @@ live-phase b s h =
 pub other-phase : (b : Bounds) (s : Session) → (s .state ≡ 1 → ⊥) → phaseOk b s ≡ (requestOk 0 (b .resend) (b .sends) (s .own) && isClosing s)
 unfolding phaseOk
 other-phase b s h = rw (ne-eqb (s .state) 1 h) (split (isClosing s) (λ e. rw e) (λ e. rw e))
-
--- ---- a record that is not free: use and holding asked first, then only where it stands with its request
-module _ (b : Bounds) (s : Session) (held : Bool) (taken : s .state ≡ 0 → ⊥) (is : held ≡ heldOk b s) where
