@@ -3,18 +3,17 @@
 use Prim.Native.Nat.{ℕ, _+_, _≤_}
 use mathlib.Core.Bool.{Bool, true, false, not, _||_}
 use mathlib.Core.List.{List, [], _++_}
-use mathlib.Core.Path.{_≡_, refl, sym, ap, _∙_}
+use mathlib.Core.Path.{_≡_, refl, ap, _∙_}
 use native.Mathlib.Omega.{arith}
 use lib.ListN.{length, take, drop, getD, length-append}
 use lib.Dec.{eqb}
 use Rattle.octets.specs.Choice.{pick, split}
 use Rattle.session.specs.declared.Session.{Session}
-use Rattle.benchtext.specs.Lines.{lineRead}
 use Rattle.benchplan.specs.declared.Bench.{Bench}
 use Rattle.benchplan.specs.State.{Ran, ran, first, plans, runs, emptyRun, withLine, withMade}
 use Rattle.benchplan.specs.Ended.{ended}
 use Rattle.benchplan.specs.Whole.{Adds, adds-on, adds-within, adds-whole, endPrints, end-adds, end-most}
-use Rattle.benchrun.specs.Taken.{lineTaken, lentOctets}
+use Rattle.benchrun.specs.Taken.{lineTaken}
 use Rattle.benchrun.specs.Whole.{linePrints, toldPrints, earlyPrints, line-adds, line-most, first-most}
 
 -- of many runs one after another, N behind the first line ends the run before it

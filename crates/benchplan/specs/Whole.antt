@@ -3,20 +3,20 @@
 -- most 7,918 characters (`end-most`).
 -- Assumes nothing.
 use Prim.Native.Nat.{ℕ, zero, suc, _+_, _*_, _<_, _≤_, _^_, min}
-use mathlib.Core.Bool.{Bool, true, false, _&&_}
+use mathlib.Core.Bool.{true}
 use mathlib.Core.List.{List, [], _∷_, _++_}
-use mathlib.Core.Path.{_≡_, refl, sym, ap, _∙_}
+use mathlib.Core.Path.{_≡_, refl, ap, _∙_}
 use native.Mathlib.Omega.{arith}
-use lib.ListN.{length, take, drop, getD, replicate, length-append, length-take}
+use lib.ListN.{length, take, drop, getD, length-append, length-take}
 use lib.Dec.{eqb, ltb, leb}
 use borrow.Author.Tests.{leb-true, ltb-true}
 use Rattle.octets.specs.Choice.{pick, split, and-left, and-right}
-use Rattle.octets.specs.Overlay.{overlay, overlay-fits}
+use Rattle.octets.specs.Overlay.{overlay-fits}
 use Rattle.octets.specs.BigEndian.{octetsOf, length-octets}
 use Rattle.tunnel.specs.Numbering.{places, lastUse}
 use Rattle.numerals.specs.Laid.{layAt, laid, written, Written, laid-on, laid-in, laid-most, laid-length}
-use Rattle.numerals.specs.Decimal.{decimal, decimal-size}
-use Rattle.numerals.specs.Hex.{hexOf, length-hex}
+use Rattle.numerals.specs.Decimal.{decimal-size}
+use Rattle.numerals.specs.Hex.{length-hex}
 use Rattle.session.specs.declared.Session.{Session}
 use Rattle.session.specs.Session.{isFree, heldOk, readOk, imsis, lastCreated}
 use Rattle.session.specs.Keep.{live-of, ok-usage}
@@ -26,12 +26,12 @@ use Rattle.table.specs.Change.{nobody, record-ok}
 use Rattle.table.specs.Room.{sessions}
 use Rattle.timing.specs.declared.Answer.{Answer}
 use Rattle.timing.specs.Outcome.{leastReply}
-use Rattle.timing.specs.Timing.{freshOf, freshAnswer}
-use Rattle.placeline.specs.Line.{numberText, imsiText, addressText, heldText, dashes, restText, lineText, stateLetter, lineBy, lineOf}
+use Rattle.timing.specs.Timing.{freshOf}
+use Rattle.placeline.specs.Line.{numberText, imsiText, addressText, heldText, dashes, restText, lineText, lineBy, lineOf}
 use Rattle.benchtext.specs.Prints.{answerText, badText, liveText}
 use Rattle.benchtext.specs.Sizes.{decimal-most, answer-most, bad-most, live-most}
 use Rattle.benchplan.specs.declared.Bench.{Bench}
-use Rattle.benchplan.specs.State.{Shown, shown, Ran, ran, beside, plans, runs, over, lentReply, withLine, withMade, keptIn, phased, badAt, printed, endBad, answered}
+use Rattle.benchplan.specs.State.{Shown, plans, runs, over, lentReply, withLine, withMade, keptIn, phased, badAt, printed, endBad, answered}
 use Rattle.benchplan.specs.Plans.{planShown, planTaken}
 use Rattle.benchplan.specs.Ended.{liveShown, lineShown, placePrinted, placesTo, placesPrinted, endPlan, endFirst, ended}
 

@@ -8,7 +8,7 @@ use native.Mathlib.Omega.{arith}
 use lib.ListN.{length, take, getD, length-take}
 use lib.Dec.{eqb, ltb}
 use Rattle.octets.specs.Number.{taken}
-use Rattle.octets.specs.Choice.{pick, split}
+use Rattle.octets.specs.Choice.{split}
 use Rattle.octets.specs.Overlay.{overlay, length-overlay}
 use Rattle.session.specs.declared.Session.{Session}
 use Rattle.session.specs.Session.{isFree, freed}
@@ -27,7 +27,7 @@ use Rattle.requests.specs.declared.Create as C
 use Rattle.wishes.specs.declared.Asked.{Asked}
 use Rattle.wishes.specs.declared.Asked.the-variants as A
 use Rattle.wishes.specs.Asked.{askedOf}
-use Rattle.timing.specs.Outcome.{Outcome, leastReply, noReply, onSession, onOwner}
+use Rattle.timing.specs.Outcome.{leastReply, noReply, onSession, onOwner}
 use Rattle.timing.specs.Timing.{tickOf, closeOf, closeOn, echoSent, placeSent, dueSent, sendOf}
 use Rattle.control.specs.Echoes.{echoTaken, echoReplyTaken}
 use Rattle.control.specs.Amends.{causeTaken}

@@ -1,11 +1,11 @@
 -- Nothing that the bench prints for a line of input is cut. What a line prints is told as a text without a buffer (`linePrints`); every line lays that
 -- text behind what was printed before (`line-adds`), it has at most 4,400 characters (`line-most`), and so it is laid whole wherever 8,192 octets are
--- left (`line-whole`). The same of the lines at the end (`end-whole`), and of a run that ends and the first line of the next (`anew-whole`).
+-- left (`line-whole`). The same of the lines at the end (`end-whole`). The program `bench` keeps that room.
 -- Assumes nothing.
 use Prim.Native.Nat.{ℕ, zero, suc, _+_, _*_, _≤_}
-use mathlib.Core.Bool.{Bool, true, false, not, _&&_}
-use mathlib.Core.List.{List, [], _∷_, _++_}
-use mathlib.Core.Path.{_≡_, refl, sym, ap, _∙_}
+use mathlib.Core.Bool.{true, false, not, _&&_}
+use mathlib.Core.List.{List, [], _++_}
+use mathlib.Core.Path.{_≡_, refl, _∙_}
 use native.Mathlib.Omega.{arith}
 use lib.ListN.{length, take, drop, replicate, length-append, length-take, length-drop, length-replicate}
 use lib.Dec.{eqb, leb}
@@ -19,13 +19,13 @@ use Rattle.userside.specs.UserSide.{Took, userTaken}
 use Rattle.benchtext.specs.declared.Line.{Line}
 use Rattle.benchtext.specs.declared.Line.the-variants as L
 use Rattle.benchtext.specs.Lines.{Told, lineRead}
-use Rattle.benchtext.specs.Prints.{answerText, packetText, dueText, badText}
+use Rattle.benchtext.specs.Prints.{answerText, dueText, badText}
 use Rattle.benchtext.specs.Sizes.{answer-most, packet-most, due-most, bad-most, line-read-length}
 use Rattle.benchplan.specs.declared.Bench.{Bench}
-use Rattle.benchplan.specs.State.{Shown, shown, Ran, ran, beside, first, plans, runs, over, lentReply, emptyRun, withLine, withMade, keptIn, printed, endBad, answered, unitShown}
-use Rattle.benchplan.specs.Plans.{firstLine, oneMore, planTaken, planShown, startLine}
+use Rattle.benchplan.specs.State.{Ran, first, plans, runs, over, lentReply, withLine, withMade, keptIn, printed, answered, unitShown}
+use Rattle.benchplan.specs.Plans.{firstLine, oneMore, planTaken, startLine}
 use Rattle.benchplan.specs.Ended.{ended}
-use Rattle.benchplan.specs.Whole.{Adds, adds-none, adds-on, adds-printed, adds-within, adds-whole, planPrints, endPrints, bad-adds, plan-adds, plan-phase, plan-node, plan-table, plan-lines, plan-within, plan-most, end-adds, end-most}
+use Rattle.benchplan.specs.Whole.{Adds, adds-none, adds-on, adds-printed, adds-within, adds-whole, planPrints, endPrints, bad-adds, plan-adds, plan-phase, plan-node, plan-table, plan-lines, plan-most, end-adds, end-most}
 use Rattle.benchrun.specs.declared.Ask.{Ask}
 use Rattle.benchrun.specs.Run.{sendTry, isDue, sentShown, sentOne, dueSent, allSent, thenSent, userText, userShown, userRun}
 use Rattle.benchrun.specs.Taken.{askOf, askRun, runLine, isPoint, pointLine, leavePlan, earlyLine, lentOctets, toldTaken, lineTaken}

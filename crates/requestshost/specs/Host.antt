@@ -4,7 +4,7 @@
 use Prim.Native.Nat.{ℕ, zero, suc, _%_}
 use mathlib.Core.Bool.{Bool, true, false}
 use mathlib.Core.List.{List, [], _∷_, _++_}
-use mathlib.Core.Path.{_≡_, refl}
+use mathlib.Core.Path.{_≡_}
 use lib.ListN.{replicate}
 use Rattle.octets.specs.Choice.{pick, split}
 use Rattle.octets.specs.Overlay.{overlay}
