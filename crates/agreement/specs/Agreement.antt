@@ -6,8 +6,8 @@ use mathlib.Core.Path.{_≡_, sym, _∙_, ap}
 use Rattle.session.specs.declared.Session.{Session}
 use Rattle.timing.specs.declared.Answer.{Answer}
 use Rattle.timing.specs.Outcome.{Outcome, outcome}
-use Rattle.lentuser.specs.declared.Handed.{Handed}
-use Rattle.lentuser.specs.Lent.{Parcel, parcel}
+use Rattle.userside.specs.declared.Handed.{Handed}
+use Rattle.userside.specs.Parcel.{Parcel, parcel}
 use Rattle.agreement.specs.declared.Two.{Two}
 use Rattle.agreement.specs.declared.Twins.{Twins}
 

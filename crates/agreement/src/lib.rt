@@ -1,10 +1,10 @@
 // Agreement: each exported call is made twice on equal arguments, and what it comes to is the same in the answer, in the lent records and in the
 // reply buffer. Of a call only its contract is known here, so that a contract which left anything open would break the promise.
-use lentuser::Handed;
 use plan::Plan;
 use session::Session;
 use table::Node;
 use timing::Answer;
+use userside::Handed;
 ghost use mathlib.Core.List.{[]};
 ghost use mathlib.Core.Path.{_≡_};
 ghost use Rattle.agreement.specs.Agreement.{two, twins, Agreed, AgreedHanded};

@@ -16,8 +16,8 @@ use Rattle.timing.specs.Outcome.{Outcome, outcome, Back, back}
 use Rattle.timing.specs.Timing.{tickOf, closeOf, sendOf}
 use Rattle.control.specs.Control.{controlTaken}
 use Rattle.userside.specs.UserSide.{Took, userTaken}
-use Rattle.lentuser.specs.declared.Handed.{Handed}
-use Rattle.lentuser.specs.Lent.{Parcel, parcel, parcelOf}
+use Rattle.userside.specs.declared.Handed.{Handed}
+use Rattle.userside.specs.Parcel.{Parcel, parcel, parcelOf}
 use Rattle.benchtext.specs.Prints.{answerText, packetText, dueText}
 use Rattle.benchplan.specs.declared.Bench.{Bench}
 use Rattle.benchplan.specs.State.{Shown, shown, Ran, ran, beside, lentReply, withMade, keptIn, printed, answered, unitShown, unit-shown}

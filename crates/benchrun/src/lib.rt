@@ -2,9 +2,9 @@
 // calls work on them where they lie.
 use benchplan::Bench;
 use benchtext::Line;
-use lentuser::Handed;
 use session::Session;
 use timing::Answer;
+use userside::Handed;
 ghost use mathlib.Core.Bool.{not, _&&_};
 ghost use mathlib.Core.Path.{_≡_};
 ghost use lib.Dec.{eqb};
@@ -12,7 +12,7 @@ ghost use lib.ListN.{drop, take};
 ghost use Rattle.timing.specs.Outcome.{back};
 ghost use Rattle.timing.specs.Timing.{tickOf, closeOf};
 ghost use Rattle.control.specs.Control.{controlTaken};
-ghost use Rattle.lentuser.specs.Lent.{parcel};
+ghost use Rattle.userside.specs.Parcel.{parcel};
 ghost use Rattle.benchplan.specs.State.{shown, ran, lentReply, plans, unitShown};
 ghost use Rattle.benchrun.specs.Run.{sentShown, sentOne, isDue, allSent, thenSent, handedShown, userRun};
 ghost use Rattle.benchrun.specs.Taken.{askOf, runLine, leavePlan, isPoint, pointLine, earlyLine, lineTaken};

@@ -1,23 +1,21 @@
 -- Create keeps the table rules: a table that kept them before keeps them after, whatever came and whatever it was answered.
 -- Assumes nothing.
-use Prim.Native.Nat.{ℕ, _%_, _<_, _≤_}
-use mathlib.Core.Bool.{Bool, true, false, not, _&&_}
+use Prim.Native.Nat.{ℕ, _%_, _≤_}
+use mathlib.Core.Bool.{Bool, true, false}
 use mathlib.Core.List.{List}
-use mathlib.Core.Path.{_≡_, refl, sym, _∙_}
+use mathlib.Core.Path.{_≡_, refl}
 use native.Mathlib.Omega.{arith}
 use lib.ListN.{length, getD}
 use lib.Dec.{eqb, leb, ltb}
-use borrow.Author.Tests.{lt-ltb, le-leb, ne-eqb, ltb-true, ltb-false}
-use Rattle.octets.specs.Choice.{pick, split}
+use borrow.Author.Tests.{lt-ltb, le-leb, ne-eqb, ltb-false}
+use Rattle.octets.specs.Choice.{split}
 use Rattle.octets.specs.Sums.{countOf}
 use Rattle.octets.specs.Search.{firstOf, first-none}
 use Rattle.plan.specs.declared.Plan.{Plan}
 use Rattle.plan.specs.Limits.{parties}
-use Rattle.plan.specs.Plan.{accepted}
+use Rattle.plan.specs.Plan.{accepted, parties-four}
 use Rattle.sharing.specs.Sharing.{admits}
-use Rattle.session.specs.declared.Request.{Request}
 use Rattle.session.specs.declared.Session.{Session}
-use Rattle.session.specs.declared.Opening.{Opening}
 use Rattle.session.specs.Session.{isFree, hasId, freed, opened, readOk, imsis, lastCreated}
 use Rattle.session.specs.Keep.{openingOk}
 use Rattle.table.specs.declared.Node.{Node}
@@ -27,14 +25,11 @@ use Rattle.table.specs.Rules.{keepsRules, Rules, rules-of, rules-to, boundsOf, 
 use Rattle.table.specs.Change.{nobody, changedAt, rules-freed}
 use Rattle.table.specs.Find.{foundIn, found-is}
 use Rattle.table.specs.Open.{replaced, replaced-none, rules-opened}
-use Rattle.rules.specs.Check.{parties-four}
-use Rattle.values.specs.Imsi.{imsiLimit}
 use Rattle.readers.specs.declared.Recovery.{Recovery}
 use Rattle.readers.specs.declared.Recovery.the-variants as R
 use Rattle.requests.specs.declared.Create as C
 use Rattle.requests.specs.Create.{CreateSound}
-use Rattle.timing.specs.declared.Answer.{Answer}
-use Rattle.timing.specs.Outcome.{Outcome, outcome, noReply}
+use Rattle.timing.specs.Outcome.{noReply}
 use Rattle.control.specs.Amends.{causeTaken}
 use Rattle.control.specs.Echoes.{heardBy, heard-keeps}
 use Rattle.table.specs.Own.{hearing}

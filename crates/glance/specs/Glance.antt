@@ -1,6 +1,6 @@
 -- The glance over the digests of a table, and the whole check from it: it is what the rules say.
 -- Assumes nothing.
-use Prim.Native.Nat.{ℕ, _-_, _≤_}
+use Prim.Native.Nat.{ℕ, _≤_}
 use mathlib.Core.Bool.{Bool, true, false, not, _&&_}
 use mathlib.Core.List.{List, [], _∷_, map}
 use mathlib.Core.Path.{_≡_, refl, sym, _∙_}
@@ -21,7 +21,8 @@ use Rattle.session.specs.Session.{isDue, recordOk}
 use Rattle.table.specs.declared.Node.{Node}
 use Rattle.table.specs.Rules.{boundsOf, keepsRules, rules-of}
 use Rattle.rules.specs.Survey.{keyOf, waitOf, weightOf, silent, waitsOf, noSurvey, surveyOf}
-use Rattle.rules.specs.Check.{unpackedOf, parties-four, waits-keys, checked, checked-is, checked-bad, checked-quiet}
+use Rattle.plan.specs.Plan.{parties-four}
+use Rattle.rules.specs.Check.{unpackedOf, waits-keys, checked, checked-is, checked-bad, checked-quiet}
 use Rattle.glance.specs.declared.Glance.{Glance}
 use Rattle.glance.specs.declared.Look.{Look}
 use Rattle.glance.specs.declared.Seen.{Seen}

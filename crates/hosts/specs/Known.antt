@@ -18,8 +18,8 @@ use Rattle.timing.specs.Timing.{freshOf, tickOf, closeOf, sendOf}
 use Rattle.control.specs.Control.{controlTaken}
 use Rattle.placeline.specs.Line.{lineOf}
 use Rattle.userside.specs.UserSide.{userTaken}
-use Rattle.lentuser.specs.declared.Handed.{Handed}
-use Rattle.lentuser.specs.Lent.{parcel, parcelOf}
+use Rattle.userside.specs.declared.Handed.{Handed}
+use Rattle.userside.specs.Parcel.{parcel, parcelOf}
 use Rattle.promises.specs.Run.{control, user, tick, send, close, line}
 use Rattle.promises.specs.Hosts.{Called, Started}
 

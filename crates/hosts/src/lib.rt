@@ -1,10 +1,10 @@
 // What a host knows of each exported call, by its contract and its types alone. The demands speak of runs; that a host's calls are a run is
 // claimed of `Called` (crate promises, specs/Hosts.antt), and each function here shows that the exported function it calls meets that.
-use lentuser::Handed;
 use plan::Plan;
 use session::Session;
 use table::Node;
 use timing::Answer;
+use userside::Handed;
 ghost use Rattle.promises.specs.Run.{control, user, tick, send, close, line};
 ghost use Rattle.promises.specs.Hosts.{Called};
 ghost use Rattle.hosts.specs.Known.{holding, storing, StartedFrom};

@@ -25,7 +25,7 @@ use Rattle.table.specs.Find.{foundIn}
 use Rattle.table.specs.Room.{freePlace, place-free}
 use Rattle.table.specs.Own.{hearing}
 use Rattle.rules.specs.Survey.{weightOf}
-use Rattle.rules.specs.Check.{parties-four}
+use Rattle.plan.specs.Plan.{parties-four}
 use Rattle.readers.specs.declared.Recovery.{Recovery}
 use Rattle.readers.specs.declared.Recovery.the-variants as R
 use Rattle.requests.specs.declared.Create as C
@@ -38,7 +38,7 @@ use Rattle.openings.specs.declared.Sight.{Sight}
 use Rattle.openings.specs.declared.Pair.{Pair}
 use Rattle.openings.specs.declared.Verdict.{Verdict}
 use Rattle.openings.specs.declared.Verdict.the-variants as Y
-use Rattle.openings.specs.Openings.{repeatsAt, roomFor, lower, verdictOf, opensAt, pairBy, pairWith, Made, unmovedOn, fullOn, enteredOn, openBy, openOn}
+use Rattle.openings.specs.Openings.{repeatsAt, roomFor, verdictOf, opensAt, pairBy, pairWith, Made, unmovedOn, fullOn, enteredOn, openBy, openOn}
 use Rattle.openings.specs.Places.{free-then, room-then}
 
 -- the answer with the Recovery stored, and with the two records put back in their places

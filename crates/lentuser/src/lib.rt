@@ -2,23 +2,13 @@
 // the datagram that it is; at the C boundary, where no part can be handed back, its place and length are.
 use session::Session;
 use table::Node;
+use userside::Handed;
 ghost use mathlib.Core.Path.{_≡_};
 ghost use lib.ListN.{length};
 ghost use Rattle.gpdu.specs.Part.{IsRest};
 ghost use Rattle.userside.specs.UserSide.{took, userTaken};
 ghost use Rattle.userside.specs.OneRecord.{done};
-ghost use Rattle.lentuser.specs.Lent.{parcel, parcelOf};
-
-// What a user datagram comes to, in numbers: document 01's number, the place of the session, the reply's length, and where in the
-// datagram the payload begins and how many octets it has. Where nothing is handed up it is the datagram's empty end.
-#[repr(C)]
-pub struct Handed {
-    pub number: u8,
-    pub place: usize,
-    pub size: usize,
-    pub start: usize,
-    pub octets: usize,
-}
+ghost use Rattle.userside.specs.Parcel.{parcel, parcelOf};
 
 // Take user datagram, answered in numbers, where it is known whether the records keep the rules, with the record at the place that the
 // datagram concerns.

@@ -5,13 +5,14 @@ use mathlib.Core.Bool.{Bool, true, false, _&&_}
 use mathlib.Core.Path.{_≡_, refl}
 use native.Mathlib.Omega.{arith}
 use lib.Dec.{eqb, leb}
+use lib.ListN.{length, length-take}
 use borrow.Author.Tests.{le-leb, lt-leb}
 use Rattle.octets.specs.Choice.{split, and-left, and-right, and-no, tests}
 use Rattle.octets.specs.Every.{every}
 use Rattle.octets.specs.Sums.{sumOf}
 use Rattle.tunnel.specs.Numbering.{places}
 use Rattle.plan.specs.declared.Plan.{Plan}
-use Rattle.plan.specs.Limits.{used, noPlan, mostPoints, mostSends, poolStep, figuresOk, pointOk}
+use Rattle.plan.specs.Limits.{used, parties, noPlan, mostPoints, mostSends, poolStep, figuresOk, pointOk}
 use Rattle.plan.specs.Names.{namesDiffer}
 
 -- the guarantees, added
@@ -50,6 +51,11 @@ accepted-figures p e =
       echoes = omega (arith, tests);
       whole = omega (arith, tests);
     }
+
+-- at most four access points take part
+pub parties-four : (p : Plan) → accepted p ≡ true → parties p ≤ 4
+unfolding used mostPoints
+parties-four p e = let f = accepted-figures p e .most in simp length-take (omega arith)
 
 -- ---- the test made limit by limit: one that is broken refuses the plan, and where the others are kept the figures decide
 module _ (p : Plan) where

@@ -21,7 +21,6 @@ use Rattle.control.specs.Control.{controlTaken}
 use Rattle.userside.specs.UserSide.{silent, userTaken}
 use Rattle.placeline.specs.Line.{lineBy, lineOf}
 use Rattle.lentcore.specs.Lent.{uncounted, rules-other, tick-other, close-other, send-other}
-use Rattle.lentuser.specs.Lent.{user-other}
 
 abbrev Other : List Session → Type 0
 Other l = length l ≡ places → ⊥
@@ -51,6 +50,11 @@ control-other : (node : Node) (l : List Session) (d reply : List ℕ) → eqb (l
     → controlTaken node l d reply ≡ noReply (uncounted (length reply)) node l reply
 unfolding controlTaken uncounted
 control-other node l d reply e = split (ltb (length reply) leastReply) (λ q. rw q) (λ q. rw (q, rules-other node l e))
+
+user-other : (node : Node) (l : List Session) (d reply : List ℕ) → eqb (length l) places ≡ false
+    → userTaken node l d reply ≡ silent (uncounted (length reply)) (length d) reply
+unfolding userTaken uncounted
+user-other node l d reply other = split (ltb (length reply) leastReply) (λ e. rw e) (λ e. rw (e, rules-other node l other))
 
 pub others-refused : OthersRefused
 others-refused = record {

@@ -20,8 +20,8 @@ use Rattle.timing.specs.Timing.{freshOf, tickOf, closeOf, sendOf}
 use Rattle.control.specs.Control.{controlTaken}
 use Rattle.placeline.specs.Line.{lineOf}
 use Rattle.userside.specs.UserSide.{userTaken}
-use Rattle.lentuser.specs.declared.Handed.{Handed}
-use Rattle.lentuser.specs.Lent.{Parcel, parcel, parcelOf}
+use Rattle.userside.specs.declared.Handed.{Handed}
+use Rattle.userside.specs.Parcel.{Parcel, parcel, parcelOf}
 use Rattle.promises.specs.Run.{left, Event, control, user, tick, send, close, line, step, answered, run, start, reached, ofOctets}
 use Rattle.promises.specs.Run.{Run, Kept, fresh-starts, run-keeps}
 

@@ -1,24 +1,24 @@
 -- The line of a place is never cut: on a table that keeps its rules it is printed whole, and its length is the answer's.
 -- Assumes nothing.
 use Prim.Native.Nat.{ℕ, _<_, _≤_, _^_}
-use mathlib.Core.Bool.{Bool, true, false, not, _&&_}
+use mathlib.Core.Bool.{true, false, _&&_}
 use mathlib.Core.List.{List}
-use mathlib.Core.Path.{_≡_, refl}
+use mathlib.Core.Path.{_≡_}
 use native.Mathlib.Omega.{arith}
-use lib.ListN.{length, getD}
+use lib.ListN.{length}
 use lib.Dec.{eqb, leb, ltb}
 use borrow.Author.Tests.{eqb-true, ltb-true, leb-true, lt-ltb, le-ltb}
-use Rattle.octets.specs.Choice.{pick, split, and-left, and-right}
+use Rattle.octets.specs.Choice.{split, and-left, and-right}
 use Rattle.octets.specs.Overlay.{overlay}
 use Rattle.tunnel.specs.Numbering.{places, lastUse}
 use Rattle.plan.specs.Limits.{parties}
+use Rattle.plan.specs.Plan.{parties-four}
 use Rattle.session.specs.declared.Session.{Session}
 use Rattle.session.specs.declared.Bounds.{Bounds}
 use Rattle.session.specs.Session.{isFree, blank, heldOk, readOk, recordOk, imsis, lastCreated}
 use Rattle.session.specs.Keep.{live-of, ok-usage}
 use Rattle.table.specs.Rules.{boundsOf, rules-of}
-use Rattle.table.specs.Change.{nobody, record-ok}
-use Rattle.rules.specs.Check.{parties-four}
+use Rattle.table.specs.Change.{record-ok}
 use Rattle.timing.specs.Outcome.{State, outcome, leastReply}
 use Rattle.placeline.specs.Line.{lineText, lineBy, lineOf, line-fits}
 use Rattle.promises.specs.Run.{Kept}

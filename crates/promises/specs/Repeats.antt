@@ -14,9 +14,8 @@ use Rattle.tunnel.specs.Numbering.{places}
 use Rattle.plan.specs.declared.Plan.{Plan}
 use Rattle.readers.specs.declared.Recovery.{Recovery}
 use Rattle.readers.specs.declared.Recovery.the-variants as R
-use Rattle.rules.specs.Check.{parties-four}
 use Rattle.sharing.specs.Sharing.{admits}
-use Rattle.plan.specs.Plan.{accepted}
+use Rattle.plan.specs.Plan.{accepted, parties-four}
 use Rattle.octets.specs.Every.{every}
 use Rattle.octets.specs.BigEndian.{isOctet}
 use Rattle.session.specs.Session.{hasId, isFree, opened}
@@ -26,7 +25,7 @@ use Rattle.table.specs.Room.{freePlace}
 use Rattle.header.specs.Types.{kindBy}
 use Rattle.wishes.specs.Asked.{kindAsked, requestAsked, soundAsked, askedOf}
 use Rattle.control.specs.Creates.{openingOf, acceptedTaken, isRepeat, settledAt, heardCreate, createTaken}
-use Rattle.timing.specs.Outcome.{State, Outcome, leastReply, noReply}
+use Rattle.timing.specs.Outcome.{State, leastReply, noReply}
 use Rattle.session.specs.declared.Session.{Session}
 use Rattle.table.specs.declared.Node.{Node}
 use Rattle.table.specs.declared.Found.the-variants as F

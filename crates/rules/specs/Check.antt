@@ -5,7 +5,7 @@ use mathlib.Core.Bool.{Bool, true, false, not, _&&_}
 use mathlib.Core.List.{List, [], _∷_, map}
 use mathlib.Core.Path.{_≡_, refl, sym, _∙_, ap}
 use native.Mathlib.Omega.{arith}
-use lib.ListN.{length, getD, length-take}
+use lib.ListN.{length, getD}
 use lib.Dec.{eqb, leb, ltb}
 use borrow.Author.Tests.{eqb-true, eqb-false, eq-eqb, ne-eqb}
 use mir.Val.{boolByte}
@@ -13,9 +13,8 @@ use Rattle.octets.specs.Choice.{split, and-left, and-right, and-no, tests}
 use Rattle.octets.specs.Every.{every, everyRest}
 use Rattle.octets.specs.Sums.{sumOf, count-most}
 use Rattle.tunnel.specs.Numbering.{places}
-use Rattle.plan.specs.declared.Plan.{Plan}
-use Rattle.plan.specs.Limits.{used, parties, mostPoints}
-use Rattle.plan.specs.Plan.{accepted, accepted-figures}
+use Rattle.plan.specs.Limits.{parties}
+use Rattle.plan.specs.Plan.{accepted, parties-four}
 use Rattle.sharing.specs.Sharing.{withinOk, within-agree}
 use Rattle.distinct.specs.Apart.{noneClash, pairwise, sameKey, none-keys, pairwise-keys}
 use Rattle.session.specs.declared.Request.{Request}
@@ -127,10 +126,6 @@ unpacked-at l n a h = pickOut a h
     pickOut (suc (suc (suc (suc b)))) k = absurd (omega arith)
 
 -- ---- the whole
-pub parties-four : (p : Plan) → accepted p ≡ true → parties p ≤ 4
-unfolding used mostPoints
-parties-four p e = let f = accepted-figures p e .most in simp length-take (omega arith)
-
 waits-are : (l : List Session) → map waitOf (map (λ s. s .own) l) ≡ map (λ s. waitOf (s .own)) l
 waits-are [] = refl
 waits-are (s ∷ l) = ap (λ (m : List ℕ). waitOf (s .own) ∷ m) (waits-are l)

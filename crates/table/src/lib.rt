@@ -10,6 +10,7 @@ ghost use mathlib.Core.Path.{_≡_};
 ghost use lib.ListN.{replicate};
 ghost use Rattle.session.specs.Session.{blankAt};
 ghost use Rattle.table.specs.Become.{changedBy};
+ghost use Rattle.table.specs.Number.{after};
 ghost use Rattle.table.specs.Own.{freshNode, rested, restarted, hearing, echoTicked};
 ghost use Rattle.table.specs.Find.{takenIn, controlPlace, userPlace, hasControl, hasUser};
 
@@ -109,6 +110,13 @@ pub fn changed(s: Session, c: Change) -> Session
         Change::Tick(most) => s.ticked(most),
         Change::Blank => Session::blank_at(0),
     }
+}
+
+// The sequence number after another.
+pub fn after(k: u32) -> u32
+    ensures { λ r. ⌜ r ≡ after k ⌝ }
+{
+    ((k as u64 + 1) % (Request::LAST_NUMBER as u64 + 1)) as u32
 }
 
 // The place that a control number names; 64 where it names none.

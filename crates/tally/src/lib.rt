@@ -1,18 +1,9 @@
 // The number that the next first send takes.
-use session::Request;
 use table::Table;
 ghost use Prim.Native.Nat.{_+_};
 ghost use mathlib.Core.Path.{_≡_};
 ghost use Rattle.tunnel.specs.Numbering.{places};
-ghost use Rattle.table.specs.Number.{after};
 ghost use Rattle.tally.specs.Tally.{unclaimed, freeAmong};
-
-// The sequence number after another.
-pub fn after(k: u32) -> u32
-    ensures { λ r. ⌜ r ≡ after k ⌝ }
-{
-    ((k as u64 + 1) % (Request::LAST_NUMBER as u64 + 1)) as u32
-}
 
 // Whether nobody awaits a number: neither the echo nor a place.
 fn unclaimed(k: u32, echo: u64, keys: &[u64]) -> bool
@@ -34,7 +25,7 @@ pub fn free_among(next: u32, echo: u64, keys: &[u64]) -> u32
         if ok {
             return k;
         }
-        k = after(k);
+        k = table::after(k);
         tries -= 1;
     }
     k

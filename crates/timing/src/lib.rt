@@ -54,7 +54,7 @@ pub fn stepped(sends: u8, k: u32, next: u32) -> u32
     ensures { λ r. ⌜ r ≡ stepped sends k next ⌝ }
 {
     if sends == 0 {
-        return tally::after(k);
+        return table::after(k);
     }
     next
 }

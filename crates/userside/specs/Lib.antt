@@ -1,2 +1,3 @@
 pub mod UserSide
 pub mod OneRecord
+pub mod Parcel

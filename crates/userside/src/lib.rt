@@ -12,6 +12,17 @@ ghost use Rattle.gpdu.specs.Part.{IsRest};
 ghost use Rattle.userside.specs.UserSide.{took};
 ghost use Rattle.userside.specs.OneRecord.{concerned, answered, packetOn, headerOn, done};
 
+// What a user datagram comes to, in numbers: document 01's number, the place of the session, the reply's length, and where in the
+// datagram the payload begins and how many octets it has. Where nothing is handed up it is the datagram's empty end.
+#[repr(C)]
+pub struct Handed {
+    pub number: u8,
+    pub place: usize,
+    pub size: usize,
+    pub start: usize,
+    pub octets: usize,
+}
+
 // The place that the tunnel number names, whatever the datagram is; 64 where it names none or is cut.
 pub fn concerned(d: &[u8]) -> usize
     ensures { λ r. ⌜ r ≡ concerned (now (d .entry)) ⌝ }

@@ -1,9 +1,9 @@
 use mathlib.Core.Path.{refl}
 use Rattle.session.specs.Request.{lastNumber}
 use Rattle.table.specs.Number.{after}
 use borrow.Author.Needs.{needs}
-use Rattle.tally.proofs.after.Statement.{statement}
-use Rattle.tally.proofs.after.Tie as tie
+use Rattle.table.proofs.after.Statement.{statement}
+use Rattle.table.proofs.after.Tie as tie
 
 add-result : tie.Need-add-result
 add-result c = search needs
