@@ -1,4 +1,4 @@
--- User datagrams with lent records, in numbers. What is said of a list of 64 records is said of any lent list, since 64 records are one
+-- User datagrams with lent records, in numbers. What is said of a list of as many records as places is said of any lent list, since so many records are one
 -- of the table's rules: another count is 1 where the reply buffer is short, else 2, with nothing written and nothing handed up.
 -- Assumes nothing.
 use Prim.Native.Nat.{ℕ, _-_, _≤_}

@@ -79,8 +79,8 @@ pub record Carried (i : ℕ) (x reply d : List ℕ) (w : Took) : Type 0 where
 
 -- from any table that keeps its rules
 unfoldable pub AllCarried : Type 0
-AllCarried = (s : State) → Kept s → (i : ℕ) → i < 64 → isFree (at s i) ≡ false
-    → (first : ℕ) (b : Between) (x reply : List ℕ) → ours first ≡ true → suits first b ≡ true → length (behind b x) < 65536 → 128 ≤ length reply
+AllCarried = (s : State) → Kept s → (i : ℕ) → i < places → isFree (at s i) ≡ false
+    → (first : ℕ) (b : Between) (x reply : List ℕ) → ours first ≡ true → suits first b ≡ true → length (behind b x) < 65536 → leastReply ≤ length reply
     → Carried i x reply (packet first (userNumber (at s i .usage) i) (behind b x))
     (userTaken (s .node) (s .table) (packet first (userNumber (at s i .usage) i) (behind b x)) reply)
 
@@ -208,7 +208,7 @@ left-of first n (extensions a b c k) x =
     sym (drop-drop (length (chain k)) 12 (packet first n (behind (extensions a b c k) x))) ∙ drop-front (chain k) x
 
 -- ---- whoever is live in a table that keeps its rules has a use, and is found by its number
-module _ (s : State) (k : Kept s) (i : ℕ) (h : i < 64) (live : isFree (at s i) ≡ false) where
+module _ (s : State) (k : Kept s) (i : ℕ) (h : i < places) (live : isFree (at s i) ≡ false) where
   rules : Rules (s .node .plan) (s .node .echo) (s .node .next) (s .table)
   rules = rules-of (s .node) (s .table) k
 
@@ -234,7 +234,7 @@ module _ (s : State) (k : Kept s) (i : ℕ) (h : i < 64) (live : isFree (at s i)
       ∙ rw (number-holder userOffset (at s i .usage) i user-fits h used)
       (held-yes i (at s i .usage) (s .table) (omega arith) (rw (live, eq-eqb (at s i .usage) (at s i .usage) refl)))
 
-  handed : (first : ℕ) (b : Between) (x reply : List ℕ) → ours first ≡ true → suits first b ≡ true → length (behind b x) < 65536 → 128 ≤ length reply
+  handed : (first : ℕ) (b : Between) (x reply : List ℕ) → ours first ≡ true → suits first b ≡ true → length (behind b x) < 65536 → leastReply ≤ length reply
       → userTaken (s .node) (s .table) (packet first (userNumber (at s i .usage) i) (behind b x)) reply ≡ took 0 i 0 reply (front b)
   unfolding headerTaken packetTaken leastReply
   handed first b x reply g q l room =

@@ -207,7 +207,7 @@ tunnel-short : (flags teid addr : ℕ) (behind : List ℕ) → length (tunnelOct
 unfolding tunnelOctets octetsOf
 tunnel-short flags teid addr behind = omega arith
 
-name-short : (plan : Plan) (i : ℕ) → accepted plan ≡ true → i < parties plan → length (nameOf (getD (used plan) i noPoint)) ≤ 63
+name-short : (plan : Plan) (i : ℕ) → accepted plan ≡ true → i < parties plan → length (nameOf (getD (used plan) i noPoint)) ≤ longestName
 unfolding accepted nameOf pointOk longestName
 name-short plan i p h =
     let a : every pointOk (used plan) ≡ true = search (and-left, and-right) depth 5 in

@@ -12,7 +12,7 @@ ghost use Rattle.gpdu.specs.Part.{IsRest};
 ghost use Rattle.userside.specs.UserSide.{took};
 ghost use Rattle.userside.specs.OneRecord.{concerned, answered, packetOn, headerOn, done};
 
-// The place that the tunnel number names, whatever the datagram is; 64 where it names none or is cut.
+// The place that the tunnel number names, whatever the datagram is; past the last where it names none or is cut.
 pub fn concerned(d: &[u8]) -> usize
     ensures { λ r. ⌜ r ≡ concerned (now (d .entry)) ⌝ }
 {
