@@ -152,7 +152,7 @@ module _ (l : List Session) (i : ℕ) (inside : i ≤ length l) (size : length l
 
   pub room-then : (p : Plan) (point : ℕ) → parties p ≤ 4
       → roomFor p (sumOf weightOf l) (getD l i nobody) point ≡ admits p (live (changedAt freed i l)) point
-  unfolding roomFor
+  unfolding roomFor places
   room-then p point four =
       let n = length-then i l in
       rw counts-then (admits-agree p (λ a. getD (unpackedOf (sumOf weightOf (changedAt freed i l))) a 0) (live (changedAt freed i l)) point

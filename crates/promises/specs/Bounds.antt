@@ -12,7 +12,7 @@ use borrow.Author.Tests.{eq-eqb}
 use Rattle.tunnel.specs.Numbering.{places, teids, lastUse, controlOffset, userOffset, control-fits, user-fits}
 use Rattle.tunnel.specs.Tunnel.{controlNumber, userNumber, number-same, number-fits, kinds-apart}
 use Rattle.plan.specs.declared.Plan.{Plan}
-use Rattle.plan.specs.Address.{addressOf}
+use Rattle.plan.specs.Address.{addressOf, addresses}
 use Rattle.plan.specs.Limits.{parties}
 use Rattle.sharing.specs.Sharing.{shareOf, ceilingAt}
 use Rattle.session.specs.declared.Request.{Request}
@@ -110,7 +110,7 @@ NoneShared = (p : Plan) (es : List Event) → Run p es → (i : ℕ) → i < pla
     → Apart p i j (at (reached p es) i) (at (reached p es) j))
 
 addresses-apart : (pool i j : ℕ) → i < places → j < places → i ≢ j → addressOf pool i ≢ addressOf pool j
-unfolding addressOf
+unfolding addressOf places addresses
 addresses-apart pool i j h k n e = n (omega arith)
 
 has-id : (s : Session) → isFree s ≡ false → hasId (s .imsi) (s .ebi) s ≡ true

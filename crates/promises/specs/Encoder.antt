@@ -246,7 +246,7 @@ module _ (x : Besides) (s : Short x) where
 
   pub create-fits : (plan : Plan) (c : C.Create) → accepted plan ≡ true → c .point < parties plan
       → every fits (createFields plan c x (createBearer c x)) ≡ true
-  unfolding createFields every
+  unfolding createFields every longestName
   create-fits plan c p h =
       let digits = digits-length 15 (c .imsi) in
       let most = packed-most (digitsOf 15 (c .imsi)) in

@@ -77,11 +77,11 @@ planned : start oneParty .node .plan ≡ oneParty
 planned = start-plan oneParty one-party-accepted
 
 new-first : (s : State) → s .table ≡ freshRecs → NewCreate oneParty s first (holding firstImsi)
-unfolding holding heardBy noReply repeats hasId isFree blankAt every
+unfolding holding heardBy noReply repeats hasId isFree blankAt every places
 new-first s e = record { sound = first-sound; new = rw e refl }
 
 new-second : (s : State) → s .table ≡ freshRecs → NewCreate oneParty s second (holding secondImsi)
-unfolding holding heardBy noReply repeats hasId isFree blankAt every
+unfolding holding heardBy noReply repeats hasId isFree blankAt every places
 new-second s e = record { sound = second-sound; new = rw e refl }
 
 first-admitted : (s : State) → s .table ≡ freshRecs → admits oneParty (askedU (holding firstImsi) s) (holding firstImsi .point) ≡ true
@@ -130,7 +130,7 @@ module _ (r : List ℕ) (room : leastReply ≤ length r) where
 
 -- the second has another IMSI, and finds the access point at its ceiling
 new-after : (s : State) → s .table ≡ oneRecs → NewCreate oneParty s second (holding secondImsi)
-unfolding holding openingOf opened heardBy noReply repeats hasId isFree blankAt freed changedAt replaced firstOf freePlace every
+unfolding holding openingOf opened heardBy noReply repeats hasId isFree blankAt freed changedAt replaced firstOf freePlace every places
 new-after s e = record { sound = second-sound; new = rw e refl }
 
 second-refused : (s : State) → s .table ≡ oneRecs → admits oneParty (askedU (holding secondImsi) s) (holding secondImsi .point) ≡ false
@@ -174,7 +174,7 @@ overlay-at (x ∷ m) (y ∷ d) zero h k = refl
 overlay-at (x ∷ m) (y ∷ d) (suc i) h k = overlay-at m d i (omega arith) (omega arith)
 
 echo-octet : (n recovery : ℕ) (reply : List ℕ) → n < 256 → leastReply ≤ length reply → getD (overlay (messages.echoOf 2 n recovery) reply) 6 0 ≡ n
-unfolding messages.echoOf octetsOf
+unfolding messages.echoOf octetsOf leastReply
 echo-octet n recovery reply h room = overlay-at (messages.echoOf 2 n recovery) reply 6 (omega arith) (omega arith) ∙ omega arith
 
 echo-answer : (s : State) → Kept s → (reply : List ℕ) → leastReply ≤ length reply → (n : ℕ)

@@ -115,7 +115,7 @@ nobody-has s k = let z = rules-of (s .node) (s .table) k .size in owner-is userO
 
 handed-up : (d : List ℕ) (start : ℕ) → userOf d .number ≡ 0 → userOf d .size ≡ start → headerOf d ≡ H.Packet (record { 0 = 384 })
     → (s : State) (reply : List ℕ) → Lives s reply → userTaken (s .node) (s .table) d reply ≡ took 0 0 0 reply start
-unfolding headerTaken packetTaken leastReply numberAt base userOffset
+unfolding headerTaken packetTaken leastReply numberAt base userOffset places
 handed-up d start n z q s reply h =
     let own : ownerOf userOffset (userNumber (at s 0 .usage) 0) (s .table) ≡ F.At 0 = live-owner s (h .kept) 0 (omega arith) (h .live) in
     let o : ownerOf userOffset 384 (s .table) ≡ F.At 0 = rw (h .usage) at own in
