@@ -99,8 +99,8 @@ pub record Apart (p : Plan) (i j : ℕ) (s d : Session) : Type 0 where
 
 -- one place: its two numbers are numbers of 32 bits, and never the same
 pub record Own (i : ℕ) (s : Session) : Type 0 where
-  pub control : controlNumber (s .usage) i < 4294967296
-  pub user : userNumber (s .usage) i < 4294967296
+  pub control : controlNumber (s .usage) i < teids
+  pub user : userNumber (s .usage) i < teids
   pub kinds : (j v : ℕ) → j < places → controlNumber (s .usage) i ≢ userNumber v j
 
 unfoldable pub NoneShared : Type 0
