@@ -78,7 +78,7 @@ send-tried b t t′ out o reply node a s e f g = rw (← rw e at f) (g .0, ap (b
 
 -- ---- laws of the sending loop, after i tries
 pub sent-none : (b : Bench) (t : List Session) (out : List ℕ) → allSent b t out ≡ dueSent (places + 1 - 0) (ran b t out)
-unfolding allSent
+unfolding allSent places
 sent-none b t out = refl
 
 not-on : (a : Bool) → not a ≡ true → a ≡ false
@@ -106,7 +106,7 @@ module _ (x : Ran) (i : ℕ) (b c : Bench) (t t′ : List Session) (out o : List
       e ∙ rw (z, q, g, f .1)
 
 pub sent-end : (x y : Ran) (i : ℕ) → x ≡ dueSent (places + 1 - i) y → i ≡ places + 1 → y ≡ x
-unfolding dueSent
+unfolding dueSent places
 sent-end x y i e f = sym (e ∙ rw f)
 
 -- ---- the calls
