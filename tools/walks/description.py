@@ -4,7 +4,7 @@ from dataclasses import dataclass, field
 from .mir import Refusal
 
 ONCE = ("within", "inside", "default", "holds", "begin", "turn")
-REPEATED = {"head": "heads", "law": "laws", "use": "uses", "abbrev": "abbrevs"}
+REPEATED = {"head": "heads", "law": "laws", "use": "uses", "abbrev": "abbrevs", "unfold": "unfolds"}
 
 
 @dataclass
@@ -15,6 +15,7 @@ class Description:
     laws: list = field(default_factory=list)
     uses: list = field(default_factory=list)
     abbrevs: list = field(default_factory=list)
+    unfolds: list = field(default_factory=list)
     requires: dict = field(default_factory=dict)
     within: str = None
     inside: str = None

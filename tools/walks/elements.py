@@ -113,13 +113,13 @@ def _scale(walk, statement):
     """x = index * size"""
     local, value = place(statement[1])[0], statement[2]
     index, size = walk.now.values[local_of(value[2])].term, value[3][2]
-    walk.sizes[size] = True
+    walk.names.cite("place-fits")
     base = offset_base(walk)
     if isinstance(base, Parameter):
         room = f"(length {base.entry_list}) {index} ({base.room} .1)"
     else:
         room = f"{walk.now.values[base].type.count} {index} (lit< tt)"
-    fits = f"(fits-{size} {room} {index_proof(walk, base)})"
+    fits = f"(place-fits {size} {room} {index_proof(walk, base)})"
     product = f"(bin ! {walk.load(value[2])} (lit ! tt) (record {{ fits = {fits} }}))"
     walk.assigns(product, local, f"(tt, record {{ fits = {fits} }})")
     walk.now.values[local] = Scaled(index, size)

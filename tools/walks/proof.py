@@ -49,8 +49,29 @@ class Proof:
         self.lines = walk_function(walk)
         self.calls = list(walk.callees.items())
         body = self._laws() + self._contracts() + self._setting() + self._ending() + self._walk() + self._theorem()
+        body = self._unfolded(body)
         uses = walk.names.use_lines(self._uses(), "\n".join(body))
         return "\n".join(self._head() + uses + [""] + body) + "\n"
+
+    def _unfolded(self, body):
+        """The lines, with what the description unfolds said of each lemma."""
+        names = self.walk.description.unfolds
+        if not names:
+            return body
+        for name in names:
+            self.walk.names.cite(name)
+        lines, lemma = [], None
+        for line in "\n".join(body).split("\n"):
+            begins = re.match(r"( *)(?:pub )?([^\s:]+) : ", line)
+            if begins:
+                lemma = begins.groups()
+            elif lemma and line.startswith(f"{lemma[0]}unfolding "):
+                line, lemma = " ".join([line] + names), None
+            elif lemma and line.startswith(f"{lemma[0]}{lemma[1]} "):
+                lines.append(f"{lemma[0]}unfolding {' '.join(names)}")
+                lemma = None
+            lines.append(line)
+        return lines
 
     def _declare(self):
         """Names that the description's own `use` and `abbrev` lines bring."""
@@ -100,9 +121,6 @@ class Proof:
     def _laws(self):
         """Laws of arithmetic, and how each parameter ends."""
         lines = []
-        for size in self.walk.sizes:
-            lines += [f"fits-{size} : (n i : ℕ) → n * {size} < 2 ^ 63 → i < n → i * {size} < 2 ^ 64",
-                      f"fits-{size} n i g l = omega (arith, g, l)", ""]
         if self.walk.loop:
             lines += ["within-word : (n i : ℕ) → n < 2 ^ 64 → i < n → i < 2 ^ 64",
                       "within-word n i g l = omega (arith, g, l)", "",

@@ -63,7 +63,6 @@ class Walk:
         self.facts = []             # what a law can name
         self.calls = {}             # a callee's name in the logic -> its path
         self.call_counts = {}       # how often it was called so far
-        self.sizes = {}             # sizes of elements that were looked at
         self.looks = 0              # how many elements were read
         self.branches = 0           # how many branches were walked
         self.held_parts = {}        # parts of slices that calls answered, by their names

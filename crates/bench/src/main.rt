@@ -4,6 +4,7 @@
 // the unit before it.
 use benchplan::Bench;
 use session::Session;
+use tunnel::Unit;
 ghost use mathlib.Core.Path.{_≡_};
 ghost use Prim.Native.Nat.{_≤_};
 ghost use lib.ListN.{length};
@@ -299,9 +300,9 @@ fn run(recs: &mut [Session], buf: &mut [u8], out: &mut [u8])
 }
 
 // No place was ever used.
-fn records() -> [Session; 64] {
+fn records() -> [Session; Unit::PLACES] {
     let nobody = Session::blank_at(0);
-    [nobody; 64]
+    [nobody; Unit::PLACES]
 }
 
 fn buffer() -> [u8; 65536]

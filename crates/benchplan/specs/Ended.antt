@@ -18,7 +18,7 @@ use Rattle.table.specs.declared.Node.{Node}
 use Rattle.table.specs.Change.{nobody}
 use Rattle.table.specs.Room.{sessions}
 use Rattle.timing.specs.declared.Answer.{Answer}
-use Rattle.timing.specs.Outcome.{outcome, Back, back}
+use Rattle.timing.specs.Outcome.{outcome, Back, back, leastReply}
 use Rattle.placeline.specs.Line.{lineOf}
 use Rattle.benchtext.specs.Prints.{liveText}
 use Rattle.benchplan.specs.declared.Bench.{Bench}
@@ -87,9 +87,9 @@ blank-free : boolByte (not (isFree (blankAt 0))) ≡ 0
 unfolding isFree blankAt
 blank-free = refl
 
-pub count-next : (t : List Session) (i n m : ℕ) (s : Session) → i < 64 → n ≡ sessions (take i t) → s ≡ getD t i (blankAt 0) → m ≡ oneMoreOf n s
+pub count-next : (t : List Session) (i n m : ℕ) (s : Session) → i < places → n ≡ sessions (take i t) → s ≡ getD t i (blankAt 0) → m ≡ oneMoreOf n s
     → m ≡ sessions (take (i + 1) t)
-unfolding sessions oneMoreOf counted
+unfolding sessions oneMoreOf counted places
 count-next t i n m s h e f g =
     let z : i + 1 ≡ suc i = omega arith in
     let q = sum-next (λ (x : Session). boolByte (not (isFree x))) t i (blankAt 0) blank-free in
@@ -98,8 +98,7 @@ count-next t i n m s h e f g =
     let c = lt-ltb _ _ v in
     g ∙ (rw (e, f) (split (isFree (getD t i (blankAt 0))) (λ u. rw (z, q, u) (omega arith)) (λ u. rw (z, q, u, c))))
 
-pub count-end : (t : List Session) (i n : ℕ) → n ≡ sessions (take i t) → i ≡ 64 → n ≡ sessions (take places t)
-unfolding places
+pub count-end : (t : List Session) (i n : ℕ) → n ≡ sessions (take i t) → i ≡ places → n ≡ sessions (take places t)
 count-end t i n e f = e ∙ rw f
 
 -- ---- a place: never used, used
@@ -109,7 +108,7 @@ module _ (t : List Session) (place : ℕ) (b : Bench) (out : List ℕ) (s : Sess
   place-unused v f h = rw (← e, ← f, h)
 
   pub place-used : (v : Bool) (node : Node) (a : Answer) (text o : List ℕ) (r : Bench) → v ≡ eqb (s .usage) 0 → v ≡ false → node ≡ b .node
-      → outcome a t text ≡ lineOf node t place (replicate 128 0) → shown r o ≡ lineShown (back a text) b out → shown r o ≡ placePrinted t place b out
+      → outcome a t text ≡ lineOf node t place (replicate leastReply 0) → shown r o ≡ lineShown (back a text) b out → shown r o ≡ placePrinted t place b out
   unfolding placePrinted lentReply
   place-used v node a text o r f h g k q = rw (← e, ← f, h, ← rw g at k) q
 
@@ -124,9 +123,9 @@ pub places-next : (t : List Session) (i : ℕ) (x : Shown) (b c : Bench) (out o 
 unfolding placesTo
 places-next t i x b c out o e f = let z : i + 1 ≡ suc i = omega arith in f ∙ rw (z, ← e)
 
-pub places-end : (t : List Session) (i : ℕ) (b c : Bench) (out o : List ℕ) → shown c o ≡ placesTo t i (liveShown (sessions (take places t)) b out) → i ≡ 64
+pub places-end : (t : List Session) (i : ℕ) (b c : Bench) (out o : List ℕ) → shown c o ≡ placesTo t i (liveShown (sessions (take places t)) b out) → i ≡ places
     → shown c o ≡ placesPrinted t b out
-unfolding placesPrinted places
+unfolding placesPrinted
 places-end t i b c out o e f = e ∙ rw f
 
 -- ---- the plan is taken at the end

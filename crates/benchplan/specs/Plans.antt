@@ -9,7 +9,7 @@ use Rattle.octets.specs.Choice.{pick}
 use Rattle.octets.specs.Overlay.{overlay}
 use Rattle.plan.specs.declared.AccessPoint.{AccessPoint}
 use Rattle.plan.specs.declared.Plan.{Plan}
-use Rattle.plan.specs.Limits.{noPoint}
+use Rattle.plan.specs.Limits.{longestName, noPoint}
 use Rattle.session.specs.declared.Session.{Session}
 use Rattle.table.specs.declared.Node.{Node}
 use Rattle.table.specs.Own.{freshNode}
@@ -40,10 +40,10 @@ firstLine b control user pool recovery resend sends interval = record {
   });
 }
 
--- A: a name of at most 63 octets, the rest of its 63 zero
+-- A: a name of at most `longestName` octets, the rest of its octets zero
 unfoldable pub pointFrom : ℕ → ℕ → List ℕ → AccessPoint
 pointFrom guarantee ceiling octets =
-    record { name = overlay octets (replicate 63 0); size = length octets % 256; guarantee = guarantee; ceiling = ceiling }
+    record { name = overlay octets (replicate longestName 0); size = length octets % 256; guarantee = guarantee; ceiling = ceiling }
 
 -- put into the next slot; there are four
 unfoldable pub withPoint : Plan → AccessPoint → Plan

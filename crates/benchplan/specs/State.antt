@@ -12,7 +12,7 @@ use Rattle.plan.specs.Limits.{noPlan}
 use Rattle.session.specs.declared.Session.{Session}
 use Rattle.table.specs.declared.Node.{Node}
 use Rattle.table.specs.Own.{freshNode}
-use Rattle.timing.specs.Outcome.{Outcome, outcome, Back, back}
+use Rattle.timing.specs.Outcome.{Outcome, outcome, Back, back, leastReply}
 use Rattle.timing.specs.declared.Answer.{Answer}
 use Rattle.benchtext.specs.Prints.{answerText, badText}
 use Rattle.benchplan.specs.declared.Bench.{Bench}
@@ -55,7 +55,7 @@ emptyRun = record { phase = first; lines = 0; made = 0; node = freshNode noPlan 
 
 -- what a call gets as its reply buffer
 unfoldable pub lentReply : List ℕ
-lentReply = replicate 128 0
+lentReply = replicate leastReply 0
 
 -- ---- parts of it changed
 unfoldable pub counted : ℕ → ℕ

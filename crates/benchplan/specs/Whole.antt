@@ -221,10 +221,10 @@ module _ (node : Node) (t : List Session) (kept : keepsRules node t ≡ true) (p
       let v = live-of (boundsOf (node .plan)) x ok z .held in
       let i : ltb (x .imsi) 1000000000000000 ≡ true = search (and-left, and-right) depth 9 in
       let e : leb (x .ebi) 15 ≡ true = search (and-left, and-right) depth 9 in
-      let c : leb (x .created) 16777215 ≡ true = search (and-left, and-right) depth 9 in
+      let c : leb (x .created) lastCreated ≡ true = search (and-left, and-right) depth 9 in
       let i′ = ltb-true (x .imsi) 1000000000000000 i in
       let e′ = leb-true (x .ebi) 15 e in
-      let c′ = leb-true (x .created) 16777215 c in
+      let c′ = leb-true (x .created) lastCreated c in
       let a1 = number-most (x .point) in
       let a2 = imsi-size (x .imsi) (omega arith) in
       let a3 = number-size (x .ebi) 1 (omega arith) in
@@ -235,8 +235,8 @@ module _ (node : Node) (t : List Session) (kept : keepsRules node t ≡ true) (p
       let a8 = number-size (x .created) 7 (omega arith) in
       rw z (simp length-append (omega arith)))
 
-  line-most : place < 64 → length (lineText place (getD t place nobody)) ≤ 122
-  unfolding lineText lastUse boundsOf
+  line-most : place < places → length (lineText place (getD t place nobody)) ≤ 122
+  unfolding lineText lastUse boundsOf places
   line-most h =
       let x = getD t place nobody in
       let r = rules-of node t kept in
@@ -247,7 +247,7 @@ module _ (node : Node) (t : List Session) (kept : keepsRules node t ≡ true) (p
       let d = rest-most in
       simp length-append (omega arith)
 
-pub place-most : (node : Node) (t : List Session) (place : ℕ) → place < 64 → length (placePrints node t place) ≤ 123
+pub place-most : (node : Node) (t : List Session) (place : ℕ) → place < places → length (placePrints node t place) ≤ 123
 unfolding placePrints lineOf lineBy lentReply leastReply laid
 place-most node t place h =
     split (eqb (getD t place nobody .usage) 0) (λ e. rw e (omega arith))
@@ -257,7 +257,7 @@ place-most node t place h =
     (λ i. rw i (simp length-append (omega arith)))))
     (λ k. rw k (simp length-append (omega arith)))))
 
-places-most : (node : Node) (t : List Session) (k : ℕ) → k ≤ 64 → length (placesPrint node t k) ≤ 123 * k
+places-most : (node : Node) (t : List Session) (k : ℕ) → k ≤ places → length (placesPrint node t k) ≤ 123 * k
 unfolding placesPrint
 places-most node t zero h = omega arith
 places-most node t (suc k) h =
@@ -268,8 +268,8 @@ places-most node t (suc k) h =
 pub all-most : (node : Node) (t : List Session) → length (allPrint node t) ≤ 7895
 unfolding allPrint places
 all-most node t =
-    let a = live-most (sessions (take 64 t)) in
-    let r = places-most node t 64 (omega arith) in
+    let a = live-most (sessions (take places t)) in
+    let r = places-most node t places (omega arith) in
     simp length-append (omega arith)
 
 pub plan-most : (a : Answer) → length (planPrints a) ≤ 23

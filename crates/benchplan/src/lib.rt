@@ -7,6 +7,7 @@ use plan::Plan;
 use session::Session;
 use table::Node;
 use timing::Answer;
+use tunnel::Unit;
 ghost use mathlib.Core.List.{[]};
 ghost use mathlib.Core.Path.{_≡_};
 ghost use lib.Dec.{eqb};
@@ -132,7 +133,7 @@ fn first_line(
 fn point_from(guarantee: u8, ceiling: u8, octets: &[u8]) -> AccessPoint
     ensures { λ r. ⌜ r ≡ pointFrom guarantee ceiling (now (octets .entry)) ⌝ }
 {
-    let mut name = [0; 63];
+    let mut name = [0; AccessPoint::LONGEST_NAME];
     octets::copy_front(octets, &mut name);
     AccessPoint {
         name,
@@ -266,7 +267,7 @@ fn sessions_in(recs: &[Session]) -> u64
 {
     let mut n: u64 = 0;
     let mut i: usize = 0;
-    while i < 64 {
+    while i < Unit::PLACES {
         let s = lentedit::read(recs, i);
         n = one_more_of(n, s);
         i += 1;
@@ -305,7 +306,7 @@ fn print_place(b: Bench, recs: &[Session], place: usize, out: &mut [u8]) -> Benc
     if never {
         return b;
     }
-    let mut text = [0; 128];
+    let mut text = [0; Answer::LEAST_REPLY];
     let node = node_of(b);
     let a = lentline::grugavorn_line(node, recs, place, &mut text);
     put_line(b, a, &text, out)
@@ -318,7 +319,7 @@ fn print_places(b: Bench, recs: &[Session], out: &mut [u8]) -> Bench
     let n = sessions_in(recs);
     let mut y = put_live(b, n, out);
     let mut i: usize = 0;
-    while i < 64 {
+    while i < Unit::PLACES {
         y = print_place(y, recs, i, out);
         i += 1;
     }

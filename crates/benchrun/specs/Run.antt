@@ -12,7 +12,7 @@ use Rattle.octets.specs.Choice.{pick}
 use Rattle.session.specs.declared.Session.{Session}
 use Rattle.table.specs.declared.Node.{Node}
 use Rattle.timing.specs.declared.Answer.{Answer}
-use Rattle.timing.specs.Outcome.{Outcome, outcome, Back, back}
+use Rattle.timing.specs.Outcome.{Outcome, outcome, Back, back, leastReply}
 use Rattle.timing.specs.Timing.{tickOf, closeOf, sendOf}
 use Rattle.control.specs.Control.{controlTaken}
 use Rattle.userside.specs.UserSide.{Took, userTaken}
@@ -22,6 +22,7 @@ use Rattle.benchtext.specs.Prints.{answerText, packetText, dueText}
 use Rattle.benchplan.specs.declared.Bench.{Bench}
 use Rattle.benchplan.specs.State.{Shown, shown, Ran, ran, beside, lentReply, withMade, keptIn, printed, answered, unitShown, unit-shown}
 use Rattle.benchrun.specs.declared.Sent.{Sent}
+use Rattle.tunnel.specs.Numbering.{places}
 
 -- ---- all that is due
 unfoldable pub sendTry : Bench → List Session → Outcome
@@ -45,9 +46,9 @@ dueSent zero x = x
 dueSent (suc k) x =
     pick (isDue (x .bench) (x .table)) (dueSent k (sentOne (x .bench) (x .table) (x .out))) (sentOne (x .bench) (x .table) (x .out))
 
--- the echo and 64 places are the most
+-- the echo and the places are the most
 unfoldable pub allSent : Bench → List Session → List ℕ → Ran
-allSent b t out = dueSent 65 (ran b t out)
+allSent b t out = dueSent (places + 1) (ran b t out)
 
 unfoldable pub thenSent : Ran → Ran
 thenSent x = allSent (x .bench) (x .table) (x .out)
@@ -70,14 +71,14 @@ handedShown x d b out =
 
 -- ---- laws of a send
 pub send-tried : (b : Bench) (t t′ : List Session) (out o reply : List ℕ) (node : Node) (a : Answer) (s : Sent) → node ≡ b .node
-    → outcome a t′ reply ≡ sendOf node t (replicate 128 0) → (s .go ≡ eqb (a .number) 0) × (shown (s .bench) o ≡ sentShown (back a reply) b out)
+    → outcome a t′ reply ≡ sendOf node t (replicate leastReply 0) → (s .go ≡ eqb (a .number) 0) × (shown (s .bench) o ≡ sentShown (back a reply) b out)
     → (s .go ≡ isDue b t) × (ran (s .bench) t′ o ≡ sentOne b t out)
 unfolding isDue sentOne sendTry lentReply
 send-tried b t t′ out o reply node a s e f g = rw (← rw e at f) (g .0, ap (beside t′) (g .1))
 
 -- ---- laws of the sending loop, after i tries
-pub sent-none : (b : Bench) (t : List Session) (out : List ℕ) → allSent b t out ≡ dueSent (65 - 0) (ran b t out)
-unfolding allSent
+pub sent-none : (b : Bench) (t : List Session) (out : List ℕ) → allSent b t out ≡ dueSent (places + 1 - 0) (ran b t out)
+unfolding allSent places
 sent-none b t out = refl
 
 not-on : (a : Bool) → not a ≡ true → a ≡ false
@@ -88,29 +89,29 @@ not-off : (a : Bool) → not a ≡ false → a ≡ true
 not-off true e = refl
 not-off false e = sym e
 
-module _ (x : Ran) (i : ℕ) (b c : Bench) (t t′ : List Session) (out o : List ℕ) (s : Sent) (v : Bool) (h : i < 65)
-    (e : x ≡ dueSent (65 - i) (ran b t out)) (f : (s .go ≡ isDue b t) × (ran (s .bench) t′ o ≡ sentOne b t out)) (g : c ≡ s .bench) (k : v ≡ not (s .go)) where
+module _ (x : Ran) (i : ℕ) (b c : Bench) (t t′ : List Session) (out o : List ℕ) (s : Sent) (v : Bool) (h : i < places + 1)
+    (e : x ≡ dueSent (places + 1 - i) (ran b t out)) (f : (s .go ≡ isDue b t) × (ran (s .bench) t′ o ≡ sentOne b t out)) (g : c ≡ s .bench) (k : v ≡ not (s .go)) where
   pub sent-stop : v ≡ true → ran c t′ o ≡ x
   unfolding dueSent
   sent-stop w =
-      let z : 65 - i ≡ suc (65 - (i + 1)) = omega arith in
+      let z : places + 1 - i ≡ suc (places + 1 - (i + 1)) = omega arith in
       let q : isDue b t ≡ false = not-on (isDue b t) (rw (k, f .0) at w) in
       rw g (f .1 ∙ sym (e ∙ rw (z, q)))
 
-  pub sent-on : v ≡ false → x ≡ dueSent (65 - (i + 1)) (ran c t′ o)
+  pub sent-on : v ≡ false → x ≡ dueSent (places + 1 - (i + 1)) (ran c t′ o)
   unfolding dueSent
   sent-on w =
-      let z : 65 - i ≡ suc (65 - (i + 1)) = omega arith in
+      let z : places + 1 - i ≡ suc (places + 1 - (i + 1)) = omega arith in
       let q : isDue b t ≡ true = not-off (isDue b t) (rw (k, f .0) at w) in
       e ∙ rw (z, q, g, f .1)
 
-pub sent-end : (x y : Ran) (i : ℕ) → x ≡ dueSent (65 - i) y → i ≡ 65 → y ≡ x
-unfolding dueSent
+pub sent-end : (x y : Ran) (i : ℕ) → x ≡ dueSent (places + 1 - i) y → i ≡ places + 1 → y ≡ x
+unfolding dueSent places
 sent-end x y i e f = sym (e ∙ rw f)
 
 -- ---- the calls
 module _ (b r : Bench) (t t′ : List Session) (out o : List ℕ) (node : Node) (e : node ≡ b .node) (a : Answer) where
-  pub control-run : (d p reply : List ℕ) → p ≡ d → outcome a t′ reply ≡ controlTaken node t p (replicate 128 0) → shown r o ≡ answered (back a reply) b out
+  pub control-run : (d p reply : List ℕ) → p ≡ d → outcome a t′ reply ≡ controlTaken node t p (replicate leastReply 0) → shown r o ≡ answered (back a reply) b out
       → ran r t′ o ≡ unitShown (controlTaken (b .node) t d lentReply) b out
   unfolding lentReply
   control-run d p reply f g h = unit-shown _ a t′ reply b r out o (rw (e, f) at g) h
@@ -130,10 +131,10 @@ unfolding handedShown userShown parcelOf
 handed-is n x d b out = refl
 
 pub user-run : (b r : Bench) (t : List Session) (out o : List ℕ) (node : Node) (x : Handed) (d p reply : List ℕ) → node ≡ b .node → p ≡ d
-    → parcel x reply ≡ parcelOf (length p) (userTaken node t p (replicate 128 0)) → shown r o ≡ handedShown (parcel x reply) p b out
+    → parcel x reply ≡ parcelOf (length p) (userTaken node t p (replicate leastReply 0)) → shown r o ≡ handedShown (parcel x reply) p b out
     → ran r t o ≡ userRun d b t out
 unfolding userRun lentReply
 user-run b r t out o node x d p reply e f g h =
-    let g′ : parcel x reply ≡ parcelOf (length d) (userTaken (b .node) t d (replicate 128 0)) = rw (e, f) at g in
+    let g′ : parcel x reply ≡ parcelOf (length d) (userTaken (b .node) t d (replicate leastReply 0)) = rw (e, f) at g in
     let h′ : shown r o ≡ handedShown (parcel x reply) d b out = rw f at h in
     ap (beside t) (h′ ∙ ap (λ (z : Parcel). handedShown z d b out) g′ ∙ handed-is (length d) _ d b out)

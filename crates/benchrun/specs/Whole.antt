@@ -12,7 +12,7 @@ use lib.Dec.{eqb, leb}
 use Rattle.octets.specs.Choice.{pick, split}
 use Rattle.session.specs.declared.Session.{Session}
 use Rattle.table.specs.declared.Node.{Node}
-use Rattle.timing.specs.Outcome.{Outcome}
+use Rattle.timing.specs.Outcome.{Outcome, leastReply}
 use Rattle.timing.specs.Timing.{freshOf, tickOf, closeOf, sendOf}
 use Rattle.control.specs.Control.{controlTaken}
 use Rattle.userside.specs.UserSide.{Took, userTaken}
@@ -30,6 +30,7 @@ use Rattle.benchrun.specs.declared.Ask.{Ask}
 use Rattle.benchrun.specs.Run.{sendTry, isDue, sentShown, sentOne, dueSent, allSent, thenSent, userText, userShown, userRun}
 use Rattle.benchrun.specs.Taken.{askOf, askRun, runLine, isPoint, pointLine, leavePlan, earlyLine, lentOctets, toldTaken, lineTaken}
 use Rattle.benchrun.specs.Replies.{control-length, user-length, tick-length, close-length, sent-most}
+use Rattle.tunnel.specs.Numbering.{places}
 
 -- ---- the texts
 -- number and reply
@@ -46,7 +47,7 @@ sendsPrint (suc k) node t =
     []
 
 unfoldable pub thenPrints : Outcome → List ℕ
-thenPrints x = unitPrints x ++ sendsPrint 65 (x .answer .node) (x .table)
+thenPrints x = unitPrints x ++ sendsPrint (places + 1) (x .answer .node) (x .table)
 
 unfoldable pub tookPrints : Took → List ℕ → List ℕ
 tookPrints x d = userText (x .number) (x .size) (x .reply) (drop (x .start) d)
@@ -142,7 +143,7 @@ then-adds : (x : Outcome) (b : Bench) (out : List ℕ)
 unfolding thenPrints thenSent allSent unitPrints unitShown answered printed keptIn
 then-adds x b out =
     let u = unit-adds x b out in
-    let s = sends-add 65 (unitShown x b out) (adds-within _ _ _ _ _ u) in
+    let s = sends-add (places + 1) (unitShown x b out) (adds-within _ _ _ _ _ u) in
     adds-on _ _ _ _ _ _ _ _ u s
 
 user-adds : (d : List ℕ) (b : Bench) (t : List Session) (out : List ℕ)
@@ -222,8 +223,8 @@ part-most n l = simp length-take (omega arith)
 rest-most : (n : ℕ) (l : List ℕ) → length (drop n l) ≤ length l
 rest-most n l = simp length-drop (omega arith)
 
-lent-most : length lentReply ≡ 128
-unfolding lentReply
+lent-most : length lentReply ≡ leastReply
+unfolding lentReply leastReply
 lent-most = refl
 
 unit-most : (x : Outcome) (n : ℕ) → length (x .reply) ≡ n → length (unitPrints x) ≤ 2 * n + 23
@@ -244,14 +245,14 @@ sends-most (suc k) node t =
     split (eqb (sendOf node t lentReply .answer .number) 0) (λ e. rw e (simp length-append (omega arith))) (λ e. rw e (omega arith))
 
 then-most : (x : Outcome) → length (x .reply) ≡ 0 → length (thenPrints x) ≤ 2493
-unfolding thenPrints
+unfolding thenPrints places
 then-most x h =
     let a = unit-most x 0 h in
-    let b = sends-most 65 (x .answer .node) (x .table) in
+    let b = sends-most (places + 1) (x .answer .node) (x .table) in
     simp length-append (omega arith)
 
-took-most : (x : Took) (d : List ℕ) → length (x .reply) ≡ 128 → length d ≤ 2048 → length (tookPrints x d) ≤ 4377
-unfolding tookPrints userText
+took-most : (x : Took) (d : List ℕ) → length (x .reply) ≡ leastReply → length d ≤ 2048 → length (tookPrints x d) ≤ 4377
+unfolding tookPrints userText leastReply
 took-most x d h k =
     let a = answer-most (x .number) (take (x .size) (x .reply)) in
     let b = packet-most (x .number) (take (x .size) (x .reply)) (drop (x .start) d) in
@@ -260,12 +261,12 @@ took-most x d h k =
     split (eqb (x .number) 0 && eqb (x .size) 0) (λ e. rw e (omega arith)) (λ e. rw e (omega arith))
 
 ask-most : (a : Ask) (octets : List ℕ) (lines : ℕ) (node : Node) (t : List Session) → length octets ≡ 2048 → length (askPrints a octets lines node t) ≤ 4377
-unfolding askPrints
+unfolding askPrints leastReply
 ask-most a octets lines node t h =
     let d = take (a .size) octets in
     let l = lent-most in
     let p = part-most (a .size) octets in
-    let c = unit-most (controlTaken node t d lentReply) 128 (control-length node t lentReply d ∙ lent-most) in
+    let c = unit-most (controlTaken node t d lentReply) leastReply (control-length node t lentReply d ∙ lent-most) in
     let u = took-most (userTaken node t d lentReply) d (user-length node t lentReply d ∙ lent-most) (omega arith) in
     let k = then-most (tickOf node t) (tick-length node t) in
     let x = then-most (closeOf node t (a .place)) (close-length node t (a .place)) in

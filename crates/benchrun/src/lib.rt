@@ -4,6 +4,7 @@ use benchplan::Bench;
 use benchtext::Line;
 use session::Session;
 use timing::Answer;
+use tunnel::Unit;
 use userside::Handed;
 ghost use mathlib.Core.Bool.{not, _&&_};
 ghost use mathlib.Core.Path.{_≡_};
@@ -56,19 +57,22 @@ fn show_sent(b: Bench, a: Answer, reply: &[u8], out: &mut [u8]) -> Sent
 fn send_one(b: Bench, recs: &mut [Session], out: &mut [u8]) -> Sent
     ensures { λ r. ⌜ (r .go ≡ isDue b (now (recs .entry))) × (ran (r .bench) (now (recs .exit)) (now (out .exit)) ≡ sentOne b (now (recs .entry)) (now (out .entry))) ⌝ }
 {
-    let mut reply = [0; 128];
+    let mut reply = [0; Answer::LEAST_REPLY];
     let node = benchplan::node_of(b);
     let a = lentclock::grugavorn_send(node, recs, &mut reply);
     show_sent(b, a, &reply, out)
 }
 
-// All that is due: the echo and 64 places are the most.
+// The echo and the places are the most that can be due.
+const SENDS: usize = Unit::PLACES + 1;
+
+// All that is due.
 fn send_due(b: Bench, recs: &mut [Session], out: &mut [u8]) -> Bench
     ensures { λ r. ⌜ ran r (now (recs .exit)) (now (out .exit)) ≡ allSent b (now (recs .entry)) (now (out .entry)) ⌝ }
 {
     let mut y = b;
     let mut i: usize = 0;
-    while i < 65 {
+    while i < SENDS {
         let s = send_one(y, recs, out);
         y = bench_of(s);
         let last = is_last(s);
@@ -84,7 +88,7 @@ fn run_control(b: Bench, recs: &mut [Session], octets: &[u8], size: usize, out: 
     ensures { λ r. ⌜ ran r (now (recs .exit)) (now (out .exit)) ≡ unitShown (controlTaken (b .node) (now (recs .entry)) (take size (now (octets .entry))) lentReply) b (now (out .entry)) ⌝ }
 {
     let d = benchplan::front(octets, size);
-    let mut reply = [0; 128];
+    let mut reply = [0; Answer::LEAST_REPLY];
     let node = benchplan::node_of(b);
     let a = lentcontrol::grugavorn_control(node, recs, d, &mut reply);
     benchplan::answered(b, a, &reply, out)
@@ -118,7 +122,7 @@ fn run_user(b: Bench, recs: &mut [Session], octets: &[u8], size: usize, out: &mu
     ensures { λ r. ⌜ ran r (now (recs .exit)) (now (out .exit)) ≡ userRun (take size (now (octets .entry))) b (now (recs .entry)) (now (out .entry)) ⌝ }
 {
     let d = benchplan::front(octets, size);
-    let mut reply = [0; 128];
+    let mut reply = [0; Answer::LEAST_REPLY];
     let node = benchplan::node_of(b);
     let h = lentuser::grugavorn_user(node, recs, d, &mut reply);
     show_handed(b, h, d, &reply, out)

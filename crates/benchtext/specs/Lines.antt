@@ -22,9 +22,7 @@ use Rattle.numerals.specs.Hex.{wordIn, octetsRead, Filled, filled}
 use Rattle.benchtext.specs.declared.Line.{Line}
 use Rattle.benchtext.specs.declared.Line.the-variants.{Node, Point, Control, User, Tick, Close, BadPoint, Bad}
 use Rattle.benchtext.specs.Fields.{isTab, fieldAt}
-
-unfoldable pub nameMost : ℕ
-nameMost = 63
+use Rattle.plan.specs.Limits.{longestName}
 
 unfoldable pub datagramMost : ℕ
 datagramMost = 2048
@@ -91,7 +89,7 @@ numbersRead N.Not c f bad = bad
 unfoldable pub pointRead : List ℕ → List ℕ → Told
 pointRead l out =
     numbersRead (numberIn (fieldAt 2 l)) (numberIn (fieldAt 3 l))
-    (λ g c. withOctets (octetsUpTo nameMost (fieldAt 1 l) out) BadPoint (Point g c))
+    (λ g c. withOctets (octetsUpTo longestName (fieldAt 1 l) out) BadPoint (Point g c))
     (told BadPoint out)
 
 unfoldable pub controlRead : List ℕ → List ℕ → Told

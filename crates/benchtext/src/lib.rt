@@ -2,6 +2,7 @@
 use numerals::Number;
 use numerals::Size;
 use numerals::Word;
+use plan::AccessPoint;
 ghost use mathlib.Core.Path.{_≡_};
 ghost use Rattle.numerals.specs.Laid.{laid, written};
 ghost use mir.Val.{boolByte};
@@ -44,9 +45,7 @@ pub enum Line {
 }
 
 impl Line {
-    // The most octets of a name and of a datagram.
-    pub const NAME: usize = 63;
-
+    // The most octets of a datagram.
     pub const DATAGRAM: usize = 2048;
     // A line of more characters is a bad one.
     pub const LONGEST: usize = 65535;
@@ -185,7 +184,7 @@ fn read_point(line: &[u8], octets: &mut [u8]) -> Line
     let Number::Is(ceiling) = numerals::number_in(field(line, 3)) else {
         return Line::BadPoint;
     };
-    let Size::Is(size) = octets_up_to(field(line, 1), Line::NAME, octets) else {
+    let Size::Is(size) = octets_up_to(field(line, 1), AccessPoint::LONGEST_NAME, octets) else {
         return Line::BadPoint;
     };
     Line::Point {

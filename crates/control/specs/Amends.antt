@@ -39,7 +39,7 @@ causeTaken type teid seq w node t reply = replied (w .cause) node t (causeOctets
 unfoldable pub causeOn : ℕ → ℕ → ℕ → Refusal → Session → Done
 causeOn type teid seq w s = record { number = w .cause; session = s; message = causeOctets type teid seq w }
 
--- a session that is not there: 64, to nobody
+-- a session that is not there: `notLiveCause`, to nobody
 unfoldable pub notLive : Refusal
 notLive = bare notLiveCause
 
@@ -77,7 +77,7 @@ modifyBy (N.To c u) context seq s = movedOn context (peersOf c u s) seq s
 unfoldable pub modifyOn : M.Modify → ℕ → Session → Done
 modifyOn m seq s = modifyBy (movesOf m (s .ebi)) (m .context) seq s
 
--- ---- Delete: another EBI than the session's is 64
+-- ---- Delete: another EBI than the session's is `notLiveCause`
 unfoldable pub freedOn : ℕ → Session → Done
 freedOn seq s = record { number = taken; session = freed s; message = causeReply deleteReplyType (s .control) seq acceptedCause }
 
@@ -96,7 +96,7 @@ liveOn (S.Delete d) seq s = deleteOn d seq s
 liveOn (S.Refused type w) seq s = causeOn type (s .control) seq w s
 liveOn (S.Bearer b) seq s = bearerOn b seq s
 
--- where the number is no live session's: 64, to nobody; the reply to a Delete Bearer is not awaited
+-- where the number is no live session's: `notLiveCause`, to nobody; the reply to a Delete Bearer is not awaited
 unfoldable pub noneOn : Concern → ℕ → Session → Done
 noneOn (S.Modify m) seq s = causeOn modifyReplyType 0 seq notLive s
 noneOn (S.Delete d) seq s = causeOn deleteReplyType 0 seq notLive s

@@ -40,7 +40,7 @@ pub fn heard(node: Node, recovery: Recovery) -> Node
     node.hearing(value)
 }
 
-// No such session: 64, no field named.
+// No such session: the cause is NOT_LIVE, no field named.
 pub fn not_live() -> Refusal
     ensures { λ r. ⌜ r ≡ notLive ⌝ }
 {

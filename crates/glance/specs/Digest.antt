@@ -18,26 +18,43 @@ use Rattle.session.specs.Request.{idle, lastNumber, requestOk}
 use Rattle.session.specs.Session.{freeOk, isFree, isClosing, isDue, blank, recordOk, heldOk, phaseOk, readOk, imsis, blankAt}
 use Rattle.session.specs.Keep.{live-of}
 use Rattle.session.specs.Phase.{live-phase, other-phase}
-use Rattle.session.specs.Wide.{or-none}
+use Rattle.session.specs.Wide.{or-none, words}
 use Rattle.rules.specs.Survey.{keyOf, unit, weightOf, silent}
+
+-- the bits of a digest: the key has the low ones, the access point the top two
+abbrev pub keyBit : ℕ
+keyBit = 288230376151711744
+
+abbrev pub dueBit : ℕ
+dueBit = 576460752303423488
+
+abbrev pub awaitBit : ℕ
+awaitBit = 1152921504606846976
+
+abbrev pub pointBit : ℕ
+pointBit = 4611686018427387904
+
+-- what of a request under way stands above its sends and its timer: the bits of its number past the range
+abbrev pub pastRange : ℕ
+pastRange = 36028797018963968
 
 -- what is above the key: whether its request is due, whether it awaits a number, and the access point
 unfoldable pub flagsOf : Session → ℕ
-flagsOf s = pick {A = ℕ} (isDue s) 576460752303423488 0 + pick {A = ℕ} (silent s) 0 1152921504606846976 + s .point % 4 * 4611686018427387904
+flagsOf s = pick {A = ℕ} (isDue s) dueBit 0 + pick {A = ℕ} (silent s) 0 awaitBit + s .point % 4 * pointBit
 
 -- every bit
 unfoldable pub spoilt : ℕ
 spoilt = 18446744073709551615
 
 unfoldable pub digestOf : Bounds → Session → ℕ
-digestOf b s = pick {A = ℕ} (recordOk b s) (pick {A = ℕ} (isFree s) 0 (keyOf s % 288230376151711744 + flagsOf s)) spoilt
+digestOf b s = pick {A = ℕ} (recordOk b s) (pick {A = ℕ} (isFree s) 0 (keyOf s % keyBit + flagsOf s)) spoilt
 
 -- the two ways to it, by whether the record is free
 unfoldable pub freeDigest : Bool → ℕ
 freeDigest ok = pick {A = ℕ} ok 0 spoilt
 
 unfoldable pub takenDigest : Bounds → Session → ℕ
-takenDigest b s = pick {A = ℕ} (leb (s .usage) lastUse && (heldOk b s && phaseOk b s)) (keyOf s % 288230376151711744 + flagsOf s) spoilt
+takenDigest b s = pick {A = ℕ} (leb (s .usage) lastUse && (heldOk b s && phaseOk b s)) (keyOf s % keyBit + flagsOf s) spoilt
 
 pub digest-free : (b : Bounds) (s : Session) (ok : Bool) → ok ≡ freeOk s → isFree s ≡ true → freeDigest ok ≡ digestOf b s
 unfolding digestOf freeDigest freeOk recordOk
@@ -57,14 +74,14 @@ unfoldable pub restsOk : Request → Bool
 restsOk r = leb (r .number) lastNumber && eqb (r .sends) 0 && eqb (r .timer) 0
 
 -- the same as the test of one number: the bits of the number above its range, the sends and the timer
-pub rests-bits : (r : Request) → eqb (bitOr (bitOr (r .number / 8388608 * 36028797018963968) (r .sends * 256)) (r .timer)) 0 ≡ restsOk r
+pub rests-bits : (r : Request) → eqb (bitOr (bitOr (r .number / (lastNumber + 1) * pastRange) (r .sends * 256)) (r .timer)) 0 ≡ restsOk r
 unfolding restsOk lastNumber
-rests-bits r = rw (or-none (bitOr (r .number / 8388608 * 36028797018963968) (r .sends * 256)) (r .timer), or-none (r .number / 8388608 * 36028797018963968) (r .sends * 256), range, sends)
+rests-bits r = rw (or-none (bitOr (r .number / (lastNumber + 1) * pastRange) (r .sends * 256)) (r .timer), or-none (r .number / (lastNumber + 1) * pastRange) (r .sends * 256), range, sends)
   where
-    range : eqb (r .number / 8388608 * 36028797018963968) 0 ≡ leb (r .number) 8388607
-    range = split (leb (r .number) 8388607)
-        (λ e. let h = leb-true (r .number) 8388607 e in rw e (eq-eqb (r .number / 8388608 * 36028797018963968) 0 (omega arith)))
-        (λ e. rw e (ne-eqb (r .number / 8388608 * 36028797018963968) 0 (λ z. impossible (sym e ∙ le-leb (r .number) 8388607 (omega arith)))))
+    range : eqb (r .number / (lastNumber + 1) * pastRange) 0 ≡ leb (r .number) lastNumber
+    range = split (leb (r .number) lastNumber)
+        (λ e. let h = leb-true (r .number) lastNumber e in rw e (eq-eqb (r .number / (lastNumber + 1) * pastRange) 0 (omega arith)))
+        (λ e. rw e (ne-eqb (r .number / (lastNumber + 1) * pastRange) 0 (λ z. impossible (sym e ∙ le-leb (r .number) lastNumber (omega arith)))))
 
     sends : eqb (r .sends * 256) 0 ≡ eqb (r .sends) 0
     sends = split (eqb (r .sends) 0)
@@ -73,10 +90,10 @@ rests-bits r = rw (or-none (bitOr (r .number / 8388608 * 36028797018963968) (r .
 
 -- ---- what is read off a digest
 abbrev pub keyIn : ℕ → ℕ
-keyIn d = d % 288230376151711744
+keyIn d = d % keyBit
 
 abbrev pub pointIn : ℕ → ℕ
-pointIn d = d / 4611686018427387904
+pointIn d = d / pointBit
 
 unfoldable pub weightIn : ℕ → ℕ
 weightIn d = pick {A = ℕ} (eqb (keyIn d) 0) 0 (unit (pointIn d))
@@ -90,27 +107,27 @@ unset bit d = pick (eqb (keyIn d) 0) true (clear bit d)
 
 -- no number is awaited
 abbrev pub quietIn : ℕ → Bool
-quietIn d = unset 1152921504606846976 d
+quietIn d = unset awaitBit d
 
 -- nothing is due
 abbrev pub idleIn : ℕ → Bool
-idleIn d = unset 576460752303423488 d
+idleIn d = unset dueBit d
 
-pub due-bits : (d : ℕ) → (not (eqb (keyIn d) 0) && not (clear 576460752303423488 d)) ≡ not (idleIn d)
+pub due-bits : (d : ℕ) → (not (eqb (keyIn d) 0) && not (clear dueBit d)) ≡ not (idleIn d)
 unfolding unset
 due-bits d = split (eqb (keyIn d) 0) (λ e. rw e) (λ e. rw e)
 
 abbrev pub goodIn : ℕ → Bool
-goodIn d = unset 288230376151711744 d
+goodIn d = unset keyBit d
 
 -- the place of a key's mark among 1,024
 unfoldable pub markOf : ℕ → ℕ
-markOf x = x % 4294967296 * 2654435769 % 4294967296 / 4194304
+markOf x = x % words * 2654435769 % words / 4194304
 
 -- it is in the low 32 bits of the digest
 pub mark-key : (d : ℕ) → markOf (keyIn d) ≡ markOf d
 unfolding markOf
-mark-key d = let e : keyIn d % 4294967296 ≡ d % 4294967296 = omega arith in rw e
+mark-key d = let e : keyIn d % words ≡ d % words = omega arith in rw e
 
 pub mark-small : (x : ℕ) → markOf x < 1024
 unfolding markOf
@@ -118,7 +135,7 @@ mark-small x = omega arith
 
 -- ---- of a good record
 -- a session's key has 58 bits, and is not 0
-pub key-range : (b : Bounds) (s : Session) → recordOk b s ≡ true → isFree s ≡ false → (keyOf s < 288230376151711744) × (1 ≤ keyOf s)
+pub key-range : (b : Bounds) (s : Session) → recordOk b s ≡ true → isFree s ≡ false → (keyOf s < keyBit) × (1 ≤ keyOf s)
 unfolding keyOf heldOk readOk imsis
 key-range b s e n =
     let h = live-of b s e n .held in
@@ -135,8 +152,8 @@ point-range b s f e n =
     omega (arith, tests)
 
 -- each flag is a bit of its own
-flags-parts : (s : Session) → (flagsOf s / 288230376151711744 % 2 ≡ 0) × ((flagsOf s / 576460752303423488 % 2 ≡ pick {A = ℕ} (isDue s) 1 0)
-    × ((flagsOf s / 1152921504606846976 % 2 ≡ pick {A = ℕ} (silent s) 0 1) × ((flagsOf s / 4611686018427387904 ≡ s .point % 4) × (flagsOf s % 288230376151711744 ≡ 0))))
+flags-parts : (s : Session) → (flagsOf s / keyBit % 2 ≡ 0) × ((flagsOf s / dueBit % 2 ≡ pick {A = ℕ} (isDue s) 1 0)
+    × ((flagsOf s / awaitBit % 2 ≡ pick {A = ℕ} (silent s) 0 1) × ((flagsOf s / pointBit ≡ s .point % 4) × (flagsOf s % keyBit ≡ 0))))
 unfolding flagsOf
 flags-parts s =
     split (isDue s)
@@ -158,7 +175,7 @@ free-idle s n = let z = eqb-true (s .state) 0 n in rw z
 module _ (b : Bounds) (s : Session) (ok : recordOk b s ≡ true) (taken : isFree s ≡ false) where
   pub digest-is : digestOf b s ≡ keyOf s + flagsOf s
   unfolding digestOf
-  digest-is = let k = key-range b s ok taken .0 in let m : keyOf s % 288230376151711744 ≡ keyOf s = omega arith in rw (ok, taken, m)
+  digest-is = let k = key-range b s ok taken .0 in let m : keyOf s % keyBit ≡ keyOf s = omega arith in rw (ok, taken, m)
 
   key-part : keyIn (digestOf b s) ≡ keyOf s
   key-part = let d = digest-is in let k = key-range b s ok taken .0 in let f = flags-parts s .1 .1 .1 .1 in omega arith
@@ -166,13 +183,13 @@ module _ (b : Bounds) (s : Session) (ok : recordOk b s ≡ true) (taken : isFree
   point-part : b .parties ≤ 4 → pointIn (digestOf b s) ≡ s .point
   point-part four = let d = digest-is in let k = key-range b s ok taken .0 in let f = flags-parts s .1 .1 .1 .0 in let z = flags-parts s .1 .1 .1 .1 in let p = point-range b s four ok taken in omega arith
 
-  silent-part : digestOf b s / 1152921504606846976 % 2 ≡ pick {A = ℕ} (silent s) 0 1
+  silent-part : digestOf b s / awaitBit % 2 ≡ pick {A = ℕ} (silent s) 0 1
   silent-part = let d = digest-is in let k = key-range b s ok taken .0 in let f = flags-parts s .1 .1 .0 in let z = flags-parts s .1 .1 .1 .1 in omega arith
 
-  due-part : digestOf b s / 576460752303423488 % 2 ≡ pick {A = ℕ} (isDue s) 1 0
+  due-part : digestOf b s / dueBit % 2 ≡ pick {A = ℕ} (isDue s) 1 0
   due-part = let d = digest-is in let k = key-range b s ok taken .0 in let f = flags-parts s .1 .0 in let z = flags-parts s .1 .1 .1 .1 in omega arith
 
-  good-part : digestOf b s / 288230376151711744 % 2 ≡ 0
+  good-part : digestOf b s / keyBit % 2 ≡ 0
   good-part = let d = digest-is in let k = key-range b s ok taken .0 in let f = flags-parts s .0 in let z = flags-parts s .1 .1 .1 .1 in omega arith
 
 free-none : (b : Bounds) (s : Session) → recordOk b s ≡ true → isFree s ≡ true → digestOf b s ≡ 0
@@ -202,12 +219,12 @@ module _ (b : Bounds) (s : Session) (ok : recordOk b s ≡ true) where
   none-in bit n = rw (free-none b s ok n)
 
   pub quiet-in : quietIn (digestOf b s) ≡ silent s
-  quiet-in = split (isFree s) (λ n. none-in 1152921504606846976 n ∙ sym (free-silent b s ok n))
-      (λ n. bit-in 1152921504606846976 n ∙ rw (silent-part b s ok n) (split (silent s) (λ e. rw e) (λ e. rw e)))
+  quiet-in = split (isFree s) (λ n. none-in awaitBit n ∙ sym (free-silent b s ok n))
+      (λ n. bit-in awaitBit n ∙ rw (silent-part b s ok n) (split (silent s) (λ e. rw e) (λ e. rw e)))
 
   pub idle-in : idleIn (digestOf b s) ≡ not (isDue s)
-  idle-in = split (isFree s) (λ n. rw (none-in 576460752303423488 n, free-idle s n))
-      (λ n. bit-in 576460752303423488 n ∙ rw (due-part b s ok n) (split (isDue s) (λ e. rw e) (λ e. rw e)))
+  idle-in = split (isFree s) (λ n. rw (none-in dueBit n, free-idle s n))
+      (λ n. bit-in dueBit n ∙ rw (due-part b s ok n) (split (isDue s) (λ e. rw e) (λ e. rw e)))
 
   pub weight-in : b .parties ≤ 4 → weightIn (digestOf b s) ≡ weightOf s
   unfolding weightIn weightOf
@@ -226,6 +243,6 @@ spoilt-bad = refl
 
 pub good-in : (b : Bounds) (s : Session) → goodIn (digestOf b s) ≡ recordOk b s
 good-in b s = split (recordOk b s)
-    (λ e. rw e (split (isFree s) (λ n. none-in b s e 288230376151711744 n)
-    (λ n. bit-in b s e 288230376151711744 n ∙ eq-eqb (digestOf b s / 288230376151711744 % 2) 0 (good-part b s e n))))
+    (λ e. rw e (split (isFree s) (λ n. none-in b s e keyBit n)
+    (λ n. bit-in b s e keyBit n ∙ eq-eqb (digestOf b s / keyBit % 2) 0 (good-part b s e n))))
     (λ e. rw (bad-spoilt b s e, e) spoilt-bad)

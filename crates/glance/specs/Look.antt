@@ -100,7 +100,7 @@ module _ (ds : List ℕ) (n : ℕ) (some : 8 ≤ n) (inside : n ≤ length ds) w
 key-none : keyIn 0 ≡ 0
 key-none = refl
 
-pub over-free : (es marks : List ℕ) → length marks ≡ 1024 → length es ≤ 64 → every (λ d. eqb d 0) es ≡ true → Over es marks 0 (0 ∷ 0 ∷ 0 ∷ 0 ∷ [])
+pub over-free : (es marks : List ℕ) → length marks ≡ 1024 → length es ≤ places → every (λ d. eqb d 0) es ≡ true → Over es marks 0 (0 ∷ 0 ∷ 0 ∷ 0 ∷ [])
 unfolding every
 over-free [] marks n few e = over-none marks
 over-free (d ∷ es) marks n few e =
@@ -109,6 +109,6 @@ over-free (d ∷ es) marks n few e =
     let v = over-free es marks n (omega arith) (and-right (eqb d 0) (every (λ x. eqb x 0) es) e) in
     rw (marks-none d k marks, flags-none d k 0, tallied-none d k (0 ∷ 0 ∷ 0 ∷ 0 ∷ [])) at (over-more d es marks 0 (0 ∷ 0 ∷ 0 ∷ 0 ∷ []) v (omega arith) n (enters-none d k _ marks))
 
-pub glance-free : (ds : List ℕ) → length ds ≤ 64 → freeFrom ds 0 ≡ true → glanceOf ds ≡ record { good = true; quiet = true; idle = true; counts = 0 }
+pub glance-free : (ds : List ℕ) → length ds ≤ places → freeFrom ds 0 ≡ true → glanceOf ds ≡ record { good = true; quiet = true; idle = true; counts = 0 }
 unfolding freeFrom packedIn
 glance-free ds few e = over-all ds (replicate 1024 0) 0 (0 ∷ 0 ∷ 0 ∷ 0 ∷ []) few (over-free ds (replicate 1024 0) (length-replicate {A = ℕ} 1024 0) few e)

@@ -18,11 +18,12 @@ use Rattle.octets.specs.Places.{next-of, map-at}
 use Rattle.octets.specs.Sums.{sumOf, countOf, count-most}
 use Rattle.distinct.specs.Apart.{noneClash, pairwise, sameKey}
 use Rattle.distinct.specs.Lacks.{lacks, lacks-hit, lacks-on, lacks-end, none-same, none-zero}
-use Rattle.session.specs.Wide.{or-none}
-use Rattle.rules.specs.Survey.{unit}
+use Rattle.session.specs.Wide.{or-none, longWords}
+use Rattle.rules.specs.Survey.{unit, secondUnit, thirdUnit, fourthUnit}
 use Rattle.glance.specs.declared.Glance.{Glance}
-use Rattle.glance.specs.Digest.{keyIn, pointIn, weightIn, clear, unset, quietIn, idleIn, goodIn, markOf, mark-small}
+use Rattle.glance.specs.Digest.{keyIn, pointIn, weightIn, clear, unset, quietIn, idleIn, goodIn, markOf, mark-small, keyBit, dueBit, awaitBit}
 use Rattle.glance.specs.Glance.{noGlance, glanceOf}
+use Rattle.tunnel.specs.Numbering.{places}
 
 pub record Marked (marks l : List ℕ) : Type 0 where
   pub new : (x : ℕ) → (x ≡ 0 → ⊥) → getD marks (markOf x) 0 ≡ 0 → lacks x l ≡ true
@@ -64,14 +65,14 @@ length-marks x marks = split (eqb x 0) (λ e. rw e) (λ e. split (eqb (getD mark
 unfoldable pub flagsIn : ℕ → ℕ → ℕ
 flagsIn d flags = pick {A = ℕ} (eqb (keyIn d) 0) flags (bitOr d flags)
 
-clear-both : (d f : ℕ) → (clear 1152921504606846976 (bitOr d f) ≡ (clear 1152921504606846976 d && clear 1152921504606846976 f))
-    × ((clear 576460752303423488 (bitOr d f) ≡ (clear 576460752303423488 d && clear 576460752303423488 f))
-    × (clear 288230376151711744 (bitOr d f) ≡ (clear 288230376151711744 d && clear 288230376151711744 f)))
+clear-both : (d f : ℕ) → (clear awaitBit (bitOr d f) ≡ (clear awaitBit d && clear awaitBit f))
+    × ((clear dueBit (bitOr d f) ≡ (clear dueBit d && clear dueBit f))
+    × (clear keyBit (bitOr d f) ≡ (clear keyBit d && clear keyBit f)))
 clear-both d f = (
-  rw (or-shr d f 60, or-mod (d / 1152921504606846976) (f / 1152921504606846976) 1) (or-none (d / 1152921504606846976 % 2) (f / 1152921504606846976 % 2)),
+  rw (or-shr d f 60, or-mod (d / awaitBit) (f / awaitBit) 1) (or-none (d / awaitBit % 2) (f / awaitBit % 2)),
   (
-    rw (or-shr d f 59, or-mod (d / 576460752303423488) (f / 576460752303423488) 1) (or-none (d / 576460752303423488 % 2) (f / 576460752303423488 % 2)),
-    rw (or-shr d f 58, or-mod (d / 288230376151711744) (f / 288230376151711744) 1) (or-none (d / 288230376151711744 % 2) (f / 288230376151711744 % 2)),
+    rw (or-shr d f 59, or-mod (d / dueBit) (f / dueBit) 1) (or-none (d / dueBit % 2) (f / dueBit % 2)),
+    rw (or-shr d f 58, or-mod (d / keyBit) (f / keyBit) 1) (or-none (d / keyBit % 2) (f / keyBit % 2)),
   ),
 )
 
@@ -89,34 +90,35 @@ unfoldable pub talliesOf : List ℕ → List ℕ
 talliesOf es = countOf (onIn 0) es ∷ countOf (onIn 1) es ∷ countOf (onIn 2) es ∷ countOf (onIn 3) es ∷ []
 
 unfoldable pub talliedIn : ℕ → List ℕ → List ℕ
-talliedIn d us = pick (eqb (keyIn d) 0) us (set us (pointIn d) ((getD us (pointIn d) 0 + 1) % 18446744073709551616))
+talliedIn d us = pick (eqb (keyIn d) 0) us (set us (pointIn d) ((getD us (pointIn d) 0 + 1) % longWords))
 
 unfoldable pub packedIn : List ℕ → ℕ
-packedIn us = getD us 0 0 % 65536 + getD us 1 0 % 65536 * 65536 + getD us 2 0 % 65536 * 4294967296 + getD us 3 0 % 65536 * 281474976710656
+packedIn us = getD us 0 0 % 65536 + getD us 1 0 % 65536 * secondUnit + getD us 2 0 % 65536 * thirdUnit + getD us 3 0 % 65536 * fourthUnit
 
 pub length-tallied : (d : ℕ) (us : List ℕ) → length (talliedIn d us) ≡ length us
 unfolding talliedIn
-length-tallied d us = split (eqb (keyIn d) 0) (λ e. rw e) (λ e. rw e (length-set us (pointIn d) ((getD us (pointIn d) 0 + 1) % 18446744073709551616)))
+length-tallied d us = split (eqb (keyIn d) 0) (λ e. rw e) (λ e. rw e (length-set us (pointIn d) ((getD us (pointIn d) 0 + 1) % longWords)))
 
 more-none : (n : ℕ) → 0 + n ≡ n
 more-none n = omega arith
 
-more-one : (n : ℕ) → n ≤ 64 → (n + 1) % 18446744073709551616 ≡ 1 + n
+more-one : (n : ℕ) → n ≤ places → (n + 1) % longWords ≡ 1 + n
+unfolding places
 more-one n h = omega arith
 
-tallied-more : (d : ℕ) (es : List ℕ) → length es ≤ 64 → talliedIn d (talliesOf es) ≡ talliesOf (d ∷ es)
+tallied-more : (d : ℕ) (es : List ℕ) → length es ≤ places → talliedIn d (talliesOf es) ≡ talliesOf (d ∷ es)
 unfolding talliedIn talliesOf onIn sumOf
 tallied-more d es n = split (eqb (keyIn d) 0)
     (λ k. rw (k, more-none (countOf (onIn 0) es), more-none (countOf (onIn 1) es), more-none (countOf (onIn 2) es), more-none (countOf (onIn 3) es)))
     (λ k. first k ∙ one k (pointIn d) refl)
   where
-    first : eqb (keyIn d) 0 ≡ false → talliedIn d (talliesOf es) ≡ set (talliesOf es) (pointIn d) ((getD (talliesOf es) (pointIn d) 0 + 1) % 18446744073709551616)
+    first : eqb (keyIn d) 0 ≡ false → talliedIn d (talliesOf es) ≡ set (talliesOf es) (pointIn d) ((getD (talliesOf es) (pointIn d) 0 + 1) % longWords)
     first k = rw k
 
-    most : (a : ℕ) → countOf (onIn a) es ≤ 64
+    most : (a : ℕ) → countOf (onIn a) es ≤ places
     most a = let m = count-most (onIn a) es in omega arith
 
-    one : eqb (keyIn d) 0 ≡ false → (p : ℕ) → pointIn d ≡ p → set (talliesOf es) p ((getD (talliesOf es) p 0 + 1) % 18446744073709551616) ≡ talliesOf (d ∷ es)
+    one : eqb (keyIn d) 0 ≡ false → (p : ℕ) → pointIn d ≡ p → set (talliesOf es) p ((getD (talliesOf es) p 0 + 1) % longWords) ≡ talliesOf (d ∷ es)
     one k zero e =
         rw (k, e, more-one (countOf (onIn 0) es) (most 0), more-none (countOf (onIn 1) es), more-none (countOf (onIn 2) es), more-none (countOf (onIn 3) es))
     one k (suc zero) e =
@@ -138,7 +140,7 @@ tallied-more d es n = split (eqb (keyIn d) 0)
           more-none (countOf (onIn 3) es),
         )
 
-weight-tally : (d : ℕ) → weightIn d ≡ boolByte (onIn 0 d) + 65536 * boolByte (onIn 1 d) + 4294967296 * boolByte (onIn 2 d) + 281474976710656 * boolByte (onIn 3 d)
+weight-tally : (d : ℕ) → weightIn d ≡ boolByte (onIn 0 d) + secondUnit * boolByte (onIn 1 d) + thirdUnit * boolByte (onIn 2 d) + fourthUnit * boolByte (onIn 3 d)
 unfolding weightIn unit onIn
 weight-tally d =
     split (eqb (keyIn d) 0) (λ n. rw n (omega arith))
@@ -147,13 +149,13 @@ weight-tally d =
     (λ f. split (eqb (pointIn d) 2) (λ g. rw (n, eqb-true (pointIn d) 2 g) (omega arith))
     (λ g. split (eqb (pointIn d) 3) (λ h. rw (n, eqb-true (pointIn d) 3 h) (omega arith)) (λ h. rw (n, e, f, g, h) (omega arith))))))
 
-weights-tally : (es : List ℕ) → sumOf weightIn es ≡ countOf (onIn 0) es + 65536 * countOf (onIn 1) es + 4294967296 * countOf (onIn 2) es + 281474976710656 * countOf (onIn 3) es
+weights-tally : (es : List ℕ) → sumOf weightIn es ≡ countOf (onIn 0) es + secondUnit * countOf (onIn 1) es + thirdUnit * countOf (onIn 2) es + fourthUnit * countOf (onIn 3) es
 unfolding sumOf
 weights-tally [] = omega arith
 weights-tally (d ∷ es) = let w = weight-tally d in let r = weights-tally es in omega arith
 
-packed-tallies : (es : List ℕ) → length es ≤ 64 → packedIn (talliesOf es) ≡ sumOf weightIn es
-unfolding packedIn talliesOf
+packed-tallies : (es : List ℕ) → length es ≤ places → packedIn (talliesOf es) ≡ sumOf weightIn es
+unfolding packedIn talliesOf places
 packed-tallies es n =
     let w = weights-tally es in
     let a = count-most (onIn 0) es in
@@ -165,24 +167,24 @@ packed-tallies es n =
 pub record Over (es marks : List ℕ) (flags : ℕ) (tallies : List ℕ) : Type 0 where
   pub apart : pairwise sameKey (map keyIn es) ≡ true
   pub marked : Marked marks (map keyIn es)
-  pub quiet : clear 1152921504606846976 flags ≡ every quietIn es
-  pub idle : clear 576460752303423488 flags ≡ every idleIn es
-  pub good : clear 288230376151711744 flags ≡ every goodIn es
+  pub quiet : clear awaitBit flags ≡ every quietIn es
+  pub idle : clear dueBit flags ≡ every idleIn es
+  pub good : clear keyBit flags ≡ every goodIn es
   pub tallied : tallies ≡ talliesOf es
 
 pub over-none : (marks : List ℕ) → Over [] marks 0 (0 ∷ 0 ∷ 0 ∷ 0 ∷ [])
 unfolding pairwise everyRest lacks every sumOf talliesOf
 over-none marks = record { apart = refl; marked = record { new = λ x h e. refl }; quiet = refl; idle = refl; good = refl; tallied = refl }
 
-module _ (d : ℕ) (es marks : List ℕ) (flags : ℕ) (tallies : List ℕ) (v : Over es marks flags tallies) (few : length es ≤ 64) where
+module _ (d : ℕ) (es marks : List ℕ) (flags : ℕ) (tallies : List ℕ) (v : Over es marks flags tallies) (few : length es ≤ places) where
   more : (marks′ : List ℕ) → noneClash sameKey (keyIn d) (map keyIn es) ≡ true → Marked marks′ (map keyIn (d ∷ es)) → Over (d ∷ es) marks′ (flagsIn d flags) (talliedIn d tallies)
   unfolding pairwise everyRest every
   more marks′ n m = record {
     apart = rw n (v .apart);
     marked = m;
-    quiet = gathered 1152921504606846976 (λ x y. clear-both x y .0) d flags (every quietIn es) (v .quiet);
-    idle = gathered 576460752303423488 (λ x y. clear-both x y .1 .0) d flags (every idleIn es) (v .idle);
-    good = gathered 288230376151711744 (λ x y. clear-both x y .1 .1) d flags (every goodIn es) (v .good);
+    quiet = gathered awaitBit (λ x y. clear-both x y .0) d flags (every quietIn es) (v .quiet);
+    idle = gathered dueBit (λ x y. clear-both x y .1 .0) d flags (every idleIn es) (v .idle);
+    good = gathered keyBit (λ x y. clear-both x y .1 .1) d flags (every goodIn es) (v .good);
     tallied = rw (v .tallied) (tallied-more d es few);
   }
 
@@ -221,8 +223,8 @@ module _ (ds : List ℕ) (i : ℕ) (some : 0 < i) (inside : i ≤ length ds) whe
   unfolding glanceOf pairwise everyRest
   over-twice e = rw (rest-fails (noneClash sameKey) (i - 1) (map keyIn ds) (rw (drop-map (i - 1) ds, back, e)))
 
-pub over-all : (ds marks : List ℕ) (flags : ℕ) (tallies : List ℕ) → length ds ≤ 64 → Over ds marks flags tallies
-    → glanceOf ds ≡ record { good = clear 288230376151711744 flags; quiet = clear 1152921504606846976 flags; idle = clear 576460752303423488 flags; counts = packedIn tallies }
+pub over-all : (ds marks : List ℕ) (flags : ℕ) (tallies : List ℕ) → length ds ≤ places → Over ds marks flags tallies
+    → glanceOf ds ≡ record { good = clear keyBit flags; quiet = clear awaitBit flags; idle = clear dueBit flags; counts = packedIn tallies }
 unfolding glanceOf
 over-all ds marks flags tallies n v = rw (v .apart, v .quiet, v .good, v .idle, v .tallied, packed-tallies ds n)
 

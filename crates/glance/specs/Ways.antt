@@ -15,13 +15,13 @@ use Rattle.session.specs.declared.Bounds.{Bounds}
 use Rattle.session.specs.Request.{lastNumber, requestOk}
 use Rattle.session.specs.Session.{isFree, isClosing, isDue, blank, heldOk, phaseOk, readOk, imsis}
 use Rattle.session.specs.Phase.{live-phase, other-phase}
-use Rattle.session.specs.Wide.{or-none, both-ways, blank-bits}
+use Rattle.session.specs.Wide.{or-none, both-ways, blank-bits, longWords}
 use Rattle.rules.specs.Survey.{keyOf, silent}
-use Rattle.glance.specs.Digest.{flagsOf, spoilt, takenDigest, restsOk, rests-bits}
+use Rattle.glance.specs.Digest.{flagsOf, spoilt, takenDigest, restsOk, rests-bits, keyBit, dueBit, awaitBit, pointBit, pastRange}
 
 -- ---- a record that is taken
 -- what a session holds has a key of 58 bits
-held-key : (b : Bounds) (s : Session) → heldOk b s ≡ true → keyOf s < 288230376151711744
+held-key : (b : Bounds) (s : Session) → heldOk b s ≡ true → keyOf s < keyBit
 unfolding keyOf heldOk readOk imsis
 held-key b s h =
     let i : ltb (s .imsi) 1000000000000000 ≡ true = search (and-left, and-right) depth 9 in
@@ -74,27 +74,27 @@ module _ (b : Bounds) (s : Session) (held : Bool) (is : held ≡ heldOk b s) whe
   unfolding takenDigest
   taken-unheld e = rw (← is) (first (leb (s .usage) lastUse) held (not-true (leb (s .usage) lastUse && held) e))
     where
-      first : (a h : Bool) → (a && h) ≡ false → spoilt ≡ pick {A = ℕ} (a && (h && phaseOk b s)) (keyOf s % 288230376151711744 + flagsOf s) spoilt
+      first : (a h : Bool) → (a && h) ≡ false → spoilt ≡ pick {A = ℕ} (a && (h && phaseOk b s)) (keyOf s % keyBit + flagsOf s) spoilt
       first true h f = rw f
       first false h f = refl
 
   module _ (on : not (leb (s .usage) lastUse && held) ≡ false) where
-    phased : takenDigest b s ≡ pick {A = ℕ} (phaseOk b s) (keyOf s % 288230376151711744 + flagsOf s) spoilt
+    phased : takenDigest b s ≡ pick {A = ℕ} (phaseOk b s) (keyOf s % keyBit + flagsOf s) spoilt
     unfolding takenDigest
     phased = rw (← is) (first (leb (s .usage) lastUse) held (not-false (leb (s .usage) lastUse && held) on))
       where
         first : (a h : Bool) → (a && h) ≡ true
-            → pick {A = ℕ} (a && (h && phaseOk b s)) (keyOf s % 288230376151711744 + flagsOf s) spoilt ≡ pick {A = ℕ} (phaseOk b s) (keyOf s % 288230376151711744 + flagsOf s) spoilt
+            → pick {A = ℕ} (a && (h && phaseOk b s)) (keyOf s % keyBit + flagsOf s) spoilt ≡ pick {A = ℕ} (phaseOk b s) (keyOf s % keyBit + flagsOf s) spoilt
         first true true f = refl
         first true false f = impossible f
         first false h f = impossible f
 
-    small : keyOf s < 288230376151711744
+    small : keyOf s < keyBit
     small = held-key b s (sym is ∙ and-right (leb (s .usage) lastUse) held (not-false (leb (s .usage) lastUse && held) on))
 
     -- key and access point
     abbrev quiet : ℕ
-    quiet = (keyOf s + s .point % 4 * 4611686018427387904) % 18446744073709551616
+    quiet = (keyOf s + s .point % 4 * pointBit) % longWords
 
     -- nothing is under way
     module _ (rests : restsOk (s .own) ≡ true) where
@@ -109,7 +109,7 @@ module _ (b : Bounds) (s : Session) (held : Bool) (is : held ≡ heldOk b s) whe
           let p : phaseOk b s ≡ true = live-phase b s h ∙ rests in
           rw (phased, p, still, due-live s h) (omega arith)
 
-      pub taken-due : (s .state ≡ 1 → ⊥) → s .state ≡ 2 → (quiet + 576460752303423488) % 18446744073709551616 ≡ takenDigest b s
+      pub taken-due : (s .state ≡ 1 → ⊥) → s .state ≡ 2 → (quiet + dueBit) % longWords ≡ takenDigest b s
       unfolding flagsOf isClosing
       taken-due n h =
           let k = small in
@@ -152,17 +152,17 @@ module _ (b : Bounds) (s : Session) (held : Bool) (is : held ≡ heldOk b s) whe
         unfolding silent
         loud = rests-on (s .own) (b .resend) (b .sends) busy (and-left (requestOk 0 (b .resend) (b .sends) (s .own)) (eqb (s .state) 2) (not-false fit fits))
 
-        pub taken-again : s .own .timer ≡ 0 → (quiet + 1729382256910270464) % 18446744073709551616 ≡ takenDigest b s
+        pub taken-again : s .own .timer ≡ 0 → (quiet + (dueBit + awaitBit)) % longWords ≡ takenDigest b s
         unfolding flagsOf
         taken-again h = let k = small in rw (phased, phase-fit, not-false fit fits, loud, due-yes s closing (eq-eqb (s .own .timer) 0 h)) (omega arith)
 
-        pub taken-waits : (s .own .timer ≡ 0 → ⊥) → (quiet + 1152921504606846976) % 18446744073709551616 ≡ takenDigest b s
+        pub taken-waits : (s .own .timer ≡ 0 → ⊥) → (quiet + awaitBit) % longWords ≡ takenDigest b s
         unfolding flagsOf
         taken-waits h = let k = small in rw (phased, phase-fit, not-false fit fits, loud, due-later s closing h) (omega arith)
 
 -- what is under way, as one number
-pub rests-yes : (r : Request) → bitOr (bitOr (r .number / 8388608 * 36028797018963968) (r .sends * 256)) (r .timer) ≡ 0 → restsOk r ≡ true
-rests-yes r e = sym (rests-bits r) ∙ eq-eqb (bitOr (bitOr (r .number / 8388608 * 36028797018963968) (r .sends * 256)) (r .timer)) 0 e
+pub rests-yes : (r : Request) → bitOr (bitOr (r .number / (lastNumber + 1) * pastRange) (r .sends * 256)) (r .timer) ≡ 0 → restsOk r ≡ true
+rests-yes r e = sym (rests-bits r) ∙ eq-eqb (bitOr (bitOr (r .number / (lastNumber + 1) * pastRange) (r .sends * 256)) (r .timer)) 0 e
 
-pub rests-no : (r : Request) → (bitOr (bitOr (r .number / 8388608 * 36028797018963968) (r .sends * 256)) (r .timer) ≡ 0 → ⊥) → restsOk r ≡ false
-rests-no r e = sym (rests-bits r) ∙ ne-eqb (bitOr (bitOr (r .number / 8388608 * 36028797018963968) (r .sends * 256)) (r .timer)) 0 e
+pub rests-no : (r : Request) → (bitOr (bitOr (r .number / (lastNumber + 1) * pastRange) (r .sends * 256)) (r .timer) ≡ 0 → ⊥) → restsOk r ≡ false
+rests-no r e = sym (rests-bits r) ∙ ne-eqb (bitOr (bitOr (r .number / (lastNumber + 1) * pastRange) (r .sends * 256)) (r .timer)) 0 e

@@ -1,11 +1,12 @@
 // Whether a table keeps its rules, from one number for each record: a record's digest has its key, its access point, and whether its
 // request is due and it awaits a number. Whoever lends records reads them once, where they lie; the rest of the check is done on the
 // digests, and so are searches for a place.
+use rules::Parts;
 use session::Bounds;
 use session::Request;
 use session::Session;
 use table::Node;
-use table::Table;
+use tunnel::Unit;
 ghost use Prim.Native.Nat.{ℕ, _<_, _≤_, _-_};
 ghost use mathlib.Core.Bool.{true, false, not, _&&_};
 ghost use mathlib.Core.List.{map};
@@ -32,7 +33,7 @@ pub struct Glance {
 }
 
 // With it the places that are looked for: that of a key and the first free one, where a key is asked for, and the first whose request is
-// due; 64 where there is none.
+// due; past the last where there is none.
 pub struct Look {
     pub glance: Glance,
     pub old: usize,
@@ -49,6 +50,12 @@ impl Glance {
     pub const AWAITS: u64 = 1152921504606846976;
 
     pub const POINT: u64 = 4611686018427387904;
+
+    // a mark goes by the low 32 bits
+    const WORDS: u64 = 4294967296;
+
+    // what of a request under way stands above its sends and its timer: the bits of its number past the range
+    pub const PAST_RANGE: u64 = 36028797018963968;
 
     // the digest of a record that is not as the rules want it
     pub const SPOILT: u64 = 18446744073709551615;
@@ -85,7 +92,7 @@ pub fn taken_digest(b: Bounds, s: Session) -> u64
     let own = s.own;
     let key = rules::key(s);
     let quiet = std::num::wrapping_add_u64(key, (s.point % 4) as u64 * Glance::POINT);
-    let under_way = (own.number / 8388608) as u64 * 36028797018963968
+    let under_way = (own.number / Request::NUMBERS) as u64 * Glance::PAST_RANGE
         | own.sends as u64 * 256
         | own.timer as u64;
     if under_way == 0 {
@@ -149,7 +156,7 @@ fn lacks(ds: &[u64], x: u64, from: usize) -> bool
 fn mark(x: u64) -> usize
     ensures { λ r. ⌜ r ≡ markOf x ⌝ }
 {
-    (x % 4294967296 * 2654435769 % 4294967296 / 4194304) as usize
+    (x % Glance::WORDS * 2654435769 % Glance::WORDS / 4194304) as usize
 }
 
 // Whether a digest's key is none of those from a place on; it is marked. It is looked for only where its mark was met before.
@@ -197,9 +204,9 @@ fn packed(tallies: [u64; 4]) -> u64
     ensures { λ r. ⌜ r ≡ packedIn tallies ⌝ }
 {
     tallies[0] % 65536
-        + tallies[1] % 65536 * 65536
-        + tallies[2] % 65536 * 4294967296
-        + tallies[3] % 65536 * 281474976710656
+        + tallies[1] % 65536 * Parts::SECOND_UNIT
+        + tallies[2] % 65536 * Parts::THIRD_UNIT
+        + tallies[3] % 65536 * Parts::FOURTH_UNIT
 }
 
 fn none() -> Glance
@@ -215,7 +222,7 @@ fn none() -> Glance
 
 // How many of the digests below n are passed over at once: eight or one, where they are those of free places.
 fn passed(ds: &[u64], n: usize) -> usize
-    requires { ⌜ (length (now ds) ≡ 64) × ((0 < n) × (n ≤ 64)) ⌝ }
+    requires { ⌜ (length (now ds) ≡ places) × ((0 < n) × (n ≤ places)) ⌝ }
     ensures { λ r. ⌜ (r ≤ n) × (freeFrom (now (ds .entry)) n ≡ true → freeFrom (now (ds .entry)) (n - r) ≡ true) ⌝ }
 {
     if 8 <= n {
@@ -233,10 +240,10 @@ fn passed(ds: &[u64], n: usize) -> usize
 
 // A place from which on all are free. The steps are uneven, so that the loop stays a loop in the machine's code.
 fn used(ds: &[u64]) -> usize
-    requires { ⌜ length (now ds) ≡ 64 ⌝ }
-    ensures { λ r. ⌜ (r ≤ 64) × (freeFrom (now (ds .entry)) r ≡ true) ⌝ }
+    requires { ⌜ length (now ds) ≡ places ⌝ }
+    ensures { λ r. ⌜ (r ≤ places) × (freeFrom (now (ds .entry)) r ≡ true) ⌝ }
 {
-    let mut n: usize = 64;
+    let mut n: usize = Unit::PLACES;
     while 0 < n {
         let k = passed(ds, n);
         if k == 0 {
@@ -249,7 +256,7 @@ fn used(ds: &[u64]) -> usize
 
 // One pass over the digests below n, from the last to the first; those from there on are of free places.
 fn glance_below(ds: &[u64], n: usize) -> Glance
-    requires { ⌜ (length (now ds) ≡ 64) × ((n ≤ 64) × (freeFrom (now ds) n ≡ true)) ⌝ }
+    requires { ⌜ (length (now ds) ≡ places) × ((n ≤ places) × (freeFrom (now ds) n ≡ true)) ⌝ }
     ensures { λ r. ⌜ r ≡ glanceOf (now (ds .entry)) ⌝ }
 {
     let mut marks = [0u8; 1024];
@@ -275,7 +282,7 @@ fn glance_below(ds: &[u64], n: usize) -> Glance
 
 // The glance over all digests; where there is no session, nothing is left to be found.
 fn glance_of(ds: &[u64]) -> Glance
-    requires { ⌜ length (now ds) ≡ 64 ⌝ }
+    requires { ⌜ length (now ds) ≡ places ⌝ }
     ensures { λ r. ⌜ r ≡ glanceOf (now (ds .entry)) ⌝ }
 {
     let n = used(ds);
@@ -324,7 +331,7 @@ fn due_place(ds: &[u64], idle: bool) -> usize
     ensures { λ r. ⌜ r ≡ pick {A = ℕ} idle places (firstOf dueIn (now (ds .entry))) ⌝ }
 {
     if idle {
-        return Table::PLACES;
+        return Unit::PLACES;
     }
     let mut i: usize = 0;
     while i < ds.len() {
@@ -338,7 +345,7 @@ fn due_place(ds: &[u64], idle: bool) -> usize
 }
 
 // What the digests say, with the place of a key and the first free one where the key is not 0.
-pub fn look_of(ds: [u64; 64], key: u64) -> Look
+pub fn look_of(ds: [u64; Unit::PLACES], key: u64) -> Look
     ensures { λ r. ⌜ r ≡ lookOf key ds ⌝ }
 {
     let glance = glance_of(&ds);
@@ -346,8 +353,8 @@ pub fn look_of(ds: [u64; 64], key: u64) -> Look
     if key == 0 {
         return Look {
             glance,
-            old: Table::PLACES,
-            free: Table::PLACES,
+            old: Unit::PLACES,
+            free: Unit::PLACES,
             due,
         };
     }
@@ -376,7 +383,7 @@ pub fn kept_but(count: usize, node: Node, v: Look) -> bool
     let g = v.glance;
     let plan = node.plan;
     let planned = plan.accepted();
-    if !(planned & (count == Table::PLACES) & g.good) {
+    if !(planned & (count == Unit::PLACES) & g.good) {
         return false;
     }
     let live = rules::unpacked(g.counts);
@@ -402,7 +409,7 @@ pub fn seen_quiet(kept: bool, look: Look) -> Seen
 }
 
 // The table where one is awaited: no number twice, the echo's neither.
-pub fn seen_loud(kept: bool, node: Node, look: Look, waits: [u64; 64]) -> Seen
+pub fn seen_loud(kept: bool, node: Node, look: Look, waits: [u64; Unit::PLACES]) -> Seen
     ensures { λ r. ⌜ r ≡ sight (pick {A = ℕ} (kept && waitsApart node waits) 2 0) look ⌝ }
 {
     let w = rules::wait(node.echo);

@@ -109,13 +109,9 @@ module _ (node : Node) (l : List Session) (k : keepsRules node l ≡ true) (c : 
   inside : g .old ≤ length l
   inside = rw old (first-most (hasId (c .imsi) (c .ebi)) l)
 
-  sixty-four : length l ≡ 64
-  unfolding places
-  sixty-four = rules .size
-
   room : roomFor (node .plan) (g .counts) s (c .point) ≡ admits (node .plan) (live then′) (c .point)
   room =
-      let n = sixty-four in
+      let n = rules .size in
       rw counts (room-then l (g .old) inside (omega arith) (node .plan) (c .point) (parties-four (node .plan) (rules .planned)))
 
   -- ---- the three ways that it can go

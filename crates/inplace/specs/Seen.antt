@@ -17,7 +17,7 @@ use Rattle.session.specs.Session.{isFree, hasId}
 use Rattle.table.specs.declared.Node.{Node}
 use Rattle.table.specs.Rules.{keepsRules, rules-of, boundsOf}
 use Rattle.table.specs.Find.{controlPlace}
-use Rattle.rules.specs.Survey.{idKey, weightOf}
+use Rattle.rules.specs.Survey.{idKey, weightOf, imsiPart}
 use Rattle.requests.specs.declared.Create as C
 use Rattle.requests.specs.Create.{CreateSound}
 use Rattle.timing.specs.Outcome.{leastReply}
@@ -93,7 +93,7 @@ old-named look i = refl
 
 -- a sound Create's key is not 0
 not-zero : (c : C.Create) → 5 ≤ c .ebi → eqb (idKey (c .imsi) (c .ebi)) 0 ≡ false
-not-zero c h = ne-eqb (c .imsi % 36028797018963968 * 256 + c .ebi) 0 (λ q. omega arith)
+not-zero c h = ne-eqb (c .imsi % imsiPart * 256 + c .ebi) 0 (λ q. omega arith)
 
 module _ (node : Node) (l : List Session) (k : keepsRules node l ≡ true) (c : C.Create) (seq : ℕ) (s : CreateSound (parties (node .plan)) c)
     (v : Seen) (told : Told node (aimOf (A.Create c seq) .key) l v) where

@@ -2,7 +2,7 @@
 // instructions of one such check.
 //
 // The keys are those of bearer 5 of IMSIs one after the other; strewn about where the first octet of standard input is `r`. Each octet
-// after it is a check, with so many times 64 keys as it says less a multiple of 64: they are read, so that nothing of a check is known
+// after it is a check, with so many batches of keys as it says: they are read, so that nothing of a check is known
 // to the compiler.
 
 // The IMSI after this one.
@@ -14,7 +14,7 @@ fn next_imsi(imsi: u64, kind: u8) -> u64 {
 }
 
 fn key_of(imsi: u64) -> u64 {
-    imsi % 36028797018963968 * 256 + 5
+    rules::id_key(imsi, 5)
 }
 
 fn all_keys(kind: u8) -> [u64; 1024] {
@@ -30,9 +30,12 @@ fn all_keys(kind: u8) -> [u64; 1024] {
     keys
 }
 
-// One check, with so many times 64 keys.
+// The keys of a batch; fewer batches than it has keys are checked at once.
+const BATCH: usize = 64;
+
+// One check, with so many batches of keys.
 fn apart_with(keys: &[u64], count: u8) -> u64 {
-    let n = (count % 64) as usize * 64;
+    let n = count as usize % BATCH * BATCH;
     if keys.len() < n {
         return 0;
     }

@@ -1,6 +1,6 @@
--- How far a loop over the first n of a list goes where the list may be shorter, and that its places fit a word.
+-- How far a loop over the first n of a list goes where the list may be shorter.
 -- Assumes nothing.
-use Prim.Native.Nat.{ℕ, _+_, _*_, _<_, _≤_, _^_}
+use Prim.Native.Nat.{ℕ, _<_, _≤_}
 use mathlib.Core.List.{List}
 use mathlib.Core.Path.{_≡_, sym, _∙_}
 use native.Mathlib.Omega.{arith}
@@ -24,7 +24,3 @@ pub first-lesser : {A : Type 0} (f : A → A) (n : ℕ) (l : List A) → mapFirs
 unfolding lesser
 first-lesser f n l = split (ltb n (length l)) (λ e. rw e)
     (λ e. let h : length l ≤ n = ltb-false n (length l) e in rw e (map-all f (length l) l (omega arith) ∙ sym (map-all f n l h)))
-
--- a record's place fits a word
-pub place-fits : (n i : ℕ) → n * 48 < 2 ^ 63 → i < n → i * 48 < 2 ^ 64
-place-fits n i g l = omega (arith, g, l)

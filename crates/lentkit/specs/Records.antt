@@ -1,11 +1,13 @@
--- How many of the caller's records a call changes that changes all: as many as there are places, and none where another count is lent.
+-- How many of the caller's records a call changes that changes all: as many as there are places, and none where another count is lent. And that the
+-- place of an element of a lent slice fits a word.
 -- Assumes nothing.
 use Prim.Native.Nat.{ℕ, _*_, _<_, _≤_, _^_}
 use mathlib.Core.Bool.{true, false}
 use mathlib.Core.Path.{_≡_}
+use native.Mathlib.Nat.{le-of-lt, mul-le-mul-right}
 use native.Mathlib.Omega.{arith}
 use lib.Dec.{eqb}
-use Rattle.octets.specs.Choice.{pick, split}
+use Rattle.octets.specs.Choice.{pick}
 use Rattle.tunnel.specs.Numbering.{places}
 
 -- how many of a count of lent records are changed by a call that changes all
@@ -21,6 +23,6 @@ pub whole-all : (n : ℕ) → eqb n places ≡ true → wholeOf n ≡ n
 unfolding wholeOf
 whole-all n e = rw e
 
--- a record's place fits a word
-pub place-fits : (i : ℕ) → i < 64 → i * 48 < 2 ^ 64
-place-fits i h = omega arith
+-- where n elements of a size fit the memory, the place of each of them fits a word
+pub place-fits : (size n i : ℕ) → n * size < 2 ^ 63 → i < n → i * size < 2 ^ 64
+place-fits size n i g l = let m : i * size ≤ n * size = mul-le-mul-right size (le-of-lt l) in omega (arith, g, m)

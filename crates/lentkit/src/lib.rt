@@ -7,7 +7,7 @@ ghost use Rattle.lentkit.specs.Records.{wholeOf};
 pub fn whole(count: usize) -> usize
     ensures { λ r. ⌜ r ≡ wholeOf count ⌝ }
 {
-    if count == 64 {
+    if count == tunnel::Unit::PLACES {
         return count;
     }
     0

@@ -2,8 +2,8 @@
 use octets::Number;
 use session::Session;
 use table::Node;
-use table::Table;
 use timing::Answer;
+use tunnel::Unit;
 ghost use mathlib.Core.Path.{_≡_};
 ghost use lib.Dec.{ltb};
 ghost use Rattle.tunnel.specs.Numbering.{places};
@@ -20,7 +20,7 @@ pub fn line_by(kept: bool, node: Node, place: usize, s: Session, reply: &mut [u8
     if !kept {
         return Answer::bare(Number::RULES_BROKEN, node);
     }
-    if Table::PLACES <= place {
+    if Unit::PLACES <= place {
         return Answer::bare(Number::NO_PLACE, node);
     }
     let size = placeline::put_line(reply, place, s);

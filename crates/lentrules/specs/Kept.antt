@@ -105,7 +105,7 @@ module _ (node : Node) (key : ℕ) (l : List Session) (kept : keepsRules node l 
   -- none is read where none is awaited
   unread : every silent l ≡ true → readOf (λ z. waitOf (z .own)) false l ≡ waitsOf l
   unfolding readOf places
-  unread e = let n : length l ≡ 64 = rules-of node l kept .size in ap (λ (k : ℕ). replicate k 0) (sym n) ∙ quiet-waits l e
+  unread e = let n : length l ≡ places = rules-of node l kept .size in ap (λ (k : ℕ). replicate k 0) (sym n) ∙ quiet-waits l e
 
   whole : readOf (λ z. waitOf (z .own)) true l ≡ waitsOf l
   unfolding waitsOf

@@ -1,4 +1,4 @@
--- One number of each lent record, where there are 64 and it is wanted; zeros otherwise.
+-- One number of each lent record, where there are as many as places and it is wanted; zeros otherwise.
 -- Assumes nothing.
 use Prim.Native.Nat.{ℕ, _+_, _*_, _<_, _≤_, _^_}
 use mathlib.Core.Bool.{Bool, true, false, _&&_}
@@ -16,10 +16,10 @@ use Rattle.session.specs.Session.{blankAt}
 use Rattle.lentkit.specs.Mixed.{mixed, mixed-none, mixed-all, mixed-step}
 
 unfoldable pub boundOf : Bool → ℕ → ℕ
-boundOf wanted count = pick {A = ℕ} (wanted && eqb count places) 64 0
+boundOf wanted count = pick {A = ℕ} (wanted && eqb count places) places 0
 
 unfoldable pub readOf : (Session → ℕ) → Bool → List Session → List ℕ
-readOf f wanted l = pick (wanted && eqb (length l) places) (map f l) (replicate 64 0)
+readOf f wanted l = pick (wanted && eqb (length l) places) (map f l) (replicate places 0)
 
 pub read-all : (f : Session → ℕ) (l : List Session) → length l ≡ places → readOf f true l ≡ map f l
 unfolding readOf
@@ -29,21 +29,21 @@ read-all f l n = rw (eq-eqb (length l) places n)
 module _ (wanted : Bool) (l : List Session) where
   pub bound-within : boundOf wanted (length l) ≤ length l
   unfolding boundOf places
-  bound-within = split (wanted && eqb (length l) 64)
-      (λ e. let n = eqb-true (length l) 64 (and-right wanted (eqb (length l) 64) e) in rw e (omega arith))
+  bound-within = split (wanted && eqb (length l) places)
+      (λ e. let n = eqb-true (length l) places (and-right wanted (eqb (length l) places) e) in rw e (omega arith))
       (λ e. rw e (omega arith))
 
-  pub bound-most : boundOf wanted (length l) ≤ 64
+  pub bound-most : boundOf wanted (length l) ≤ places
   unfolding boundOf
   bound-most = split (wanted && eqb (length l) places) (λ e. rw e (omega arith)) (λ e. rw e (omega arith))
 
   -- the loop's end
-  pub read-end : (f : Session → ℕ) → mixed (boundOf wanted (length l)) (map f l) (replicate 64 0) ≡ readOf f wanted l
+  pub read-end : (f : Session → ℕ) → mixed (boundOf wanted (length l)) (map f l) (replicate places 0) ≡ readOf f wanted l
   unfolding boundOf readOf places
-  read-end f = split (wanted && eqb (length l) 64)
-      (λ e. let n = eqb-true (length l) 64 (and-right wanted (eqb (length l) 64) e) in
-      rw e (mixed-all 64 (map f l) (replicate 64 0) (simp length-map (omega arith)) (length-replicate {A = ℕ} 64 0 ∙ sym n ∙ sym (length-map l f))))
-      (λ e. rw e (mixed-none (map f l) (replicate 64 0)))
+  read-end f = split (wanted && eqb (length l) places)
+      (λ e. let n = eqb-true (length l) places (and-right wanted (eqb (length l) places) e) in
+      rw e (mixed-all places (map f l) (replicate places 0) (simp length-map (omega arith)) (length-replicate {A = ℕ} places 0 ∙ sym n ∙ sym (length-map l f))))
+      (λ e. rw e (mixed-none (map f l) (replicate places 0)))
 
 -- a turn of the loop
 pub read-step : (f : Session → ℕ) (l : List Session) (r : List ℕ) (i : ℕ) → i < length l

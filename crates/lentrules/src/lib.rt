@@ -5,9 +5,11 @@ use glance::Seen;
 use session::Bounds;
 use session::Session;
 use table::Node;
+use tunnel::Unit;
 ghost use mathlib.Core.Bool.{true};
 ghost use mathlib.Core.Path.{_≡_};
 ghost use lib.ListN.{getD, replicate};
+ghost use Rattle.tunnel.specs.Numbering.{places};
 ghost use Rattle.session.specs.Session.{blankAt};
 ghost use Rattle.table.specs.Rules.{keepsRules};
 ghost use Rattle.rules.specs.Survey.{waitOf};
@@ -21,8 +23,8 @@ ghost use Rattle.lentrules.specs.Kept.{seenOf};
 pub fn bound(wanted: bool, count: usize) -> usize
     ensures { λ r. ⌜ r ≡ boundOf wanted count ⌝ }
 {
-    if wanted & (count == 64) {
-        return 64;
+    if wanted & (count == Unit::PLACES) {
+        return Unit::PLACES;
     }
     0
 }
@@ -34,10 +36,10 @@ pub fn whole(count: usize) -> usize
     bound(true, count)
 }
 
-pub fn zeros() -> [u64; 64]
-    ensures { λ r. ⌜ r ≡ replicate 64 0 ⌝ }
+pub fn zeros() -> [u64; Unit::PLACES]
+    ensures { λ r. ⌜ r ≡ replicate places 0 ⌝ }
 {
-    [0; 64]
+    [0; Unit::PLACES]
 }
 
 // The digest of the record at a place; where there is none, that of a free one. The record is read anew on each way, so that each loads
@@ -56,8 +58,8 @@ pub fn digest_at(recs: &[Session], i: usize, b: Bounds) -> u64
     glance::taken_digest(b, recs[i])
 }
 
-// The digests of the records, zeros where there are not 64.
-pub fn digests(recs: &[Session], b: Bounds) -> [u64; 64]
+// The digests of the records, zeros where there are not as many as places.
+pub fn digests(recs: &[Session], b: Bounds) -> [u64; Unit::PLACES]
     ensures { λ r. ⌜ r ≡ readOf (digestOf b) true (now (recs .entry)) ⌝ }
 {
     let n = whole(recs.len());
@@ -71,8 +73,8 @@ pub fn digests(recs: &[Session], b: Bounds) -> [u64; 64]
     t
 }
 
-// What the records await, as keys; zeros where it is not wanted, or where there are not 64.
-pub fn awaited(recs: &[Session], wanted: bool) -> [u64; 64]
+// What the records await, as keys; zeros where it is not wanted, or where there are not as many as places.
+pub fn awaited(recs: &[Session], wanted: bool) -> [u64; Unit::PLACES]
     ensures { λ r. ⌜ r ≡ readOf (λ s. waitOf (s .own)) wanted (now (recs .entry)) ⌝ }
 {
     let n = bound(wanted, recs.len());

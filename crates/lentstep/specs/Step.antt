@@ -39,7 +39,7 @@ unfoldable pub tickChange : Node → Change
 tickChange node = pick (spent (node .plan .sends) (node .echo)) C.Free (C.Tick (node .plan .sends))
 
 unfoldable pub tickCount : ℕ → Node → ℕ
-tickCount how node = pick {A = ℕ} (eqb how 0 || eqb how 1 && not (spent (node .plan .sends) (node .echo))) 0 64
+tickCount how node = pick {A = ℕ} (eqb how 0 || eqb how 1 && not (spent (node .plan .sends) (node .echo))) 0 places
 
 unfoldable pub tickLeft : ℕ → Node → Answer
 tickLeft how node = pick (eqb how 0) (bare rulesBroken node) (bare taken (timed (echoTicked (node .plan) (node .echo)) (node .next) node))
@@ -87,11 +87,11 @@ lent-tick node l zs how c n r e-h e-c e-n e-z e-r = split (keepsRules node l)
     (λ t. let m = kept-long node l t in
     split (spent (node .plan .sends) (node .echo))
     (λ s. split (every silent l)
-    (λ q. rw (e-r, e-z, e-n, e-c, e-h, t, q, s, map-all freed 64 l (omega arith)))
-    (λ q. rw (e-r, e-z, e-n, e-c, e-h, t, q, s, map-all freed 64 l (omega arith))))
+    (λ q. rw (e-r, e-z, e-n, e-c, e-h, t, q, s, map-all freed places l (omega arith)))
+    (λ q. rw (e-r, e-z, e-n, e-c, e-h, t, q, s, map-all freed places l (omega arith))))
     (λ s. split (every silent l)
     (λ q. rw (e-r, e-z, e-n, e-c, e-h, t, q, s, map-none (ticked (node .plan .sends)) l, all-still (boundsOf (node .plan)) (node .plan .sends) l (rules-of node l t .each) q))
-    (λ q. rw (e-r, e-z, e-n, e-c, e-h, t, q, s, map-all (ticked (node .plan .sends)) 64 l (omega arith)))))
+    (λ q. rw (e-r, e-z, e-n, e-c, e-h, t, q, s, map-all (ticked (node .plan .sends)) places l (omega arith)))))
     (λ t. rw (e-r, e-z, e-n, e-h, t, map-none (changedBy c) l))
 
 -- and those of closing a place: what is put back unchanged changes nothing

@@ -6,8 +6,8 @@ use octets::Number;
 use session::Session;
 use table::Change;
 use table::Node;
-use table::Table;
 use timing::Answer;
+use tunnel::Unit;
 ghost use mathlib.Core.Path.{_≡_};
 ghost use Rattle.timing.specs.Outcome.{back};
 ghost use Rattle.lentstep.specs.Send.{takenAmong, loudIn, nextDue, placeOf, sentBy, echoLeft, placeLeft, sendLeft};
@@ -44,7 +44,7 @@ pub fn tick_count(how: u8, node: Node) -> usize
     if (how == 0) | (how == 1) & !over {
         return 0;
     }
-    Table::PLACES
+    Unit::PLACES
 }
 
 // What goes back of a tick by value.
@@ -99,7 +99,7 @@ pub fn loud(seen: Seen) -> bool
 }
 
 // Who is sent next, by what was seen of the records and what they await: the echo first, then places upward.
-pub fn next_due(room: usize, node: Node, seen: Seen, waits: [u64; 64]) -> Sending
+pub fn next_due(room: usize, node: Node, seen: Seen, waits: [u64; Unit::PLACES]) -> Sending
     ensures { λ r. ⌜ r ≡ nextDue room node seen waits ⌝ }
 {
     if room < Answer::LEAST_REPLY {
@@ -115,7 +115,7 @@ pub fn next_due(room: usize, node: Node, seen: Seen, waits: [u64; 64]) -> Sendin
     }
     let look = seen.look;
     let place = look.due;
-    if Table::PLACES <= place {
+    if Unit::PLACES <= place {
         return Sending::Nothing(Number::NOTHING_DUE);
     }
     let number = taken(node, &waits);
@@ -127,8 +127,8 @@ pub fn place_of(p: Sending) -> usize
     ensures { λ r. ⌜ r ≡ placeOf p ⌝ }
 {
     match p {
-        Sending::Nothing(_) => Table::PLACES,
-        Sending::Echo(_) => Table::PLACES,
+        Sending::Nothing(_) => Unit::PLACES,
+        Sending::Echo(_) => Unit::PLACES,
         Sending::At { place, number: _ } => place,
     }
 }

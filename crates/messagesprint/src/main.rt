@@ -6,6 +6,9 @@
 // use 1 has the TEIDs 261 and 389 and the address 100.64.0.6; the unit has 10.0.0.1 for control, 10.0.0.2 for user packets, and
 // Recovery 7.
 use libc::STDOUT_FILENO;
+use readers::Refusal;
+use session::Request;
+use timing::Answer;
 
 fn put_hex(part: &[u8]) {
     let mut i: usize = 0;
@@ -27,32 +30,32 @@ fn show(kind: &[u8], buffer: &[u8], n: usize) {
 }
 
 fn version_not_supported() {
-    let mut m = [0xEEu8; 128];
+    let mut m = [0xEEu8; Answer::LEAST_REPLY];
     let n = messages::version_not_supported(&mut m);
     show(b"version_not_supported ", &m, n);
 }
 
 fn echo(kind: &[u8], number: u8, seq: u32) {
-    let mut m = [0xEEu8; 128];
+    let mut m = [0xEEu8; Answer::LEAST_REPLY];
     let n = messages::echo_of(&mut m, number, seq, 7);
     show(kind, &m, n);
 }
 
 // A reply with a cause alone, and one that names a field.
 fn cause(kind: &[u8], number: u8, teid: u32, seq: u32, value: u8) {
-    let mut m = [0xEEu8; 128];
+    let mut m = [0xEEu8; Answer::LEAST_REPLY];
     let n = messages::cause_reply(&mut m, number, teid, seq, value);
     show(kind, &m, n);
 }
 
 fn fault(kind: &[u8], number: u8, seq: u32, value: u8, field: u8, instance: u8) {
-    let mut m = [0xEEu8; 128];
+    let mut m = [0xEEu8; Answer::LEAST_REPLY];
     let n = messages::fault_reply(&mut m, number, 287454020, seq, value, field, instance);
     show(kind, &m, n);
 }
 
 fn create_accepted() {
-    let mut m = [0xEEu8; 128];
+    let mut m = [0xEEu8; Answer::LEAST_REPLY];
     let n = messages::create_accepted(
         &mut m,
         messages::Accepted {
@@ -71,25 +74,25 @@ fn create_accepted() {
 }
 
 fn modify_bearer() {
-    let mut m = [0xEEu8; 128];
+    let mut m = [0xEEu8; Answer::LEAST_REPLY];
     let n = messages::modify_bearer(&mut m, 287454020, 658189, 5);
     show(b"modify_bearer ", &m, n);
 }
 
 fn delete_bearer() {
-    let mut m = [0xEEu8; 128];
-    let n = messages::delete_bearer(&mut m, 287454020, 8388607, 15);
+    let mut m = [0xEEu8; Answer::LEAST_REPLY];
+    let n = messages::delete_bearer(&mut m, 287454020, Request::LAST_NUMBER, 15);
     show(b"delete_bearer ", &m, n);
 }
 
 fn user_echo() {
-    let mut m = [0xEEu8; 128];
+    let mut m = [0xEEu8; Answer::LEAST_REPLY];
     let n = messages::user_echo(&mut m, 4660);
     show(b"user_echo ", &m, n);
 }
 
 fn error_indication() {
-    let mut m = [0xEEu8; 128];
+    let mut m = [0xEEu8; Answer::LEAST_REPLY];
     let n = messages::error_indication(&mut m, 389, 167772162);
     show(b"error_indication ", &m, n);
 }
@@ -103,10 +106,10 @@ fn main() {
     fault(b"create_fault ", 33, 658188, 70, 87, 2);
     cause(b"modify_accepted ", 35, 287454020, 658189, 16);
     modify_bearer();
-    cause(b"modify_cause ", 35, 0, 658189, 64);
+    cause(b"modify_cause ", 35, 0, 658189, Refusal::NOT_LIVE);
     fault(b"modify_fault ", 35, 658189, 69, 73, 0);
     cause(b"delete_accepted ", 37, 287454020, 658190, 16);
-    cause(b"delete_cause ", 37, 287454020, 658190, 64);
+    cause(b"delete_cause ", 37, 287454020, 658190, Refusal::NOT_LIVE);
     fault(b"delete_fault ", 37, 658190, 67, 73, 0);
     delete_bearer();
     user_echo();

@@ -39,7 +39,7 @@ teidUnfit = 8
 abbrev pub notAwaited : ℕ
 notAwaited = 9
 
--- a place over 63, or free when closed
+-- a place past the last, or free when closed
 abbrev pub noPlace : ℕ
 noPlace = 10
 

@@ -39,7 +39,7 @@ impl Number {
     // a reply that is not awaited, or unreadable
     pub const NOT_AWAITED: u8 = 9;
 
-    // a place over 63, or free when closed
+    // a place past the last, or free when closed
     pub const NO_PLACE: u8 = 10;
 
     // admitted, and no place is free

@@ -49,6 +49,7 @@ use Rattle.wishes.specs.declared.Asked.the-variants as A
 use Rattle.openings.specs.declared.Aim.{Aim}
 use Rattle.openings.specs.declared.Verdict.{Verdict}
 use Rattle.openings.specs.declared.Verdict.the-variants as Y
+use Rattle.session.specs.Wide.{longWords}
 
 -- ---- of what is asked: whether it says that the exchange restarted, and which record it is about
 unfoldable pub restartsIn : Asked → Node → Bool
@@ -98,10 +99,10 @@ repeatsAt place c seq s = ltb place places && isRepeat c seq s
 
 -- the packed counts without a record
 unfoldable pub countsLess : ℕ → Session → ℕ
-countsLess counts s = (counts + 18446744073709551616 - weightOf s) % 18446744073709551616
+countsLess counts s = (counts + longWords - weightOf s) % longWords
 
 -- in the words of the code: what gives the counts with the record's share
-pub counts-less : (r counts : ℕ) (s : Session) → r < 18446744073709551616 → (r + weightOf s) % 18446744073709551616 ≡ counts → r ≡ countsLess counts s
+pub counts-less : (r counts : ℕ) (s : Session) → r < longWords → (r + weightOf s) % longWords ≡ counts → r ≡ countsLess counts s
 unfolding countsLess
 counts-less r counts s h e = let w = weight-most s in omega arith
 

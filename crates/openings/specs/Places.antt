@@ -23,11 +23,13 @@ use Rattle.session.specs.declared.Bounds.{Bounds}
 use Rattle.session.specs.Session.{isFree, isOn, hasId, recordOk, freed, blankAt}
 use Rattle.table.specs.Rules.{liveOn, live}
 use Rattle.table.specs.Change.{nobody, changedAt}
-use Rattle.rules.specs.Survey.{idKey, keyOf, weightOf}
+use Rattle.rules.specs.Survey.{idKey, keyOf, weightOf, imsiPart}
 use Rattle.rules.specs.Check.{unpackedOf, known-id, unpacked-at, packed}
 use Rattle.glance.specs.Digest.{digestOf, keyIn, key-in, free-in}
 use Rattle.glance.specs.Look.{keyPlace, freeIn}
 use Rattle.openings.specs.Openings.{countsLess, roomFor, lower}
+use Rattle.session.specs.Wide.{longWords}
+use Rattle.tunnel.specs.Numbering.{places}
 
 -- ---- a search among what is read of the elements, and one by a test that agrees
 first-map : {A B : Type 0} (p : B → Bool) (f : A → B) (l : List A) → firstOf p (map f l) ≡ firstOf (λ x. p (f x)) l
@@ -66,10 +68,10 @@ module _ (b : Bounds) (s : Session) (ok : recordOk b s ≡ true) where
   id-in : (imsi ebi : ℕ) → imsi < 1000000000000000 → 5 ≤ ebi → ebi ≤ 15 → eqb (keyIn (digestOf b s)) (idKey imsi ebi) ≡ hasId imsi ebi s
   unfolding keyOf hasId
   id-in imsi ebi h low high = rw (key-in b s ok) (split (isFree s)
-      (λ n. rw n (ne-eqb 0 (imsi % 36028797018963968 * 256 + ebi) (λ q. omega arith)))
+      (λ n. rw n (ne-eqb 0 (imsi % imsiPart * 256 + ebi) (λ q. omega arith)))
       (λ n. let k = known-id b s ok n in
-      let mine = s .imsi % 36028797018963968 * 256 + s .ebi in
-      let theirs = imsi % 36028797018963968 * 256 + ebi in
+      let mine = s .imsi % imsiPart * 256 + s .ebi in
+      let theirs = imsi % imsiPart * 256 + ebi in
       rw n (split (eqb (s .imsi) imsi)
       (λ t. let x = eqb-true (s .imsi) imsi t in
       split (eqb (s .ebi) ebi)
@@ -129,8 +131,8 @@ length-then : (i : ℕ) (l : List Session) → length (changedAt freed i l) ≡ 
 unfolding changedAt
 length-then i l = length-set l i (freed (getD l i nobody))
 
-few : (l : List Session) → length l ≤ 64 → sumOf weightOf l < 18446744073709551616
-unfolding liveOn
+few : (l : List Session) → length l ≤ places → sumOf weightOf l < longWords
+unfolding liveOn places
 few l n =
     let p = packed l in
     let x = count-most (isOn 0) l in
@@ -139,7 +141,7 @@ few l n =
     let w = count-most (isOn 3) l in
     omega arith
 
-module _ (l : List Session) (i : ℕ) (inside : i ≤ length l) (size : length l ≤ 64) where
+module _ (l : List Session) (i : ℕ) (inside : i ≤ length l) (size : length l ≤ places) where
   counts-then : countsLess (sumOf weightOf l) (getD l i nobody) ≡ sumOf weightOf (changedAt freed i l)
   unfolding countsLess
   counts-then =
@@ -150,7 +152,7 @@ module _ (l : List Session) (i : ℕ) (inside : i ≤ length l) (size : length l
 
   pub room-then : (p : Plan) (point : ℕ) → parties p ≤ 4
       → roomFor p (sumOf weightOf l) (getD l i nobody) point ≡ admits p (live (changedAt freed i l)) point
-  unfolding roomFor
+  unfolding roomFor places
   room-then p point four =
       let n = length-then i l in
       rw counts-then (admits-agree p (λ a. getD (unpackedOf (sumOf weightOf (changedAt freed i l))) a 0) (live (changedAt freed i l)) point

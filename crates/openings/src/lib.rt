@@ -9,16 +9,16 @@ use requests::Create;
 use session::Session;
 use table::Change;
 use table::Node;
-use table::Table;
 use timing::Answer;
 use tunnel::ControlTeid;
+use tunnel::Unit;
 use wishes::Asked;
 use wishes::Concern;
 ghost use mathlib.Core.Path.{_≡_};
 ghost use Rattle.table.specs.declared.Change.the-variants.{Free};
 ghost use Rattle.openings.specs.Openings.{restartsIn, restartsNow, aimOf, oldBy, sightBy, sightOf, repeatsAt, roomFor, lower, verdictOf, verdictIn, opensAt, pairBy, made, unmovedOn, fullOn, enteredOn, openOn, namedOn, askedOn, takenOn, nodeAfter, freedCount};
 
-// Which record is asked about: the one with a key of IMSI and EBI, or where the key is 0, which no session has, the one of a place; 64
+// Which record is asked about: the one with a key of IMSI and EBI, or where the key is 0, which no session has, the one of a place; past the last
 // where there is none.
 pub struct Aim {
     pub key: u64,
@@ -26,7 +26,7 @@ pub struct Aim {
 }
 
 // What is gone by, of what was seen of the records: whether the rules are kept, whether all are freed first, the packed counts, the place
-// of the record that it is about, and the first free place; 64 where there is none.
+// of the record that it is about, and the first free place; past the last where there is none.
 pub struct Sight {
     pub kept: bool,
     pub all: bool,
@@ -114,29 +114,29 @@ fn aim_of(a: Asked) -> Aim
     match a {
         Asked::Silent(_) => Aim {
             key: 0,
-            place: Table::PLACES,
+            place: Unit::PLACES,
         },
         Asked::Version => Aim {
             key: 0,
-            place: Table::PLACES,
+            place: Unit::PLACES,
         },
         Asked::Echo {
             recovery: _,
             sequence: _,
         } => Aim {
             key: 0,
-            place: Table::PLACES,
+            place: Unit::PLACES,
         },
         Asked::EchoReply { recovery: _ } => Aim {
             key: 0,
-            place: Table::PLACES,
+            place: Unit::PLACES,
         },
         Asked::Create {
             create,
             sequence: _,
         } => Aim {
             key: rules::id_key(create.imsi, create.ebi),
-            place: Table::PLACES,
+            place: Unit::PLACES,
         },
         Asked::Refused {
             why: _,
@@ -144,7 +144,7 @@ fn aim_of(a: Asked) -> Aim
             sequence: _,
         } => Aim {
             key: 0,
-            place: Table::PLACES,
+            place: Unit::PLACES,
         },
         Asked::Session {
             teid,
@@ -184,7 +184,7 @@ fn sight_by(kept: bool, counts: u64, old: usize, free: usize, restart: bool) -> 
             kept: true,
             all: true,
             counts: 0,
-            old: Table::PLACES,
+            old: Unit::PLACES,
             free: 0,
         };
     }
@@ -220,7 +220,7 @@ fn repeats(place: usize, c: Create, seq: u32, s: Session) -> bool
     ensures { λ r. ⌜ r ≡ repeatsAt place c seq s ⌝ }
 {
     let same = control::is_repeat(c, seq, s);
-    (place < Table::PLACES) & same
+    (place < Unit::PLACES) & same
 }
 
 // The sharing rule, by the counts without a record.
@@ -283,14 +283,14 @@ pub fn verdict_in(g: Sight, node: Node, a: Asked, s: Session) -> Verdict
     }
 }
 
-// The place that is opened; 64 where none is.
+// The place that is opened; past the last where none is.
 pub fn opens_at(v: Verdict) -> usize
     ensures { λ r. ⌜ r ≡ opensAt v ⌝ }
 {
     match v {
-        Verdict::Still => Table::PLACES,
+        Verdict::Still => Unit::PLACES,
         Verdict::Opens(place) => place,
-        Verdict::Full => Table::PLACES,
+        Verdict::Full => Unit::PLACES,
     }
 }
 
@@ -471,7 +471,7 @@ pub fn freed_count(p: Pair) -> usize
     ensures { λ r. ⌜ r ≡ freedCount p ⌝ }
 {
     if p.all {
-        return Table::PLACES;
+        return Unit::PLACES;
     }
     0
 }

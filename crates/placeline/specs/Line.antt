@@ -109,6 +109,7 @@ module _ (s : Session)
       let r = rest-size in
       simp length-append (omega arith)
 
-  pub line-fits : (place : ℕ) (reply : List ℕ) → place < 10 ^ 2 → 128 ≤ length reply
+  pub line-fits : (place : ℕ) (reply : List ℕ) → place < 10 ^ 2 → leastReply ≤ length reply
       → laid 0 (lineText place s) reply ≡ written (length (lineText place s)) (overlay (lineText place s) reply)
+  unfolding leastReply
   line-fits place reply h g = let r = line-size place h in laid-front (lineText place s) reply (omega arith)

@@ -6,13 +6,17 @@ use native.Mathlib.Omega.{arith}
 use Rattle.tunnel.specs.Numbering.{places}
 use Rattle.plan.specs.Limits.{poolStep}
 
+-- an address has 32 bits
+unfoldable pub addresses : ℕ
+addresses = 4294967296
+
 unfoldable pub addressOf : ℕ → ℕ → ℕ
-addressOf pool place = (pool + 1 + place) % 4294967296
+addressOf pool place = (pool + 1 + place) % addresses
 
 -- a pool base as a plan may have it: none of its addresses goes round, and each place has its own
-module _ (pool : ℕ) (fits : pool < 4294967296) (whole : pool % poolStep ≡ 0) where
+module _ (pool : ℕ) (fits : pool < addresses) (whole : pool % poolStep ≡ 0) where
   pub address-is : (place : ℕ) → place < places → addressOf pool place ≡ pool + 1 + place
-  unfolding addressOf poolStep places
+  unfolding addressOf addresses poolStep places
   address-is place h = omega arith
 
   pub address-same : (a b : ℕ) → a < places → b < places → addressOf pool a ≡ addressOf pool b → a ≡ b

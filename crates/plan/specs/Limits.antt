@@ -31,7 +31,7 @@ poolStep = 256
 
 -- what a unit without an accepted plan has
 unfoldable pub noPoint : AccessPoint
-noPoint = record { name = replicate 63 0; size = 0; guarantee = 0; ceiling = 0 }
+noPoint = record { name = replicate longestName 0; size = 0; guarantee = 0; ceiling = 0 }
 
 unfoldable pub noPlan : Plan
 noPlan = record {
@@ -53,7 +53,7 @@ used p = take (p .count) (p .points)
 abbrev pub parties : Plan → ℕ
 parties p = length (used p)
 
--- 1 to 4 access points, T 1 to 255, N 1 to 10, E 1 to 255 (T and E are octets: none is over 255), pool base a multiple of 256
+-- 1 to 4 access points, T 1 to 255, N 1 to 10, E 1 to 255 (T and E are octets: none is over 255), pool base a multiple of `poolStep`
 unfoldable pub figuresOk : Plan → Bool
 figuresOk p =
     leb 1 (p .count) && leb (p .count) mostPoints
@@ -62,7 +62,7 @@ figuresOk p =
     && leb 1 (p .interval)
     && eqb (p .pool % poolStep) 0
 
--- name 1 to 63 octets; 0 ≤ g ≤ c ≤ 64, c ≥ 1
+-- name 1 to `longestName` octets; 0 ≤ g ≤ c ≤ places, c ≥ 1
 unfoldable pub pointOk : AccessPoint → Bool
 pointOk a =
     leb 1 (a .size) && leb (a .size) longestName

@@ -17,6 +17,7 @@ use Rattle.octets.specs.Same.{sameOctets, same-equal}
 use Rattle.plan.specs.declared.AccessPoint.{AccessPoint}
 use Rattle.plan.specs.declared.Named.{Named}
 use Rattle.plan.specs.declared.Named.the-variants.{Point, Unknown}
+use Rattle.plan.specs.Limits.{longestName}
 
 unfoldable pub nameOf : AccessPoint → List ℕ
 nameOf a = take (a .size) (a .name)
@@ -49,13 +50,13 @@ unfolding goesBy
 goes-by-both d a b e f = rw (same-name-equal (nameOf b) d f) e
 
 -- ---- the part of the name's array that counts
-pub name-part : (a : AccessPoint) (n : ℕ) → length (a .name) ≡ 63 → n ≡ min (a .size) 63 → take (n - 0) (drop 0 (a .name)) ≡ nameOf a
+pub name-part : (a : AccessPoint) (n : ℕ) → length (a .name) ≡ longestName → n ≡ min (a .size) longestName → take (n - 0) (drop 0 (a .name)) ≡ nameOf a
 unfolding nameOf
 name-part a n l e =
     let m : n - 0 ≡ n = omega arith in
-    split (leb (a .size) 63)
+    split (leb (a .size) longestName)
     (λ t. let k : n ≡ a .size = omega (arith, tests) in rw (m, k))
-    (λ t. let k : n ≡ 63 = omega (arith, tests) in rw (m, k) (take-all 63 (a .name) (omega arith) ∙ sym (take-all (a .size) (a .name) (omega (arith, tests)))))
+    (λ t. let k : n ≡ longestName = omega (arith, tests) in rw (m, k) (take-all longestName (a .name) (omega arith) ∙ sym (take-all (a .size) (a .name) (omega (arith, tests)))))
 
 -- ---- a search over the slots that has come to place i
 module _ (l : List AccessPoint) (d : List ℕ) (i : ℕ) (came : firstOf (goesBy d) l ≡ i + firstOf (goesBy d) (drop i l)) where

@@ -58,12 +58,12 @@ few-differ (a ∷ []) h = refl
 few-differ (a ∷ b ∷ l) h = absurd (omega arith)
 
 -- names of two sizes differ; a size past the longest name's would not say how many octets there are
-pub sizes-unlike : (a b : AccessPoint) → length (a .name) ≡ 63 → length (b .name) ≡ 63 → pointOk a ≡ true → pointOk b ≡ true
+pub sizes-unlike : (a b : AccessPoint) → length (a .name) ≡ longestName → length (b .name) ≡ longestName → pointOk a ≡ true → pointOk b ≡ true
     → (a .size ≡ b .size → ⊥) → unlike a b ≡ true
 unfolding unlike goesBy sameName nameOf pointOk longestName
 sizes-unlike a b la lb oa ob h =
-    let sa : leb (a .size) 63 ≡ true = search (and-left, and-right) in
-    let sb : leb (b .size) 63 ≡ true = search (and-left, and-right) in
+    let sa : leb (a .size) longestName ≡ true = search (and-left, and-right) in
+    let sb : leb (b .size) longestName ≡ true = search (and-left, and-right) in
     let n : length (take (a .size) (a .name)) ≡ length (take (b .size) (b .name)) → ⊥
     = λ e. h (let k = simp length-take at e in omega (arith, tests)) in
     rw (same-unlike (take (a .size) (a .name)) (take (b .size) (b .name)) n)

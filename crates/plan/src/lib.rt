@@ -5,7 +5,7 @@ ghost use mathlib.Core.Path.{_≡_};
 ghost use lib.ListN.{drop};
 ghost use Rattle.octets.specs.Every.{every};
 ghost use Prim.Native.Nat.{min};
-ghost use Rattle.plan.specs.Limits.{noPoint, noPlan, parties, used, figuresOk, pointOk};
+ghost use Rattle.plan.specs.Limits.{longestName, noPoint, noPlan, parties, used, figuresOk, pointOk};
 ghost use Rattle.plan.specs.Names.{goesBy, unlike, namesDiffer, namedIn};
 ghost use Rattle.plan.specs.Plan.{guaranteed, accepted};
 ghost use Rattle.plan.specs.Address.{addressOf};
@@ -13,7 +13,7 @@ ghost use Rattle.plan.specs.Address.{addressOf};
 // An access point: its name, of which the first `size` octets count, and the places it is promised and may have at most.
 #[repr(C)]
 pub struct AccessPoint {
-    pub name: [u8; 63],
+    pub name: [u8; AccessPoint::LONGEST_NAME],
     pub size: u8,
     pub guarantee: u16,
     pub ceiling: u16,
@@ -52,7 +52,7 @@ impl AccessPoint {
         ensures { λ r. ⌜ r ≡ noPoint ⌝ }
     {
         AccessPoint {
-            name: [0; 63],
+            name: [0; Self::LONGEST_NAME],
             size: 0,
             guarantee: 0,
             ceiling: 0,
@@ -67,12 +67,12 @@ impl AccessPoint {
             & (self.size as usize <= Self::LONGEST_NAME)
             & (self.guarantee <= self.ceiling)
             & (1 <= self.ceiling)
-            & (self.ceiling as usize <= tunnel::Holder::PLACES)
+            & (self.ceiling as usize <= tunnel::Unit::PLACES)
     }
 
     // How many octets of the name count.
     fn name_size(self) -> usize
-        ensures { λ r. ⌜ r ≡ min (self .size) 63 ⌝ }
+        ensures { λ r. ⌜ r ≡ min (self .size) longestName ⌝ }
     {
         let size = self.size as usize;
         if size < Self::LONGEST_NAME {
@@ -116,6 +116,9 @@ impl Plan {
     pub const MOST_SENDS: u8 = 10;
 
     pub const POOL_STEP: u32 = 256;
+
+    // An address has 32 bits.
+    pub const ADDRESSES: u64 = 4294967296;
 
     // A plan with no access points: what a unit without an accepted plan has.
     pub fn none() -> Self
@@ -316,7 +319,7 @@ impl Plan {
             return false;
         }
         let sum = self.guaranteed();
-        if tunnel::Holder::PLACES < sum as usize {
+        if tunnel::Unit::PLACES < sum as usize {
             return false;
         }
         let names = self.names_differ();
@@ -347,7 +350,7 @@ impl Plan {
     pub fn address(self, place: usize) -> u32
         ensures { λ r. ⌜ r ≡ addressOf (self .pool) place ⌝ }
     {
-        let after = place as u64 % 4294967296;
-        ((self.pool as u64 + 1 + after) % 4294967296) as u32
+        let after = place as u64 % Self::ADDRESSES;
+        ((self.pool as u64 + 1 + after) % Self::ADDRESSES) as u32
     }
 }

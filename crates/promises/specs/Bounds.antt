@@ -1,4 +1,4 @@
--- After any run: the table keeps its rules, so that neither 2 nor 11 comes; no access point is over its ceiling and S is at most 64; and
+-- After any run: the table keeps its rules, so that neither 2 nor 11 comes; no access point is over its ceiling and S is at most places; and
 -- no two live sessions share a tunnel number, an address, or IMSI with EBI.
 -- Assumes nothing.
 use Prim.Native.Nat.{ℕ, _<_, _≤_}
@@ -12,7 +12,7 @@ use borrow.Author.Tests.{eq-eqb}
 use Rattle.tunnel.specs.Numbering.{places, teids, lastUse, controlOffset, userOffset, control-fits, user-fits}
 use Rattle.tunnel.specs.Tunnel.{controlNumber, userNumber, number-same, number-fits, kinds-apart}
 use Rattle.plan.specs.declared.Plan.{Plan}
-use Rattle.plan.specs.Address.{addressOf}
+use Rattle.plan.specs.Address.{addressOf, addresses}
 use Rattle.plan.specs.Limits.{parties}
 use Rattle.sharing.specs.Sharing.{shareOf, ceilingAt}
 use Rattle.session.specs.declared.Request.{Request}
@@ -81,10 +81,10 @@ pub neither-two-nor-eleven : NeitherTwoNorEleven
 unfolding NeitherTwoNorEleven
 neither-two-nor-eleven p es r = kept-neither (reached p es) (reached-keeps p es r)
 
--- ---- u ≤ c and S ≤ 64
+-- ---- u ≤ c and S ≤ places
 unfoldable pub CeilingsKept : Type 0
 CeilingsKept = (p : Plan) (es : List Event) → Run p es
-    → ((a : ℕ) → a < parties p → u (reached p es) a ≤ ceilingAt p a) × (shareOf p (u (reached p es)) ≤ 64)
+    → ((a : ℕ) → a < parties p → u (reached p es) a ≤ ceilingAt p a) × (shareOf p (u (reached p es)) ≤ places)
 
 pub ceilings-kept : CeilingsKept
 unfolding CeilingsKept places
@@ -99,18 +99,18 @@ pub record Apart (p : Plan) (i j : ℕ) (s d : Session) : Type 0 where
 
 -- one place: its two numbers are numbers of 32 bits, and never the same
 pub record Own (i : ℕ) (s : Session) : Type 0 where
-  pub control : controlNumber (s .usage) i < 4294967296
-  pub user : userNumber (s .usage) i < 4294967296
-  pub kinds : (j v : ℕ) → j < 64 → controlNumber (s .usage) i ≢ userNumber v j
+  pub control : controlNumber (s .usage) i < teids
+  pub user : userNumber (s .usage) i < teids
+  pub kinds : (j v : ℕ) → j < places → controlNumber (s .usage) i ≢ userNumber v j
 
 unfoldable pub NoneShared : Type 0
-NoneShared = (p : Plan) (es : List Event) → Run p es → (i : ℕ) → i < 64
+NoneShared = (p : Plan) (es : List Event) → Run p es → (i : ℕ) → i < places
     → Own i (at (reached p es) i)
-    × ((j : ℕ) → j < 64 → i ≢ j → isFree (at (reached p es) i) ≡ false → isFree (at (reached p es) j) ≡ false
+    × ((j : ℕ) → j < places → i ≢ j → isFree (at (reached p es) i) ≡ false → isFree (at (reached p es) j) ≡ false
     → Apart p i j (at (reached p es) i) (at (reached p es) j))
 
-addresses-apart : (pool i j : ℕ) → i < 64 → j < 64 → i ≢ j → addressOf pool i ≢ addressOf pool j
-unfolding addressOf
+addresses-apart : (pool i j : ℕ) → i < places → j < places → i ≢ j → addressOf pool i ≢ addressOf pool j
+unfolding addressOf places addresses
 addresses-apart pool i j h k n e = n (omega arith)
 
 has-id : (s : Session) → isFree s ≡ false → hasId (s .imsi) (s .ebi) s ≡ true

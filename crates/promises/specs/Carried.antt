@@ -26,7 +26,7 @@ use Rattle.timing.specs.Outcome.{State, leastReply}
 use Rattle.gpdu.specs.declared.Header.the-variants as H
 use Rattle.gpdu.specs.Header.{ours, extended, optional, typeTaken, lengthOf, teidOf, refusalOf, headerOf}
 use Rattle.gpdu.specs.Header.{teid-there, header-packet, size-optional, size-plain, optional-plain}
-use Rattle.gpdu.specs.Extensions.{Walk, extensionsOf, extent, beyond, ext-end, ext-next}
+use Rattle.gpdu.specs.Extensions.{Walk, extensionsOf, extent, beyond, ext-end, ext-next, firstMust}
 use Rattle.gpdu.specs.User.{userOf, user-plain, user-extended}
 use Rattle.userside.specs.UserSide.{Took, took, headerTaken, packetTaken, userTaken, user-read}
 use Rattle.promises.specs.Run.{Kept}
@@ -40,7 +40,7 @@ pub record Extension : Type 0 where
 
 -- it need not be understood; with its length and the next type it fills 1 to 255 units of 4 octets
 unfoldable pub passable : Extension → Bool
-passable e = leb 1 (e .type) && ltb (e .type) 128 && eqb ((length (e .content) + 2) % 4) 0 && leb (length (e .content) + 2) 1020
+passable e = leb 1 (e .type) && ltb (e .type) firstMust && eqb ((length (e .content) + 2) % 4) 0 && leb (length (e .content) + 2) 1020
 
 -- the type that stands before a chain: 0 where no more follow
 unfoldable pub typeOf : List Extension → ℕ
@@ -79,8 +79,8 @@ pub record Carried (i : ℕ) (x reply d : List ℕ) (w : Took) : Type 0 where
 
 -- from any table that keeps its rules
 unfoldable pub AllCarried : Type 0
-AllCarried = (s : State) → Kept s → (i : ℕ) → i < 64 → isFree (at s i) ≡ false
-    → (first : ℕ) (b : Between) (x reply : List ℕ) → ours first ≡ true → suits first b ≡ true → length (behind b x) < 65536 → 128 ≤ length reply
+AllCarried = (s : State) → Kept s → (i : ℕ) → i < places → isFree (at s i) ≡ false
+    → (first : ℕ) (b : Between) (x reply : List ℕ) → ours first ≡ true → suits first b ≡ true → length (behind b x) < 65536 → leastReply ≤ length reply
     → Carried i x reply (packet first (userNumber (at s i .usage) i) (behind b x))
     (userTaken (s .node) (s .table) (packet first (userNumber (at s i .usage) i) (behind b x)) reply)
 
@@ -117,10 +117,10 @@ module _ (e : Extension) (t : ℕ) (r x : List ℕ) (ok : passable e ≡ true) w
   unfolding passable
   one-passed =
       let a : leb 1 (e .type) ≡ true = search (and-left, and-right) in
-      let b : ltb (e .type) 128 ≡ true = search (and-left, and-right) in
+      let b : ltb (e .type) firstMust ≡ true = search (and-left, and-right) in
       let c : eqb ((length (e .content) + 2) % 4) 0 ≡ true = search (and-left, and-right) in
       let u = leb-true 1 (e .type) a in
-      let v = ltb-true (e .type) 128 b in
+      let v = ltb-true (e .type) firstMust b in
       let w = eqb-true ((length (e .content) + 2) % 4) 0 c in
       let is : n ≡ extent whole = omega arith in
       let fit : (eqb n 0 || ltb (length whole) n) ≡ false = rw (ne-eqb n 0 (λ z. omega arith), le-ltb (length whole) n long) in
@@ -151,11 +151,11 @@ module _ (first n : ℕ) (b : List ℕ) (small : length b < 65536) (good : ours 
       let e : (optional first && ltb (length d) 12) ≡ false = rw packet-long o in
       rw (a, good, c, e)
 
-  packet-number : n < 4294967296 → teidOf (packet first n b) ≡ n
-  unfolding packet octetsOf numberOf numberFrom
+  packet-number : n < teids → teidOf (packet first n b) ≡ n
+  unfolding packet octetsOf numberOf numberFrom teids
   packet-number h = teid-there (packet first n b) (omega arith) ∙ number-back 4 n h
 
-  packet-header : n < 4294967296 → headerOf (packet first n b) ≡ H.Packet (record { 0 = n })
+  packet-header : n < teids → headerOf (packet first n b) ≡ H.Packet (record { 0 = n })
   unfolding packet octetsOf
   packet-header h = header-packet (packet first n b) (λ e. omega arith) ∙ ap (λ (m : ℕ). H.Packet (record { 0 = m })) (packet-number h)
 
@@ -208,7 +208,7 @@ left-of first n (extensions a b c k) x =
     sym (drop-drop (length (chain k)) 12 (packet first n (behind (extensions a b c k) x))) ∙ drop-front (chain k) x
 
 -- ---- whoever is live in a table that keeps its rules has a use, and is found by its number
-module _ (s : State) (k : Kept s) (i : ℕ) (h : i < 64) (live : isFree (at s i) ≡ false) where
+module _ (s : State) (k : Kept s) (i : ℕ) (h : i < places) (live : isFree (at s i) ≡ false) where
   rules : Rules (s .node .plan) (s .node .echo) (s .node .next) (s .table)
   rules = rules-of (s .node) (s .table) k
 
@@ -222,7 +222,7 @@ module _ (s : State) (k : Kept s) (i : ℕ) (h : i < 64) (live : isFree (at s i)
       let u : leb 1 (at s i .usage) ≡ true = search (and-left) in
       leb-true 1 (at s i .usage) u
 
-  small-number : userNumber (at s i .usage) i < 4294967296
+  small-number : userNumber (at s i .usage) i < teids
   unfolding places teids
   small-number = number-fits userOffset (at s i .usage) i user-fits h (ok-usage (boundsOf (s .node .plan)) (at s i) ok)
 
@@ -234,7 +234,7 @@ module _ (s : State) (k : Kept s) (i : ℕ) (h : i < 64) (live : isFree (at s i)
       ∙ rw (number-holder userOffset (at s i .usage) i user-fits h used)
       (held-yes i (at s i .usage) (s .table) (omega arith) (rw (live, eq-eqb (at s i .usage) (at s i .usage) refl)))
 
-  handed : (first : ℕ) (b : Between) (x reply : List ℕ) → ours first ≡ true → suits first b ≡ true → length (behind b x) < 65536 → 128 ≤ length reply
+  handed : (first : ℕ) (b : Between) (x reply : List ℕ) → ours first ≡ true → suits first b ≡ true → length (behind b x) < 65536 → leastReply ≤ length reply
       → userTaken (s .node) (s .table) (packet first (userNumber (at s i .usage) i) (behind b x)) reply ≡ took 0 i 0 reply (front b)
   unfolding headerTaken packetTaken leastReply
   handed first b x reply g q l room =

@@ -109,7 +109,7 @@ settled-shared c seq node t node₀ t₀ reply (F.At i) e n =
     let q = every-in (λ x. not (repeats c seq x)) t i nobody n (g .0) in
     rw (not-repeat c seq (getD t i nobody) q (g .1 .1), ← g .1 .0)
 
-module _ (p : Plan) (s : State) (kept : Kept s) (plan : s .node .plan ≡ p) (d : List ℕ) (c : C.Create) (n : NewCreate p s d c) (reply : List ℕ) (room : 128 ≤ length reply) where
+module _ (p : Plan) (s : State) (kept : Kept s) (plan : s .node .plan ≡ p) (d : List ℕ) (c : C.Create) (n : NewCreate p s d c) (reply : List ℕ) (room : leastReply ≤ length reply) where
   abbrev seq : ℕ
   seq = headerOf d .sequence
 
@@ -119,7 +119,7 @@ module _ (p : Plan) (s : State) (kept : Kept s) (plan : s .node .plan ≡ p) (d 
   comes-to : controlTaken (s .node) (s .table) d reply ≡ shared c seq (heard c s .node) (asked c s) (s .node) (s .table) reply
   unfolding controlTaken askedTaken askedOf kindAsked kindBy requestAsked soundAsked createTaken heardCreate leastReply asked
   comes-to =
-      rw (le-ltb (length reply) 128 room, kept, n .sound .header, n .sound .kind, decoded)
+      rw (le-ltb (length reply) leastReply room, kept, n .sound .header, n .sound .kind, decoded)
       (settled-shared c seq (heard c s .node) (heard c s .table) (s .node) (s .table) reply (foundIn (hasId (c .imsi) (c .ebi)) (heard c s .table)) refl (n .new))
 
   asked-plan : heard c s .node .plan ≡ p

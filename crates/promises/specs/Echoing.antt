@@ -69,7 +69,7 @@ pub record Echoes (p : Plan) (later : List Event) (s : State) : Type 0 where
   pub last : eqb (s .node .echo .timer) 0 ≡ false → atRest (step tick s .node .echo) ≡ true → ticksIn later + 1 ≡ p .sends * p .resend
   pub number : (e : Event) → not (isTick e && eqb (s .node .echo .timer) 0) ≡ true → atRest (step e s .node .echo) ≡ false
       → 1 ≤ s .node .echo .sends → step e s .node .echo .number ≡ s .node .echo .number
-  pub octets : (reply : List ℕ) → 128 ≤ length reply → s .node .echo .timer ≡ 0 → SendsEcho s reply
+  pub octets : (reply : List ℕ) → leastReply ≤ length reply → s .node .echo .timer ≡ 0 → SendsEcho s reply
 
 -- from any table that keeps its rules under an accepted plan, where the echo has fallen due
 unfoldable pub EchoWhole : Type 0
@@ -248,9 +248,9 @@ module _ (p : Plan) where
             let a = rw (t .good .kept, t .good .plan, q) at n in
             impossible (sym (still (s .node .echo) (t .busy) z) ∙ a)
 
-    octets : (reply : List ℕ) → 128 ≤ length reply → s .node .echo .timer ≡ 0 → SendsEcho s reply
+    octets : (reply : List ℕ) → leastReply ≤ length reply → s .node .echo .timer ≡ 0 → SendsEcho s reply
     unfolding SendsEcho sendOf dueSent echoSent step left leastReply timed
-    octets reply room z = rw (le-ltb (length reply) 128 room, t .good .kept, eq-eqb (s .node .echo .timer) 0 z) (refl, refl)
+    octets reply room z = rw (le-ltb (length reply) leastReply room, t .good .kept, eq-eqb (s .node .echo .timer) 0 z) (refl, refl)
 
     echoes : Echoes p later s
     echoes = record {

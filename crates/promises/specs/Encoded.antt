@@ -43,6 +43,7 @@ use Rattle.promises.specs.Encoder.{controlFlags, userFlags, digitsOf, tu
 use Rattle.promises.specs.Encoder.{digits-each, digits-length, digits-back, create-bearer-fits}
 use Rattle.promises.specs.Encoder.{create-fits, context-fits, modify-fits, delete-fits}
 use Rattle.promises.specs.Written.{Word}
+use Rattle.values.specs.Tunnel.{v4Flag, interfaces}
 
 -- ---- unknown fields: those of another type or instance than the ones that are looked for
 pub record Name : Type 0 where
@@ -133,7 +134,7 @@ none-known : (n : List Name) (l k : List Sent) (kind inst : ℕ) → listed kind
     → firstOf k kind inst ≡ None → firstOf l kind inst ≡ None
 none-known n l k kind inst e q f = sym (first-known n l kind inst e) ∙ rw q f
 
-tunnel-good : (flags interface teid addr : ℕ) (behind : List ℕ) → 128 ≤ flags → flags % 64 ≡ interface → 0 < teid → Word teid → Word addr
+tunnel-good : (flags interface teid addr : ℕ) (behind : List ℕ) → v4Flag ≤ flags → flags % interfaces ≡ interface → 0 < teid → Word teid → Word addr
     → TunnelValue interface teid addr (tunnelOctets flags teid addr behind)
 unfolding tunnelOctets
 tunnel-good flags interface teid addr behind a b h t u =

@@ -207,7 +207,7 @@ tunnel-short : (flags teid addr : ℕ) (behind : List ℕ) → length (tunnelOct
 unfolding tunnelOctets octetsOf
 tunnel-short flags teid addr behind = omega arith
 
-name-short : (plan : Plan) (i : ℕ) → accepted plan ≡ true → i < parties plan → length (nameOf (getD (used plan) i noPoint)) ≤ 63
+name-short : (plan : Plan) (i : ℕ) → accepted plan ≡ true → i < parties plan → length (nameOf (getD (used plan) i noPoint)) ≤ longestName
 unfolding accepted nameOf pointOk longestName
 name-short plan i p h =
     let a : every pointOk (used plan) ≡ true = search (and-left, and-right) depth 5 in
@@ -246,7 +246,7 @@ module _ (x : Besides) (s : Short x) where
 
   pub create-fits : (plan : Plan) (c : C.Create) → accepted plan ≡ true → c .point < parties plan
       → every fits (createFields plan c x (createBearer c x)) ≡ true
-  unfolding createFields every
+  unfolding createFields every longestName
   create-fits plan c p h =
       let digits = digits-length 15 (c .imsi) in
       let most = packed-most (digitsOf 15 (c .imsi)) in

@@ -1,4 +1,4 @@
--- Send next due comes to an end: from any table that keeps its rules 65 sends, one for the echo and one for each place, leave nothing due. And
+-- Send next due comes to an end: from any table that keeps its rules one send more than there are places, one for the echo and one for each place, leave nothing due. And
 -- 17 is answered exactly when nothing is due.
 -- Assumes nothing.
 use Prim.Native.Nat.{ℕ, suc, _+_, _≤_}
@@ -36,11 +36,11 @@ pub record NothingDue (s : State) : Type 0 where
 
 -- a reply buffer that is not short
 unfoldable pub roomy : List ℕ → Bool
-roomy reply = leb 128 (length reply)
+roomy reply = leb leastReply (length reply)
 
 pub record SendsEnd : Type 0 where
   pub exactly : (s : State) → Kept s → (reply : List ℕ) → roomy reply ≡ true → (answered (send reply) s ≡ 17) ↔ NothingDue s
-  pub ends : (s : State) → Kept s → (replies : List (List ℕ)) → every roomy replies ≡ true → 65 ≤ length replies
+  pub ends : (s : State) → Kept s → (replies : List (List ℕ)) → every roomy replies ≡ true → places + 1 ≤ length replies
       → NothingDue (run (map send replies) s)
 
 -- ---- laws: how many requests are due, the echo's and the places'
@@ -66,7 +66,7 @@ none-idle s k z = record {
 module _ (reply : List ℕ) (room : roomy reply ≡ true) where
   long : ltb (length reply) leastReply ≡ false
   unfolding roomy leastReply
-  long = le-ltb (length reply) 128 (leb-true 128 (length reply) room)
+  long = le-ltb (length reply) leastReply (leb-true leastReply (length reply) room)
 
   -- nothing is due: 17, and nothing changes
   idle : (s : State) → Kept s → NothingDue s → sendOf (s .node) (s .table) reply ≡ noReply 17 (s .node) (s .table) reply

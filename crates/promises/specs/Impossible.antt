@@ -50,18 +50,18 @@ use Rattle.promises.specs.Examples.{oneParty, one-party-accepted, holdin
 pub record NotAllRefused : Type 0 where
   pub plan : accepted oneParty ≡ true
   pub octets : every isOctet first ≡ true
-  pub taken : (reply : List ℕ) → 128 ≤ length reply → answered (control first reply) (start oneParty) ≡ 0
+  pub taken : (reply : List ℕ) → leastReply ≤ length reply → answered (control first reply) (start oneParty) ≡ 0
 
 -- ---- a live count that is not taken from the records: one Create, one plan, all that goes with the records the same; only the records differ,
 -- and so does the answer
 pub record CountedFromRecords : Type 0 where
-  pub same : (r : List ℕ) → 128 ≤ length r → step (control first r) (start oneParty) .node ≡ start oneParty .node
-  pub admitted : (reply : List ℕ) → 128 ≤ length reply → answered (control second reply) (start oneParty) ≡ 0
-  pub noReply : (r reply : List ℕ) → 128 ≤ length r → 128 ≤ length reply → answered (control second reply) (step (control first r) (start oneParty)) ≡ 73
+  pub same : (r : List ℕ) → leastReply ≤ length r → step (control first r) (start oneParty) .node ≡ start oneParty .node
+  pub admitted : (reply : List ℕ) → leastReply ≤ length reply → answered (control second reply) (start oneParty) ≡ 0
+  pub noReply : (r reply : List ℕ) → leastReply ≤ length r → leastReply ≤ length reply → answered (control second reply) (step (control first r) (start oneParty)) ≡ 73
 
 -- the records of a fresh unit, and those with the first session
 abbrev freshRecs : List Session
-freshRecs = replicate 64 nobody
+freshRecs = replicate places nobody
 
 abbrev oneRecs : List Session
 oneRecs = changedAt (opened (openingOf (holding firstImsi) 3)) (freePlace (replaced firstImsi 5 freshRecs)) (replaced firstImsi 5 freshRecs)
@@ -77,11 +77,11 @@ planned : start oneParty .node .plan ≡ oneParty
 planned = start-plan oneParty one-party-accepted
 
 new-first : (s : State) → s .table ≡ freshRecs → NewCreate oneParty s first (holding firstImsi)
-unfolding holding heardBy noReply repeats hasId isFree blankAt every
+unfolding holding heardBy noReply repeats hasId isFree blankAt every places
 new-first s e = record { sound = first-sound; new = rw e refl }
 
 new-second : (s : State) → s .table ≡ freshRecs → NewCreate oneParty s second (holding secondImsi)
-unfolding holding heardBy noReply repeats hasId isFree blankAt every
+unfolding holding heardBy noReply repeats hasId isFree blankAt every places
 new-second s e = record { sound = second-sound; new = rw e refl }
 
 first-admitted : (s : State) → s .table ≡ freshRecs → admits oneParty (askedU (holding firstImsi) s) (holding firstImsi .point) ≡ true
@@ -100,7 +100,7 @@ not-all-refused = record {
 }
 
 -- the unit after the first Create
-module _ (r : List ℕ) (room : 128 ≤ length r) where
+module _ (r : List ℕ) (room : leastReply ≤ length r) where
   abbrev one : State
   one = step (control first r) (start oneParty)
 
@@ -130,7 +130,7 @@ module _ (r : List ℕ) (room : 128 ≤ length r) where
 
 -- the second has another IMSI, and finds the access point at its ceiling
 new-after : (s : State) → s .table ≡ oneRecs → NewCreate oneParty s second (holding secondImsi)
-unfolding holding openingOf opened heardBy noReply repeats hasId isFree blankAt freed changedAt replaced firstOf freePlace every
+unfolding holding openingOf opened heardBy noReply repeats hasId isFree blankAt freed changedAt replaced firstOf freePlace every places
 new-after s e = record { sound = second-sound; new = rw e refl }
 
 second-refused : (s : State) → s .table ≡ oneRecs → admits oneParty (askedU (holding secondImsi) s) (holding secondImsi .point) ≡ false
@@ -152,7 +152,7 @@ pub record EchoAnswered (s : State) (n : ℕ) (reply : List ℕ) : Type 0 where
   pub octet : getD (controlTaken (s .node) (s .table) (echo n) reply .reply) 6 0 ≡ n
 
 unfoldable pub NotOneReply : Type 0
-NotOneReply = (p : Plan) (es : List Event) → Run p es → (reply : List ℕ) → 128 ≤ length reply → (n : ℕ) → n < 256 → EchoAnswered (reached p es) n reply
+NotOneReply = (p : Plan) (es : List Event) → Run p es → (reply : List ℕ) → leastReply ≤ length reply → (n : ℕ) → n < 256 → EchoAnswered (reached p es) n reply
 
 echo-gate : (n : ℕ) → gateOf (echo n) ≡ 0
 unfolding echo gateOf bareTypes tunnelTypes notTaken flagOf versionOf flagP flagT kindOf lengthOf withTeid teidOf headerSize controlVersion numberOf numberFrom
@@ -173,14 +173,14 @@ overlay-at (x ∷ m) [] i h k = absurd (omega arith)
 overlay-at (x ∷ m) (y ∷ d) zero h k = refl
 overlay-at (x ∷ m) (y ∷ d) (suc i) h k = overlay-at m d i (omega arith) (omega arith)
 
-echo-octet : (n recovery : ℕ) (reply : List ℕ) → n < 256 → 128 ≤ length reply → getD (overlay (messages.echoOf 2 n recovery) reply) 6 0 ≡ n
-unfolding messages.echoOf octetsOf
+echo-octet : (n recovery : ℕ) (reply : List ℕ) → n < 256 → leastReply ≤ length reply → getD (overlay (messages.echoOf 2 n recovery) reply) 6 0 ≡ n
+unfolding messages.echoOf octetsOf leastReply
 echo-octet n recovery reply h room = overlay-at (messages.echoOf 2 n recovery) reply 6 (omega arith) (omega arith) ∙ omega arith
 
-echo-answer : (s : State) → Kept s → (reply : List ℕ) → 128 ≤ length reply → (n : ℕ)
+echo-answer : (s : State) → Kept s → (reply : List ℕ) → leastReply ≤ length reply → (n : ℕ)
     → controlTaken (s .node) (s .table) (echo n) reply ≡ echoTaken (s .node) (s .table) n (carried.echoOf (drop (headerOf (echo n) .fields) (echo n))) reply
 unfolding controlTaken askedTaken askedOf kindAsked kindBy leastReply
-echo-answer s k reply room n = rw (le-ltb (length reply) 128 room, k, echo-gate n, echo-kind n, echo-sequence n)
+echo-answer s k reply room n = rw (le-ltb (length reply) leastReply room, k, echo-gate n, echo-kind n, echo-sequence n)
 
 pub not-one-reply : NotOneReply
 unfolding NotOneReply answered echoTaken

@@ -61,7 +61,7 @@ everGone i usage (e ∷ es) s = gone usage (at s i) || everGone i usage es (step
 
 -- a place is live and is closed; after it any calls, N × T ticks among them
 unfoldable pub FreedInTime : Type 0
-FreedInTime = (p : Plan) (es : List Event) → Run p es → (i : ℕ) → i < 64 → at (reached p es) i .state ≡ 1
+FreedInTime = (p : Plan) (es : List Event) → Run p es → (i : ℕ) → i < places → at (reached p es) i .state ≡ 1
     → (later : List Event) → every ofOctets later ≡ true → prompt i later (step (close i) (reached p es)) ≡ true
     → p .sends * p .resend ≤ ticksIn later
     → everGone i (at (reached p es) i .usage) later (step (close i) (reached p es)) ≡ true
@@ -98,7 +98,7 @@ ticked-spends t n s c d g =
     less : s .own .timer - 1 + 1 + s .own .sends * t ≡ s .own .timer + s .own .sends * t
     less = split (eqb (s .own .timer) 0) (λ z. absurd (runs (eqb-true (s .own .timer) 0 z))) (λ z. let y = eqb-false (s .own .timer) 0 z in omega arith)
 
-module _ (p : Plan) (i : ℕ) (h : i < 64) where
+module _ (p : Plan) (i : ℕ) (h : i < places) where
   -- a state of a run under the plan
   pub record Good (s : State) : Type 0 where
     pub kept : Kept s

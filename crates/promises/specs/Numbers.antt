@@ -65,6 +65,7 @@ use Rattle.control.specs.Amends.{causeTaken, causeOn, notLive, movedOn, modifyB
 use Rattle.control.specs.Creates.{acceptedTaken, noRoom, openedAt, shared, isRepeat, settledAt, heardCreate, createTaken}
 use Rattle.control.specs.Control.{askedTaken, controlTaken}
 use Rattle.placeline.specs.Line.{lineBy, lineOf}
+use Rattle.readers.specs.Refusal.{notLiveCause, shortCause, wrongCause, missingCause, noRoomCause, unknownApnCause, addressTypeCause}
 
 -- the numbers that each call may answer, of a table that keeps its rules
 unfoldable pub freshNumbers : List ℕ
@@ -83,7 +84,8 @@ unfoldable pub lineNumbers : List ℕ
 lineNumbers = 0 ∷ 1 ∷ 10 ∷ []
 
 unfoldable pub controlNumbers : List ℕ
-controlNumbers = 0 ∷ 1 ∷ 3 ∷ 4 ∷ 5 ∷ 6 ∷ 7 ∷ 8 ∷ 9 ∷ 64 ∷ 67 ∷ 69 ∷ 70 ∷ 73 ∷ 78 ∷ 83 ∷ []
+controlNumbers = 0 ∷ 1 ∷ 3 ∷ 4 ∷ 5 ∷ 6 ∷ 7 ∷ 8 ∷ 9
+    ∷ notLiveCause ∷ shortCause ∷ wrongCause ∷ missingCause ∷ noRoomCause ∷ unknownApnCause ∷ addressTypeCause ∷ []
 
 -- what a control datagram is answered that is read and asks for nothing
 unfoldable pub silentNumbers : List ℕ

@@ -38,7 +38,7 @@ took-of s d reply = userTaken (s .node) (s .table) d reply
 -- handed up: it is a G-PDU, its number is the user number of the place in its present use, and what lies past the header with its extension
 -- headers is what is handed up
 pub record HandedUp (s : State) (d : List ℕ) (w : Took) : Type 0 where
-  pub place : w .place < 64
+  pub place : w .place < places
   pub live : isFree (at s (w .place)) ≡ false
   pub packet : typeOf d ≡ 255
   pub number : userNumber (at s (w .place) .usage) (w .place) ≡ teidOf d
@@ -104,7 +104,7 @@ packet-type d e n =
     or-split (eqb (typeOf d) echoType) (eqb (typeOf d) packetType) (header-passed d e .is-taken)
     (λ q. absurd (n (eqb-true (typeOf d) echoType q))) (λ q. eqb-true (typeOf d) packetType q)
 
-module _ (s : State) (k : Kept s) (size : length (s .table) ≡ 64) (d reply : List ℕ) where
+module _ (s : State) (k : Kept s) (size : length (s .table) ≡ places) (d reply : List ℕ) where
   silent-fair : (n : ℕ) → n ≢ 0 → Fairly s d (took n 0 0 reply (length d))
   silent-fair n h = record { handed = λ e f. absurd (h e); refused = λ e. refl; replied = λ e. refl }
 

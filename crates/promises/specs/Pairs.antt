@@ -61,7 +61,7 @@ pub record Lives (s : State) (reply : List ℕ) : Type 0 where
   pub kept : Kept s
   pub live : isFree (at s 0) ≡ false
   pub usage : at s 0 .usage ≡ 1
-  pub room : 128 ≤ length reply
+  pub room : leastReply ≤ length reply
 
 -- two access points with these guarantees and ceilings, and so many live sessions, as the sharing rule is asked
 pub record Shares (s : State) (c : C.Create) (g k u : List ℕ) : Type 0 where
@@ -78,9 +78,9 @@ Holds (handed d start x) = (s : State) (reply : List ℕ) → Lives s reply
 Holds (refused d number) = (s : State) (reply : List ℕ) → Lives s reply → userTaken (s .node) (s .table) d reply ≡ silent number (length d) reply
 Holds (unknown d teid) = (s : State) (reply : List ℕ) → Lives s reply
     → userTaken (s .node) (s .table) d reply ≡ replied 15 (errorIndication teid (s .node .plan .user)) (length d) reply
-Holds (asks g k u a number) = (s : State) (d reply : List ℕ) (c : C.Create) → Kept s → NewCreate (s .node .plan) s d c → 128 ≤ length reply
+Holds (asks g k u a number) = (s : State) (d reply : List ℕ) (c : C.Create) → Kept s → NewCreate (s .node .plan) s d c → leastReply ≤ length reply
     → Shares s c g k u → c .point ≡ a → answered (control d reply) s ≡ number
-Holds (answers d number m) = (s : State) (reply : List ℕ) → Kept s → 128 ≤ length reply
+Holds (answers d number m) = (s : State) (reply : List ℕ) → Kept s → leastReply ≤ length reply
     → controlTaken (s .node) (s .table) d reply ≡ outcome (record { number = number; size = length m; node = s .node }) (s .table) (overlay m reply)
 
 pub pairs : List Pair
@@ -94,9 +94,9 @@ pairs =
     ∷ handed (0x34 ∷ 0xFF ∷ 0 ∷ 0x0C ∷ 0 ∷ 0 ∷ 1 ∷ 0x80 ∷ 0 ∷ 0 ∷ 0 ∷ 0x40 ∷ 1 ∷ 0x12 ∷ 0x34 ∷ 0 ∷ 0x45 ∷ 0 ∷ 0 ∷ 0 ∷ []) 16 (0x45 ∷ 0 ∷ 0 ∷ 0 ∷ [])
     ∷ refused (0x34 ∷ 0xFF ∷ 0 ∷ 0x0C ∷ 0 ∷ 0 ∷ 1 ∷ 0x80 ∷ 0 ∷ 0 ∷ 0 ∷ 0xC0 ∷ 1 ∷ 0x12 ∷ 0x34 ∷ 0 ∷ 0x45 ∷ 0 ∷ 0 ∷ 0 ∷ []) 14
     ∷ refused (0x34 ∷ 0xFF ∷ 0 ∷ 0x0C ∷ 0 ∷ 0 ∷ 1 ∷ 0x80 ∷ 0 ∷ 0 ∷ 0 ∷ 0x40 ∷ 0 ∷ 0x12 ∷ 0x34 ∷ 0 ∷ 0x45 ∷ 0 ∷ 0 ∷ 0 ∷ []) 13
-    ∷ asks (10 ∷ 20 ∷ []) (64 ∷ 64 ∷ []) (44 ∷ 0 ∷ []) 0 73
-    ∷ asks (10 ∷ 20 ∷ []) (64 ∷ 64 ∷ []) (44 ∷ 0 ∷ []) 1 0
-    ∷ asks (10 ∷ 20 ∷ []) (64 ∷ 64 ∷ []) (43 ∷ 0 ∷ []) 0 0
+    ∷ asks (10 ∷ 20 ∷ []) (places ∷ places ∷ []) (44 ∷ 0 ∷ []) 0 73
+    ∷ asks (10 ∷ 20 ∷ []) (places ∷ places ∷ []) (44 ∷ 0 ∷ []) 1 0
+    ∷ asks (10 ∷ 20 ∷ []) (places ∷ places ∷ []) (43 ∷ 0 ∷ []) 0 0
     ∷ answers (0x20 ∷ 0 ∷ 0 ∷ 0 ∷ 0 ∷ 0 ∷ 0 ∷ 0 ∷ []) 5 (0x40 ∷ 3 ∷ 0 ∷ 4 ∷ 0 ∷ 0 ∷ 0 ∷ 0 ∷ [])
     ∷ []
 
@@ -115,7 +115,7 @@ nobody-has s k = let z = rules-of (s .node) (s .table) k .size in owner-is userO
 
 handed-up : (d : List ℕ) (start : ℕ) → userOf d .number ≡ 0 → userOf d .size ≡ start → headerOf d ≡ H.Packet (record { 0 = 384 })
     → (s : State) (reply : List ℕ) → Lives s reply → userTaken (s .node) (s .table) d reply ≡ took 0 0 0 reply start
-unfolding headerTaken packetTaken leastReply numberAt base userOffset
+unfolding headerTaken packetTaken leastReply numberAt base userOffset places
 handed-up d start n z q s reply h =
     let own : ownerOf userOffset (userNumber (at s 0 .usage) 0) (s .table) ≡ F.At 0 = live-owner s (h .kept) 0 (omega arith) (h .live) in
     let o : ownerOf userOffset 384 (s .table) ≡ F.At 0 = rw (h .usage) at own in
@@ -135,14 +135,14 @@ unknown-so d teid n q s reply h o = user-read (s .node) (s .table) d reply (h .r
 
 -- the sharing rule by the figures of a row
 abbrev rule : List ℕ → List ℕ → List ℕ → ℕ → Bool
-rule g k u a = ltb (getD u a 0) (getD k a 0) && (ltb (getD u a 0) (getD g a 0) || ltb (max (getD u 1 0) (getD g 1 0) + (max (getD u 0 0) (getD g 0 0) + 0)) 64)
+rule g k u a = ltb (getD u a 0) (getD k a 0) && (ltb (getD u a 0) (getD g a 0) || ltb (max (getD u 1 0) (getD g 1 0) + (max (getD u 0 0) (getD g 0 0) + 0)) places)
 
 by-figures : (n : ℕ) (f h v : ℕ → ℕ) (g k u : List ℕ) (a : ℕ) → n ≡ 2 → ((b : ℕ) → f b ≡ getD g b 0) → ((b : ℕ) → h b ≡ getD k b 0) → ((b : ℕ) → v b ≡ getD u b 0)
     → admitted n f h v a ≡ rule g k u a
 unfolding admitted sharable share sumTo places
 by-figures n f h v g k u a e x y z = rw (e, ← x a, ← x 0, ← x 1, ← y a, ← z a, ← z 0, ← z 1)
 
-module _ (g k u : List ℕ) (a : ℕ) (s : State) (d reply : List ℕ) (c : C.Create) (kept : Kept s) (n : NewCreate (s .node .plan) s d c) (room : 128 ≤ length reply)
+module _ (g k u : List ℕ) (a : ℕ) (s : State) (d reply : List ℕ) (c : C.Create) (kept : Kept s) (n : NewCreate (s .node .plan) s d c) (room : leastReply ≤ length reply)
     (h : Shares s c g k u) (e : c .point ≡ a) where
   ruled : admits (s .node .plan) (askedU c s) (c .point) ≡ rule g k u a
   ruled =
@@ -155,11 +155,11 @@ module _ (g k u : List ℕ) (a : ℕ) (s : State) (d reply : List ℕ) (c : C.Cr
   asks-no : rule g k u a ≡ false → answered (control d reply) s ≡ 73
   asks-no t = number-no (s .node .plan) s kept refl d c n reply room (ruled ∙ t)
 
-version-so : (d : List ℕ) → gateOf d ≡ 5 → (s : State) (reply : List ℕ) → Kept s → 128 ≤ length reply
+version-so : (d : List ℕ) → gateOf d ≡ 5 → (s : State) (reply : List ℕ) → Kept s → leastReply ≤ length reply
     → controlTaken (s .node) (s .table) d reply
     ≡ outcome (record { number = 5; size = length versionNotSupported; node = s .node }) (s .table) (overlay versionNotSupported reply)
 unfolding controlTaken askedTaken askedOf leastReply
-version-so d e s reply kept room = rw (le-ltb (length reply) 128 room, kept, e)
+version-so d e s reply kept room = rw (le-ltb (length reply) leastReply room, kept, e)
 
 pub pairs-hold : PairsHold
 unfolding PairsHold AllHold pairs Holds numberAt nextUse places base controlOffset userOffset lastUse teids numberFrom numberOf ours optional sizeOf typeTaken teidOf refusalOf headerOf sequenceOf unfit walkOf extensionsOf firstType userOf gateOf versionOf controlVersion versionNotSupported
@@ -182,11 +182,11 @@ pairs-hold = (
                 (
                   (λ s reply h. refused-so _ 13 refl (λ z. omega arith) s reply h),
                   (
-                    (λ s d reply c k n room h e. asks-no (10 ∷ 20 ∷ []) (64 ∷ 64 ∷ []) (44 ∷ 0 ∷ []) 0 s d reply c k n room h e refl),
+                    (λ s d reply c k n room h e. asks-no (10 ∷ 20 ∷ []) (places ∷ places ∷ []) (44 ∷ 0 ∷ []) 0 s d reply c k n room h e refl),
                     (
-                      (λ s d reply c k n room h e. asks-yes (10 ∷ 20 ∷ []) (64 ∷ 64 ∷ []) (44 ∷ 0 ∷ []) 1 s d reply c k n room h e refl),
+                      (λ s d reply c k n room h e. asks-yes (10 ∷ 20 ∷ []) (places ∷ places ∷ []) (44 ∷ 0 ∷ []) 1 s d reply c k n room h e refl),
                       (
-                        (λ s d reply c k n room h e. asks-yes (10 ∷ 20 ∷ []) (64 ∷ 64 ∷ []) (43 ∷ 0 ∷ []) 0 s d reply c k n room h e refl),
+                        (λ s d reply c k n room h e. asks-yes (10 ∷ 20 ∷ []) (places ∷ places ∷ []) (43 ∷ 0 ∷ []) 0 s d reply c k n room h e refl),
                         ((λ s reply k room. version-so _ refl s reply k room), tt),
                       ),
                     ),

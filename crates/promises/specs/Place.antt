@@ -87,7 +87,7 @@ moved-after s x q l g = let m = l .after g in record { state = m .state; own = m
 -- taking a place steps its use, so that it is never the same
 next-other : (usage : ℕ) → nextUse usage ≢ usage
 unfolding nextUse lastUse
-next-other usage e = split (ltb usage 16777215) (λ t. let f = rw t at e in omega arith) (λ t. let f = rw t at e in omega (arith, tests))
+next-other usage e = split (ltb usage lastUse) (λ t. let f = rw t at e in omega arith) (λ t. let f = rw t at e in omega (arith, tests))
 
 opened-after : (s x : Session) (o : Opening) → x .usage ≡ s .usage → After s (opened o x)
 unfolding gone opened isFree

@@ -10,7 +10,7 @@ use lib.Dec.{eqb, leb, ltb}
 use borrow.Author.Tests.{eqb-true, ltb-true, leb-true, lt-ltb, le-ltb}
 use Rattle.octets.specs.Choice.{split, and-left, and-right}
 use Rattle.octets.specs.Overlay.{overlay}
-use Rattle.tunnel.specs.Numbering.{places, lastUse}
+use Rattle.tunnel.specs.Numbering.{places, lastUse, teids}
 use Rattle.plan.specs.Limits.{parties}
 use Rattle.plan.specs.Plan.{parties-four}
 use Rattle.session.specs.declared.Session.{Session}
@@ -26,8 +26,8 @@ use Rattle.promises.specs.Bounds.{at}
 
 -- the peer's TEIDs are numbers of 32 bits, as their type has it
 unfoldable pub LinesWhole : Type 0
-LinesWhole = (s : State) → Kept s → (i : ℕ) → i < 64 → at s i .control < 4294967296 → at s i .user < 4294967296
-    → (reply : List ℕ) → 128 ≤ length reply
+LinesWhole = (s : State) → Kept s → (i : ℕ) → i < places → at s i .control < teids → at s i .user < teids
+    → (reply : List ℕ) → leastReply ≤ length reply
     → lineOf (s .node) (s .table) i reply
     ≡ outcome (record { number = 0; size = length (lineText i (at s i)); node = s .node }) (s .table) (overlay (lineText i (at s i)) reply)
 
@@ -61,18 +61,18 @@ module _ (b : Bounds) (few : b .parties ≤ 4) (x : Session) (ok : recordOk b x 
       let i : ltb (x .imsi) 1000000000000000 ≡ true = search (and-left, and-right) depth 9 in
       let p : ltb (x .point) (b .parties) ≡ true = search (and-left, and-right) depth 9 in
       let e : leb (x .ebi) 15 ≡ true = search (and-left, and-right) depth 9 in
-      let c : leb (x .created) 16777215 ≡ true = search (and-left, and-right) depth 9 in
+      let c : leb (x .created) lastCreated ≡ true = search (and-left, and-right) depth 9 in
       let i′ = ltb-true (x .imsi) 1000000000000000 i in
       let p′ = ltb-true (x .point) (b .parties) p in
       let e′ = leb-true (x .ebi) 15 e in
-      let c′ = leb-true (x .created) 16777215 c in
+      let c′ = leb-true (x .created) lastCreated c in
       record { imsi = omega arith; point = omega arith; ebi = omega arith; created = omega arith }
 
   small : Small x
   small = split (isFree x) small-free small-live
 
 pub lines-whole : LinesWhole
-unfolding LinesWhole lineOf lineBy leastReply places boundsOf lastUse
+unfolding LinesWhole lineOf lineBy leastReply places boundsOf lastUse teids
 lines-whole s k i h control user reply room =
     let r = rules-of (s .node) (s .table) k in
     let ok = record-ok (s .node .plan) (s .node .echo) (s .node .next) (s .table) r i in
@@ -80,7 +80,7 @@ lines-whole s k i h control user reply room =
     let z = r .size in
     let g = ok-usage (boundsOf (s .node .plan)) (at s i) ok in
     rw (
-      le-ltb (length reply) 128 room,
+      le-ltb (length reply) leastReply room,
       k,
       lt-ltb i (length (s .table)) (omega arith),
       line-fits (at s i) (m .imsi) (m .point) (m .ebi) (omega arith) (omega arith) (m .created) (omega arith) i reply (omega arith) room,

@@ -111,9 +111,9 @@ unfolding tickOf closeOf sendOf controlTaken lineOf lineBy noReply leastReply
 two-always = record {
   tick = λ node t e. rw e;
   close = λ node t place e. rw e;
-  send = λ node t reply h e. rw (le-ltb (length reply) 128 h, e);
-  control = λ node t d reply h e. rw (le-ltb (length reply) 128 h, e);
-  line = λ node t place reply h e. rw (le-ltb (length reply) 128 h, e);
+  send = λ node t reply h e. rw (le-ltb (length reply) leastReply h, e);
+  control = λ node t d reply h e. rw (le-ltb (length reply) leastReply h, e);
+  line = λ node t place reply h e. rw (le-ltb (length reply) leastReply h, e);
   user = λ node t d reply h e. user-broken node t d reply h e;
 }
 
@@ -127,8 +127,8 @@ pub record OneFirst : Type 0 where
 pub one-first : OneFirst
 unfolding sendOf controlTaken lineOf lineBy noReply leastReply
 one-first = record {
-  send = λ node t reply h. rw (lt-ltb (length reply) 128 h);
-  control = λ node t d reply h. rw (lt-ltb (length reply) 128 h);
-  line = λ node t place reply h. rw (lt-ltb (length reply) 128 h);
+  send = λ node t reply h. rw (lt-ltb (length reply) leastReply h);
+  control = λ node t d reply h. rw (lt-ltb (length reply) leastReply h);
+  line = λ node t place reply h. rw (lt-ltb (length reply) leastReply h);
   user = λ node t d reply h. user-short node t d reply h;
 }

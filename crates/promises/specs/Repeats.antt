@@ -46,15 +46,15 @@ use Rattle.promises.specs.Creates.{SoundCreate, NewCreate, heard, repeat
 -- place i, as it is after Recovery, has the session that the Create repeats
 unfoldable pub RepeatsAnswered : Type 0
 RepeatsAnswered = (p : Plan) (es : List Event) → Run p es → (d : List ℕ) (c : C.Create) → SoundCreate p d c
-    → (i : ℕ) → i < 64 → repeats c (headerOf d .sequence) (getD (heard c (reached p es) .table) i nobody) ≡ true
-    → (reply : List ℕ) → 128 ≤ length reply
+    → (i : ℕ) → i < places → repeats c (headerOf d .sequence) (getD (heard c (reached p es) .table) i nobody) ≡ true
+    → (reply : List ℕ) → leastReply ≤ length reply
     → controlTaken (reached p es .node) (reached p es .table) d reply
     ≡ acceptedTaken (headerOf d .sequence) i (getD (heard c (reached p es) .table) i nobody) (heard c (reached p es) .node) (heard c (reached p es) .table) reply
 
 -- so a Create that was accepted, sent again with the same buffer lent, has the very same outcome: number, reply, and table
 unfoldable pub AgainTheSame : Type 0
 AgainTheSame = (p : Plan) (es : List Event) → Run p es → (d : List ℕ) (c : C.Create) → every isOctet d ≡ true → NewCreate p (reached p es) d c
-    → admits p (askedU c (reached p es)) (c .point) ≡ true → (reply : List ℕ) → 128 ≤ length reply
+    → admits p (askedU c (reached p es)) (c .point) ≡ true → (reply : List ℕ) → leastReply ≤ length reply
     → controlTaken (step (control d reply) (reached p es) .node) (step (control d reply) (reached p es) .table) d reply
     ≡ controlTaken (reached p es .node) (reached p es .table) d reply
 
@@ -67,14 +67,14 @@ found-it p l i once h e =
     let s = found-only p l (firstOf p l) i once k h (first-passes p l nobody k) e in
     rw (lt-ltb (firstOf p l) (length l) k, s)
 
-module _ (p : Plan) (s : State) (kept : Kept s) (plan : s .node .plan ≡ p) (d : List ℕ) (c : C.Create) (n : SoundCreate p d c) (reply : List ℕ) (room : 128 ≤ length reply) where
+module _ (p : Plan) (s : State) (kept : Kept s) (plan : s .node .plan ≡ p) (d : List ℕ) (c : C.Create) (n : SoundCreate p d c) (reply : List ℕ) (room : leastReply ≤ length reply) where
   decoded : createOf (s .node .plan) (drop (headerOf d .fields) d) ≡ D.Sound (Q.Create c)
   decoded = rw plan (n .fields)
 
   rules : Rules (heard c s .node .plan) (heard c s .node .echo) (heard c s .node .next) (heard c s .table)
   rules = rules-of (heard c s .node) (heard c s .table) (heard-keeps (s .node) (s .table) kept (c .recovery))
 
-  repeated : (i : ℕ) → i < 64 → repeats c (headerOf d .sequence) (getD (heard c s .table) i nobody) ≡ true
+  repeated : (i : ℕ) → i < places → repeats c (headerOf d .sequence) (getD (heard c s .table) i nobody) ≡ true
       → controlTaken (s .node) (s .table) d reply ≡ acceptedTaken (headerOf d .sequence) i (getD (heard c s .table) i nobody) (heard c s .node) (heard c s .table) reply
   unfolding controlTaken askedTaken askedOf kindAsked kindBy requestAsked soundAsked createTaken heardCreate settledAt leastReply repeats places
   repeated i h e =
@@ -82,7 +82,7 @@ module _ (p : Plan) (s : State) (kept : Kept s) (plan : s .node .plan ≡ p) (d 
       let b = and-right (hasId (c .imsi) (c .ebi) (getD (heard c s .table) i nobody)) (isRepeat c (headerOf d .sequence) (getD (heard c s .table) i nobody)) e in
       let z = rules .size in
       let f = found-it (hasId (c .imsi) (c .ebi)) (heard c s .table) i (rules .once (c .imsi) (c .ebi)) (omega arith) a in
-      rw (le-ltb (length reply) 128 room, kept, n .header, n .kind, decoded, f, b)
+      rw (le-ltb (length reply) leastReply room, kept, n .header, n .kind, decoded, f, b)
 
 pub repeats-answered : RepeatsAnswered
 unfolding RepeatsAnswered
@@ -99,7 +99,7 @@ heard-again R.None node t t₁ = (refl, refl)
 heard-again (R.Value v) node t t₁ = rw (eq-eqb v v refl) (refl, refl)
 
 module _ (p : Plan) (s : State) (kept : Kept s) (plan : s .node .plan ≡ p) (good : accepted p ≡ true) (d : List ℕ) (octets : every isOctet d ≡ true) (c : C.Create)
-    (n : NewCreate p s d c) (reply : List ℕ) (room : 128 ≤ length reply) (e : admits p (askedU c s) (c .point) ≡ true) where
+    (n : NewCreate p s d c) (reply : List ℕ) (room : leastReply ≤ length reply) (e : admits p (askedU c s) (c .point) ≡ true) where
   abbrev number : ℕ
   number = headerOf d .sequence
 
@@ -140,7 +140,7 @@ module _ (p : Plan) (s : State) (kept : Kept s) (plan : s .node .plan ≡ p) (go
   then-plan : heard c s .node .plan ≡ p
   then-plan = heard-plan (c .recovery) (s .node) (s .table) ∙ plan
 
-  few : place < 64
+  few : place < places
   unfolding places
   few =
       let z = rules-of (then .node) (then .table) then-kept .size in

@@ -54,10 +54,10 @@ pub record Resends (p : Plan) (i usage : ℕ) (later : List Event) (s : State) :
   pub number : (e : Event) → ofOctets e ≡ true → not (isTick e && isDue (at s i)) ≡ true → gone usage (at (step e s) i) ≡ false
       → 1 ≤ at s i .own .sends → at (step e s) i .own .number ≡ at s i .own .number
   -- and this is what goes out when it is its turn: the echo goes first, then the lowest place that is due
-  pub octets : (reply : List ℕ) → 128 ≤ length reply → (s .node .echo .timer ≡ 0 → ⊥) → duePlace (s .table) ≡ i → Sends i s reply
+  pub octets : (reply : List ℕ) → leastReply ≤ length reply → (s .node .echo .timer ≡ 0 → ⊥) → duePlace (s .table) ≡ i → Sends i s reply
 
 unfoldable pub ResendsWhole : Type 0
-ResendsWhole = (p : Plan) (es : List Event) → Run p es → (i : ℕ) → i < 64 → at (reached p es) i .state ≡ 1
+ResendsWhole = (p : Plan) (es : List Event) → Run p es → (i : ℕ) → i < places → at (reached p es) i .state ≡ 1
     → (later : List Event) → every ofOctets later ≡ true → prompt i later (step (close i) (reached p es)) ≡ true
     → everGone i (at (reached p es) i .usage) later (step (close i) (reached p es)) ≡ false
     → Resends p i (at (reached p es) i .usage) later (run later (step (close i) (reached p es)))
@@ -67,7 +67,7 @@ or-no : (a b : Bool) → (a || b) ≡ false → (a ≡ false) × (b ≡ false)
 or-no true b e = impossible (sym e)
 or-no false b e = (refl, e)
 
-module _ (p : Plan) (i : ℕ) (h : i < 64) (a : accepted p ≡ true) (usage : ℕ) where
+module _ (p : Plan) (i : ℕ) (h : i < places) (a : accepted p ≡ true) (usage : ℕ) where
   -- what holds of the place from call to call
   record There (m : ℕ) (s : State) : Type 0 where
     good : Good p i h s
@@ -141,11 +141,11 @@ module _ (p : Plan) (i : ℕ) (h : i < 64) (a : accepted p ≡ true) (usage : �
         → 1 ≤ at s i .own .sends → at (step e s) i .own .number ≡ at s i .own .number
     number e o n f m = step-spends p i h e s (t .good) a (t .closing) n (rw (t .same-use) f) .number m
 
-    octets : (reply : List ℕ) → 128 ≤ length reply → (s .node .echo .timer ≡ 0 → ⊥) → duePlace (s .table) ≡ i → Sends i s reply
+    octets : (reply : List ℕ) → leastReply ≤ length reply → (s .node .echo .timer ≡ 0 → ⊥) → duePlace (s .table) ≡ i → Sends i s reply
     unfolding Sends sendOf dueSent placeSent step left leastReply sent turned
     octets reply room n e =
         let k = takenNumber (s .node .next) (s .node .echo) (s .table) in
-        rw (le-ltb (length reply) 128 room, t .good .kept, ne-eqb (s .node .echo .timer) 0 n, e, lt-ltb i (length (s .table)) (there p i h s (t .good)), changed-here (sent (s .node .plan .resend) k) i (s .table) nobody (there p i h s (t .good)))
+        rw (le-ltb (length reply) leastReply room, t .good .kept, ne-eqb (s .node .echo .timer) 0 n, e, lt-ltb i (length (s .table)) (there p i h s (t .good)), changed-here (sent (s .node .plan .resend) k) i (s .table) nobody (there p i h s (t .good)))
         (refl, refl)
 
     resends : Resends p i usage later s

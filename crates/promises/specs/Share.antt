@@ -24,7 +24,7 @@ use Rattle.table.specs.Rules.{liveOn}
 use Rattle.table.specs.Change.{nobody, changedAt}
 use Rattle.requests.specs.declared.Create as C
 use Rattle.header.specs.Header.{headerOf}
-use Rattle.timing.specs.Outcome.{State, Outcome}
+use Rattle.timing.specs.Outcome.{State, Outcome, leastReply}
 use Rattle.control.specs.Amends.{causeTaken}
 use Rattle.control.specs.Creates.{acceptedTaken, noRoom}
 use Rattle.control.specs.Control.{controlTaken}
@@ -42,9 +42,9 @@ pub record Judged (p : Plan) (s : State) (d : List ℕ) (c : C.Create) (reply : 
 
 unfoldable pub RefusalsJust : Type 0
 RefusalsJust = (p : Plan) (es : List Event) → Run p es → (d : List ℕ) (c : C.Create) → NewCreate p (reached p es) d c
-    → (reply : List ℕ) → 128 ≤ length reply → Judged p (reached p es) d c reply
+    → (reply : List ℕ) → leastReply ≤ length reply → Judged p (reached p es) d c reply
 
-module _ (p : Plan) (s : State) (kept : Kept s) (plan : s .node .plan ≡ p) (d : List ℕ) (c : C.Create) (n : NewCreate p s d c) (reply : List ℕ) (room : 128 ≤ length reply) where
+module _ (p : Plan) (s : State) (kept : Kept s) (plan : s .node .plan ≡ p) (d : List ℕ) (c : C.Create) (n : NewCreate p s d c) (reply : List ℕ) (room : leastReply ≤ length reply) where
   pub number-yes : admits p (askedU c s) (c .point) ≡ true → answered (control d reply) s ≡ 0
   unfolding answered acceptedOf acceptedTaken
   number-yes e = ap (λ (o : Outcome). o .answer .number) (create-accepted p s kept plan d c n reply room e)
@@ -69,7 +69,7 @@ refusals-just p es r d c n reply room = judged p (reached p es) (reached-keeps p
 unfoldable pub GuaranteesKept : Type 0
 GuaranteesKept = (p : Plan) (es : List Event) → Run p es → (d : List ℕ) (c : C.Create) → NewCreate p (reached p es) d c
     → u (reached p es) (c .point) < guaranteeAt p (c .point)
-    → (reply : List ℕ) → 128 ≤ length reply → answered (control d reply) (reached p es) ≡ 0
+    → (reply : List ℕ) → leastReply ≤ length reply → answered (control d reply) (reached p es) ≡ 0
 
 pub guarantees-kept : GuaranteesKept
 unfolding GuaranteesKept
@@ -103,17 +103,17 @@ pub record FreedIsRoom : Type 0 where
   -- after the very call that left the access point fewer sessions, a sound new Create for it is accepted
   pub room : (p : Plan) (es : List Event) → Run p es → (e : Event) → ofOctets e ≡ true
       → (d : List ℕ) (c : C.Create) → Fewer (c .point) (reached p es) (step e (reached p es)) → NewCreate p (step e (reached p es)) d c
-      → (reply : List ℕ) → 128 ≤ length reply → answered (control d reply) (step e (reached p es)) ≡ 0
+      → (reply : List ℕ) → leastReply ≤ length reply → answered (control d reply) (step e (reached p es)) ≡ 0
   -- so it is where the call freed a place of the access point and left every other record as it was
   pub place : (p : Plan) (es : List Event) → Run p es → (e : Event) → ofOctets e ≡ true
       → (d : List ℕ) (c : C.Create) (i : ℕ) → isOn (c .point) (at (reached p es) i) ≡ true
       → step e (reached p es) .table ≡ changedAt freed i (reached p es .table) → NewCreate p (step e (reached p es)) d c
-      → (reply : List ℕ) → 128 ≤ length reply → answered (control d reply) (step e (reached p es)) ≡ 0
-  -- a place that any access point gave up is room at once, where the rule says so: u under the ceiling, and S under 64 after the call
+      → (reply : List ℕ) → leastReply ≤ length reply → answered (control d reply) (step e (reached p es)) ≡ 0
+  -- a place that any access point gave up is room at once, where the rule says so: u under the ceiling, and S under places after the call
   pub others : (p : Plan) (es : List Event) → Run p es → (e : Event) → ofOctets e ≡ true
       → (d : List ℕ) (c : C.Create) → NewCreate p (step e (reached p es)) d c
-      → u (step e (reached p es)) (c .point) < ceilingAt p (c .point) → shareOf p (u (step e (reached p es))) < 64
-      → (reply : List ℕ) → 128 ≤ length reply → answered (control d reply) (step e (reached p es)) ≡ 0
+      → u (step e (reached p es)) (c .point) < ceilingAt p (c .point) → shareOf p (u (step e (reached p es))) < places
+      → (reply : List ℕ) → leastReply ≤ length reply → answered (control d reply) (step e (reached p es)) ≡ 0
   -- and freeing a place of one that has more than its guarantee makes S one less
   pub shares : (p : Plan) (a i : ℕ) (l : List Session) → a < parties p → isOn a (getD l i nobody) ≡ true → guaranteeAt p a < liveOn a l
       → shareOf p (λ b. liveOn b (changedAt freed i l)) + 1 ≡ shareOf p (λ b. liveOn b l)
@@ -163,7 +163,7 @@ one-less a i l e =
 
 freed-room : (p : Plan) (es : List Event) → Run p es → (e : Event) → ofOctets e ≡ true
     → (d : List ℕ) (c : C.Create) → Fewer (c .point) (reached p es) (step e (reached p es)) → NewCreate p (step e (reached p es)) d c
-    → (reply : List ℕ) → 128 ≤ length reply → answered (control d reply) (step e (reached p es)) ≡ 0
+    → (reply : List ℕ) → leastReply ≤ length reply → answered (control d reply) (step e (reached p es)) ≡ 0
 freed-room p es r e o d c f n reply room =
     number-yes p s k q d c n reply room
     (fewer-admitted (parties p) (guaranteeAt p) (ceilingAt p) (u (reached p es)) (askedU c s) (c .point) h
@@ -184,8 +184,8 @@ freed-room p es r e o d c f n reply room =
 
 any-room : (p : Plan) (es : List Event) → Run p es → (e : Event) → ofOctets e ≡ true
     → (d : List ℕ) (c : C.Create) → NewCreate p (step e (reached p es)) d c
-    → u (step e (reached p es)) (c .point) < ceilingAt p (c .point) → shareOf p (u (step e (reached p es))) < 64
-    → (reply : List ℕ) → 128 ≤ length reply → answered (control d reply) (step e (reached p es)) ≡ 0
+    → u (step e (reached p es)) (c .point) < ceilingAt p (c .point) → shareOf p (u (step e (reached p es))) < places
+    → (reply : List ℕ) → leastReply ≤ length reply → answered (control d reply) (step e (reached p es)) ≡ 0
 unfolding places
 any-room p es r e o d c n under room reply wide =
     number-yes p s (step-keeps e (reached p es) o (reached-keeps p es r)) (step-plan e (reached p es) ∙ reached-plan p es (r .plan)) d c n reply wide

@@ -30,10 +30,10 @@ use Rattle.promises.specs.Examples.{first, echo}
 
 pub record TickCounts (p : Plan) (s : State) : Type 0 where
   pub echo : 0 < s .node .echo .timer → spent (p .sends) (s .node .echo) ≡ false → step tick s .node .echo .timer + 1 ≡ s .node .echo .timer
-  pub place : (i : ℕ) → i < 64 → 0 < at s i .own .timer → spent (p .sends) (s .node .echo) ≡ false → spent (p .sends) (at s i .own) ≡ false
+  pub place : (i : ℕ) → i < places → 0 < at s i .own .timer → spent (p .sends) (s .node .echo) ≡ false → spent (p .sends) (at s i .own) ≡ false
       → at (step tick s) i .own .timer + 1 ≡ at s i .own .timer
-  pub givenUp : (i : ℕ) → i < 64 → spent (p .sends) (at s i .own) ≡ true → isFree (at (step tick s) i) ≡ true
-  pub echoLost : (i : ℕ) → i < 64 → spent (p .sends) (s .node .echo) ≡ true → isFree (at (step tick s) i) ≡ true
+  pub givenUp : (i : ℕ) → i < places → spent (p .sends) (at s i .own) ≡ true → isFree (at (step tick s) i) ≡ true
+  pub echoLost : (i : ℕ) → i < places → spent (p .sends) (s .node .echo) ≡ true → isFree (at (step tick s) i) ≡ true
 
 pub record EveryTickCounts : Type 0 where
   pub any : (p : Plan) (es : List Event) → Run p es → TickCounts p (reached p es)
@@ -47,7 +47,7 @@ tick-is : (s : State) → Kept s → step tick s ≡ record {
 unfolding step left tickOf noReply
 tick-is s k = rw k
 
-module _ (p : Plan) (s : State) (k : Kept s) (plan : s .node .plan ≡ p) (size : length (s .table) ≡ 64) where
+module _ (p : Plan) (s : State) (k : Kept s) (plan : s .node .plan ≡ p) (size : length (s .table) ≡ places) where
   tick-echo : step tick s .node .echo ≡ echoTicked p (s .node .echo)
   unfolding timed
   tick-echo = ap (λ (x : State). x .node .echo) (tick-is s k) ∙ ap (λ (x : Plan). echoTicked x (s .node .echo)) plan
@@ -59,24 +59,24 @@ module _ (p : Plan) (s : State) (k : Kept s) (plan : s .node .plan ≡ p) (size 
   unfolding echoTicked countedDown
   echo-down h n = rw (tick-echo, n) (omega arith)
 
-  pub place-ticked : (i : ℕ) → i < 64 → spent (p .sends) (s .node .echo) ≡ false → at (step tick s) i ≡ ticked (p .sends) (at s i)
+  pub place-ticked : (i : ℕ) → i < places → spent (p .sends) (s .node .echo) ≡ false → at (step tick s) i ≡ ticked (p .sends) (at s i)
   unfolding allTicked
   place-ticked i h n = rw (tick-recs, n) (map-at (ticked (p .sends)) (s .table) i nobody nobody (omega arith))
 
-  pub all-freed : (i : ℕ) → i < 64 → spent (p .sends) (s .node .echo) ≡ true → at (step tick s) i ≡ freed (at s i)
+  pub all-freed : (i : ℕ) → i < places → spent (p .sends) (s .node .echo) ≡ true → at (step tick s) i ≡ freed (at s i)
   unfolding allTicked
   all-freed i h n = rw (tick-recs, n) (map-at freed (s .table) i nobody nobody (omega arith))
 
-  place-down : (i : ℕ) → i < 64 → 0 < at s i .own .timer → spent (p .sends) (s .node .echo) ≡ false → spent (p .sends) (at s i .own) ≡ false
+  place-down : (i : ℕ) → i < places → 0 < at s i .own .timer → spent (p .sends) (s .node .echo) ≡ false → spent (p .sends) (at s i .own) ≡ false
       → at (step tick s) i .own .timer + 1 ≡ at s i .own .timer
   unfolding ticked turned countedDown
   place-down i h t n m = rw (place-ticked i h n, m) (omega arith)
 
-  place-up : (i : ℕ) → i < 64 → spent (p .sends) (at s i .own) ≡ true → isFree (at (step tick s) i) ≡ true
+  place-up : (i : ℕ) → i < places → spent (p .sends) (at s i .own) ≡ true → isFree (at (step tick s) i) ≡ true
   unfolding ticked freed blankAt isFree
   place-up i h m = split (spent (p .sends) (s .node .echo)) (λ n. rw (all-freed i h n)) (λ n. rw (place-ticked i h n, m))
 
-  lost-up : (i : ℕ) → i < 64 → spent (p .sends) (s .node .echo) ≡ true → isFree (at (step tick s) i) ≡ true
+  lost-up : (i : ℕ) → i < places → spent (p .sends) (s .node .echo) ≡ true → isFree (at (step tick s) i) ≡ true
   unfolding freed blankAt isFree
   lost-up i h n = rw (all-freed i h n)
 

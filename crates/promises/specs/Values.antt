@@ -17,7 +17,7 @@ use Rattle.octets.specs.Same.{sameOctets}
 use Rattle.octets.specs.BigEndian.{numberOf, numberFrom, octetsOf, number-back}
 use Rattle.fields.specs.Walk.{part}
 use Rattle.values.specs.Imsi.{imsiOf, imsi-long, halves, front, lastOf, isDigit, decimalFrom, digitsFrom}
-use Rattle.values.specs.Tunnel.{wordAt, tunnelGood, tunnelOf, tunnel-good}
+use Rattle.values.specs.Tunnel.{wordAt, tunnelGood, tunnelOf, tunnel-good, v4Flag, interfaces}
 use Rattle.values.specs.declared.Imsi.the-variants as I
 use Rattle.values.specs.declared.Tunnel.the-variants as T
 use Rattle.readers.specs.Kinds.{imsiKind, ratKind, tunnelKind, paaKind, ebiKind, qosKind, recoveryKind}
@@ -33,6 +33,7 @@ use Rattle.plan.specs.Names.{nameOf, sameName, goesBy, namesDiffer, namedIn, na
 use Rattle.plan.specs.Plan.{accepted}
 use Rattle.promises.specs.Sent.{Holds, Sent, fits, written, Value, Of, None, firstOf, FoundAgain, SentIsFound, sent-is-found}
 use Rattle.promises.specs.Written.{Word}
+use Rattle.tunnel.specs.Numbering.{places}
 
 -- ---- values, as document 01 asks for them; what stands behind them is ignored
 -- digits, the first in the low half of each octet; the last high half is F
@@ -61,8 +62,8 @@ pub record RatValue (v : List ℕ) : Type 0 where
 pub record TunnelValue (interface teid addr : ℕ) (v : List ℕ) : Type 0 where
   pub flags : ℕ
   pub behind : List ℕ
-  pub v4 : 128 ≤ flags
-  pub its : flags % 64 ≡ interface
+  pub v4 : v4Flag ≤ flags
+  pub its : flags % interfaces ≡ interface
   pub live : 0 < teid
   pub teidFits : Word teid
   pub addrFits : Word addr
@@ -165,8 +166,8 @@ imsi-digits (x ∷ l) behind n e =
 tunnel-value : (interface teid addr : ℕ) (v : List ℕ) → TunnelValue interface teid addr v → tunnelOf v interface ≡ T.Value teid addr
 unfolding tunnelGood wordAt octetsOf numberOf numberFrom
 tunnel-value interface teid addr v r =
-    let a = le-leb 128 (r .flags) (r .v4) in
-    let b = eq-eqb (r .flags % 64) interface (r .its) in
+    let a = le-leb v4Flag (r .flags) (r .v4) in
+    let b = eq-eqb (r .flags % interfaces) interface (r .its) in
     let n = number-back 4 teid (r .teidFits) in
     let m = number-back 4 addr (r .addrFits) in
     rw (r .octets)

@@ -26,7 +26,7 @@ use Rattle.fields.specs.Search.{find, firstIn}
 use Rattle.fields.specs.Overrun.{overIn, overWithin}
 use Rattle.values.specs.declared.Tunnel.{Tunnel}
 use Rattle.values.specs.declared.Tunnel.the-variants as T
-use Rattle.values.specs.Tunnel.{tunnelSize, wordAt, tunnelGood, tunnelOf}
+use Rattle.values.specs.Tunnel.{tunnelSize, wordAt, tunnelGood, tunnelOf, v4Flag, interfaces}
 use Rattle.readers.specs.declared.Octet.the-variants as O
 use Rattle.readers.specs.declared.Recovery.the-variants as R
 use Rattle.readers.specs.Kinds.{causeKind, paaKind, bearerKind, tunnelKind}
@@ -195,7 +195,7 @@ bare-headed type seq recovery h = record {
   header = bare-back type seq recovery h;
 }
 
-tunnel-back : (flags interface teid addr : ℕ) → leb 128 flags ≡ true → eqb (flags % 64) interface ≡ true → 0 < teid → Word teid → Word addr
+tunnel-back : (flags interface teid addr : ℕ) → leb v4Flag flags ≡ true → eqb (flags % interfaces) interface ≡ true → 0 < teid → Word teid → Word addr
     → tunnelOf (flags ∷ octetsOf 4 teid ++ octetsOf 4 addr) interface ≡ T.Value teid addr
 unfolding tunnelOf tunnelSize tunnelGood wordAt octetsOf numberOf numberFrom
 tunnel-back flags interface teid addr f i z h k = rw (f, i, number-back 4 teid h, number-back 4 addr k, lt-ltb 0 teid z)

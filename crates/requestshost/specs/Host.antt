@@ -17,7 +17,7 @@ use Rattle.readers.specs.declared.Refusal.{Refusal}
 use Rattle.readers.specs.Refusal.{bare, notLiveCause}
 use Rattle.plan.specs.declared.Plan.{Plan}
 use Rattle.plan.specs.declared.AccessPoint.{AccessPoint}
-use Rattle.plan.specs.Limits.{noPoint}
+use Rattle.plan.specs.Limits.{longestName, noPoint}
 use Rattle.requests.specs.declared.Peer.{Peer}
 use Rattle.requests.specs.declared.Peer.the-variants as P
 use Rattle.requests.specs.declared.Context.{Context}
@@ -42,10 +42,11 @@ use Rattle.requestshost.specs.declared.Head.{Head}
 use Rattle.requestshost.specs.declared.Answer.{Answer}
 use Rattle.requestshost.specs.declared.Carried.{Carried}
 use Rattle.requestshost.specs.declared.End.{End}
+use Rattle.tunnel.specs.Numbering.{places}
 
--- ---- the trial plan: data, net, and a name of 63 octets, each with one place promised and no ceiling but the unit's
+-- ---- the trial plan: data, net, and one of the longest name, each with one place promised and no ceiling but the unit's
 unfoldable pub pointCalled : List ℕ → ℕ → AccessPoint
-pointCalled name size = record { name = overlay name (replicate 63 0); size = size; guarantee = 1; ceiling = 64 }
+pointCalled name size = record { name = overlay name (replicate longestName 0); size = size; guarantee = 1; ceiling = places }
 
 abbrev pub dataName : List ℕ
 dataName = 4 ∷ 100 ∷ 97 ∷ 116 ∷ 97 ∷ []
@@ -72,7 +73,7 @@ trialPlan = record {
   sends = 2;
   interval = 60;
   count = 3;
-  points = pointCalled dataName 5 ∷ pointCalled netName 4 ∷ pointCalled longName 63 ∷ noPoint ∷ [];
+  points = pointCalled dataName 5 ∷ pointCalled netName 4 ∷ pointCalled longName longestName ∷ noPoint ∷ [];
 }
 
 -- ---- parts

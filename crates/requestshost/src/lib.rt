@@ -80,17 +80,17 @@ pub struct End {
 fn called(name: &[u8], size: u8) -> AccessPoint
     ensures { λ r. ⌜ r ≡ pointCalled (now (name .entry)) size ⌝ }
 {
-    let mut all = [0u8; 63];
+    let mut all = [0u8; AccessPoint::LONGEST_NAME];
     octets::copy_front(name, &mut all);
     AccessPoint {
         name: all,
         size,
         guarantee: 1,
-        ceiling: 64,
+        ceiling: tunnel::Unit::PLACES as u16,
     }
 }
 
-// A plan of three access points: data, net, and a name of 63 octets.
+// A plan of three access points: data, net, and one of the longest name.
 pub fn trial_plan() -> Plan
     ensures { λ r. ⌜ r ≡ trialPlan ⌝ }
 {
@@ -98,7 +98,7 @@ pub fn trial_plan() -> Plan
     let b = called(b"\x03net", 4);
     let c = called(
         b"\x3eabcdefghijklmnopqrstuvwxyzabcdefghijklmnopqrstuvwxyzabcdefghij",
-        63,
+        AccessPoint::LONGEST_NAME as u8,
     );
     let none = AccessPoint::none();
     Plan {

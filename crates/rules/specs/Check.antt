@@ -25,7 +25,7 @@ use Rattle.session.specs.Session.{isFree, isOn, hasId, recordOk, heldOk, readOk
 use Rattle.session.specs.Keep.{live-of}
 use Rattle.table.specs.declared.Node.{Node}
 use Rattle.table.specs.Rules.{liveOn, live, boundsOf, sameId, sameWait, requests, keepsRules}
-use Rattle.rules.specs.Survey.{Survey, keyOf, waitOf, unit, weightOf, silent, waitsOf, noSurvey, surveyOf, and-yes}
+use Rattle.rules.specs.Survey.{Survey, keyOf, waitOf, unit, weightOf, silent, waitsOf, noSurvey, surveyOf, and-yes, imsiPart, secondUnit, thirdUnit, fourthUnit}
 
 -- four counts out of one number
 unfoldable pub unpackedOf : ℕ → List ℕ
@@ -51,15 +51,15 @@ same-key b x y e f = split (isFree x) free taken
     taken : isFree x ≡ false → sameKey (keyOf x) (keyOf y) ≡ sameId x y
     taken n =
         let i = known-id b x e n in
-        let z : eqb (x .imsi % 36028797018963968 * 256 + x .ebi) 0 ≡ false = ne-eqb (x .imsi % 36028797018963968 * 256 + x .ebi) 0 (λ q. omega arith) in
+        let z : eqb (x .imsi % imsiPart * 256 + x .ebi) 0 ≡ false = ne-eqb (x .imsi % imsiPart * 256 + x .ebi) 0 (λ q. omega arith) in
         split (isFree y)
         (λ m. rw (n, m, z))
         (λ m. let j = known-id b y f m in rw (n, m, z)
         (split (eqb (y .imsi) (x .imsi))
         (λ t. let a = eqb-true (y .imsi) (x .imsi) t in split (eqb (y .ebi) (x .ebi))
-        (λ u. let c = eqb-true (y .ebi) (x .ebi) u in rw (t, u, eq-eqb (x .imsi % 36028797018963968 * 256 + x .ebi) (y .imsi % 36028797018963968 * 256 + y .ebi) (omega arith)))
-        (λ u. let c = eqb-false (y .ebi) (x .ebi) u in rw (t, u, ne-eqb (x .imsi % 36028797018963968 * 256 + x .ebi) (y .imsi % 36028797018963968 * 256 + y .ebi) (λ q. omega arith))))
-        (λ t. let a = eqb-false (y .imsi) (x .imsi) t in rw (t, ne-eqb (x .imsi % 36028797018963968 * 256 + x .ebi) (y .imsi % 36028797018963968 * 256 + y .ebi) (λ q. omega arith)))))
+        (λ u. let c = eqb-true (y .ebi) (x .ebi) u in rw (t, u, eq-eqb (x .imsi % imsiPart * 256 + x .ebi) (y .imsi % imsiPart * 256 + y .ebi) (omega arith)))
+        (λ u. let c = eqb-false (y .ebi) (x .ebi) u in rw (t, u, ne-eqb (x .imsi % imsiPart * 256 + x .ebi) (y .imsi % imsiPart * 256 + y .ebi) (λ q. omega arith))))
+        (λ t. let a = eqb-false (y .imsi) (x .imsi) t in rw (t, ne-eqb (x .imsi % imsiPart * 256 + x .ebi) (y .imsi % imsiPart * 256 + y .ebi) (λ q. omega arith)))))
 
 pub same-wait-key : (r q : Request) → sameKey (waitOf r) (waitOf q) ≡ sameWait r q
 unfolding waitOf sameKey sameWait awaits
@@ -75,7 +75,7 @@ same-wait-key r q =
     (λ t. let a = eqb-false (q .number) (r .number) t in rw (t, ne-eqb (r .number + 1) (q .number + 1) (λ y. omega arith))))))
 
 -- ---- counts come out of the packed sum
-weight-is : (s : Session) → weightOf s ≡ boolByte (isOn 0 s) + 65536 * boolByte (isOn 1 s) + 4294967296 * boolByte (isOn 2 s) + 281474976710656 * boolByte (isOn 3 s)
+weight-is : (s : Session) → weightOf s ≡ boolByte (isOn 0 s) + secondUnit * boolByte (isOn 1 s) + thirdUnit * boolByte (isOn 2 s) + fourthUnit * boolByte (isOn 3 s)
 unfolding weightOf unit isOn
 weight-is s =
     split (isFree s) (λ n. rw n (omega arith))
@@ -84,7 +84,7 @@ weight-is s =
     (λ f. split (eqb (s .point) 2) (λ g. rw (n, eqb-true (s .point) 2 g) (omega arith))
     (λ g. split (eqb (s .point) 3) (λ h. rw (n, eqb-true (s .point) 3 h) (omega arith)) (λ h. rw (n, e, f, g, h) (omega arith))))))
 
-pub packed : (l : List Session) → sumOf weightOf l ≡ liveOn 0 l + 65536 * liveOn 1 l + 4294967296 * liveOn 2 l + 281474976710656 * liveOn 3 l
+pub packed : (l : List Session) → sumOf weightOf l ≡ liveOn 0 l + secondUnit * liveOn 1 l + thirdUnit * liveOn 2 l + fourthUnit * liveOn 3 l
 unfolding sumOf liveOn
 packed [] = omega arith
 packed (s ∷ l) = let w = weight-is s in let r = packed l in omega arith

@@ -16,10 +16,16 @@ use Rattle.session.specs.declared.Request.{Request}
 use Rattle.session.specs.declared.Session.{Session}
 use Rattle.session.specs.declared.Bounds.{Bounds}
 use Rattle.session.specs.Session.{isFree, recordOk}
+use Rattle.session.specs.Wide.{longWords}
+use Rattle.tunnel.specs.Numbering.{places}
+
+-- an IMSI has less than 55 bits, so that IMSI and EBI fit one number of 64
+abbrev pub imsiPart : ℕ
+imsiPart = 36028797018963968
 
 -- IMSI and EBI as one number that is not 0; a free record has no key
 abbrev pub idKey : ℕ → ℕ → ℕ
-idKey imsi ebi = imsi % 36028797018963968 * 256 + ebi
+idKey imsi ebi = imsi % imsiPart * 256 + ebi
 
 unfoldable pub keyOf : Session → ℕ
 keyOf s = pick {A = ℕ} (isFree s) 0 (idKey (s .imsi) (s .ebi))
@@ -29,11 +35,20 @@ unfoldable pub waitOf : Request → ℕ
 waitOf r = pick {A = ℕ} (eqb (r .sends) 0) 0 (r .number + 1)
 
 -- one in the count of its access point, of four counts of 16 bits each
+abbrev pub secondUnit : ℕ
+secondUnit = 65536
+
+abbrev pub thirdUnit : ℕ
+thirdUnit = 4294967296
+
+abbrev pub fourthUnit : ℕ
+fourthUnit = 281474976710656
+
 unfoldable pub unit : ℕ → ℕ
-unit a = pick {A = ℕ} (eqb a 0) 1 (pick {A = ℕ} (eqb a 1) 65536 (pick {A = ℕ} (eqb a 2) 4294967296 (pick {A = ℕ} (eqb a 3) 281474976710656 0)))
+unit a = pick {A = ℕ} (eqb a 0) 1 (pick {A = ℕ} (eqb a 1) secondUnit (pick {A = ℕ} (eqb a 2) thirdUnit (pick {A = ℕ} (eqb a 3) fourthUnit 0)))
 
 -- the same as a shift
-pub unit-shift : (a : ℕ) → a < 4 → 1 * 2 ^ (a * 16) % 18446744073709551616 ≡ unit a
+pub unit-shift : (a : ℕ) → a < 4 → 1 * 2 ^ (a * 16) % longWords ≡ unit a
 unfolding unit
 unit-shift zero h = refl
 unit-shift (suc zero) h = refl
@@ -63,7 +78,7 @@ pub record Survey : Type 0 where
   pub keys : List ℕ
 
 unfoldable pub noSurvey : Survey
-noSurvey = record { good = false; quiet = true; counts = 0; keys = replicate 64 0 }
+noSurvey = record { good = false; quiet = true; counts = 0; keys = replicate places 0 }
 
 unfoldable pub surveyOf : Bounds → List Session → Survey
 surveyOf b l =
@@ -71,14 +86,14 @@ surveyOf b l =
     (record { good = true; quiet = every silent l; counts = sumOf weightOf l; keys = map keyOf l })
     noSurvey
 
-unit-most : (a : ℕ) → unit a ≤ 281474976710656
+unit-most : (a : ℕ) → unit a ≤ fourthUnit
 unfolding unit
 unit-most a = split (eqb a 0) (λ e. rw e (omega arith))
     (λ e. split (eqb a 1) (λ f. rw (e, f) (omega arith))
     (λ f. split (eqb a 2) (λ g. rw (e, f, g) (omega arith))
     (λ g. split (eqb a 3) (λ h. rw (e, f, g, h) (omega arith)) (λ h. rw (e, f, g, h) (omega arith)))))
 
-pub weight-most : (s : Session) → weightOf s ≤ 281474976710656
+pub weight-most : (s : Session) → weightOf s ≤ fourthUnit
 unfolding weightOf
 weight-most s = split (isFree s) (λ e. rw e (omega arith)) (λ e. let u = unit-most (s .point) in rw e (omega arith))
 

@@ -10,6 +10,21 @@ ghost use Rattle.table.specs.Rules.{boundsOf};
 ghost use Rattle.rules.specs.Check.{unpackedOf};
 ghost use Rattle.rules.specs.Survey.{idKey, keyOf, waitOf, unit, weightOf};
 
+// The parts of a session's key and of the packed counts.
+pub struct Parts {}
+
+impl Parts {
+    // An IMSI has less than 55 bits, so that IMSI and EBI fit one number of 64.
+    pub const IMSI_PART: u64 = 36028797018963968;
+
+    // One in the count of the second, third and fourth access point, of four counts of 16 bits each.
+    pub const SECOND_UNIT: u64 = 65536;
+
+    pub const THIRD_UNIT: u64 = 4294967296;
+
+    pub const FOURTH_UNIT: u64 = 281474976710656;
+}
+
 pub fn key(s: Session) -> u64
     ensures { λ r. ⌜ r ≡ keyOf s ⌝ }
 {
@@ -23,7 +38,7 @@ pub fn key(s: Session) -> u64
 pub fn id_key(imsi: u64, ebi: u8) -> u64
     ensures { λ r. ⌜ r ≡ idKey imsi ebi ⌝ }
 {
-    imsi % 36028797018963968 * 256 + ebi as u64
+    imsi % Parts::IMSI_PART * 256 + ebi as u64
 }
 
 pub fn wait(r: Request) -> u64

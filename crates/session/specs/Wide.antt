@@ -12,6 +12,14 @@ use Rattle.tunnel.specs.Numbering.{lastUse}
 use Rattle.session.specs.declared.Session.{Session}
 use Rattle.session.specs.Session.{blank, freeOk}
 
+-- a word has 32 bits
+abbrev pub words : ℕ
+words = 4294967296
+
+-- a number in the machine has 64 bits
+abbrev pub longWords : ℕ
+longWords = 18446744073709551616
+
 pub or-none : (a b : ℕ) → eqb (bitOr a b) 0 ≡ (eqb a 0 && eqb b 0)
 or-none a b = split (eqb a 0)
     (λ e. rw (eqb-true a 0 e, or-zero-l b))
@@ -67,24 +75,25 @@ blank-bits s = simp or-none (shuffled (eqb (s .imsi) 0) (eqb (s .control) 0) (eq
 
 -- a record's fields of 8 bits, together
 pub octets-fit : (s : Session) → s .point < 256 → s .ebi < 256 → s .own .timer < 256 → s .own .sends < 256
-    → bitOr (bitOr (bitOr (s .point) (s .ebi)) (s .own .timer)) (s .own .sends) < 18446744073709551616
+    → bitOr (bitOr (bitOr (s .point) (s .ebi)) (s .own .timer)) (s .own .sends) < longWords
 octets-fit s a b c d =
     let w = or-lt 8 (bitOr (bitOr (s .point) (s .ebi)) (s .own .timer)) (s .own .sends)
     (or-lt 8 (bitOr (s .point) (s .ebi)) (s .own .timer) (or-lt 8 (s .point) (s .ebi) a b) c) d in
     omega arith
 
 -- ---- a free record: the use and the control TEID as one number, the other fields by their bits
-first-fits : (u c : ℕ) → u < 4294967296 → leb (u + c * 4294967296) 16777215 ≡ (leb u 16777215 && eqb c 0)
-first-fits u c h = both-ways (leb (u + c * 4294967296) 16777215) (leb u 16777215 && eqb c 0) there back
+first-fits : (u c : ℕ) → u < words → leb (u + c * words) lastUse ≡ (leb u lastUse && eqb c 0)
+unfolding lastUse
+first-fits u c h = both-ways (leb (u + c * words) lastUse) (leb u lastUse && eqb c 0) there back
   where
-    there : leb (u + c * 4294967296) 16777215 ≡ true → (leb u 16777215 && eqb c 0) ≡ true
-    there e = let l = leb-true (u + c * 4294967296) 16777215 e in rw (le-leb u 16777215 (omega arith), eq-eqb c 0 (omega arith))
+    there : leb (u + c * words) lastUse ≡ true → (leb u lastUse && eqb c 0) ≡ true
+    there e = let l = leb-true (u + c * words) lastUse e in rw (le-leb u lastUse (omega arith), eq-eqb c 0 (omega arith))
 
-    back : (leb u 16777215 && eqb c 0) ≡ true → leb (u + c * 4294967296) 16777215 ≡ true
+    back : (leb u lastUse && eqb c 0) ≡ true → leb (u + c * words) lastUse ≡ true
     back e =
-        let l = leb-true u 16777215 (and-left (leb u 16777215) (eqb c 0) e) in
-        let z = eqb-true c 0 (and-right (leb u 16777215) (eqb c 0) e) in
-        le-leb (u + c * 4294967296) 16777215 (omega arith)
+        let l = leb-true u lastUse (and-left (leb u lastUse) (eqb c 0) e) in
+        let z = eqb-true c 0 (and-right (leb u lastUse) (eqb c 0) e) in
+        le-leb (u + c * words) lastUse (omega arith)
 
 -- all fields but the use, the control TEID and the state, by their bits
 abbrev pub restBits : Session → ℕ
@@ -102,8 +111,8 @@ rest-bits s = simp or-none (control-first (eqb (s .control) 0) (eqb (s .imsi) 0)
     (eqb (s .point) 0 && eqb (s .ebi) 0 && eqb (s .own .timer) 0 && eqb (s .own .sends) 0))
     ∙ (simp or-none at (blank-bits s))
 
-pub words-fit : (s : Session) → s .controladdr < 4294967296 → s .user < 4294967296 → s .useraddr < 4294967296 → s .created < 4294967296 → s .own .number < 4294967296
-    → bitOr (bitOr (bitOr (bitOr (s .controladdr) (s .user)) (s .useraddr)) (s .created)) (s .own .number) < 18446744073709551616
+pub words-fit : (s : Session) → s .controladdr < words → s .user < words → s .useraddr < words → s .created < words → s .own .number < words
+    → bitOr (bitOr (bitOr (bitOr (s .controladdr) (s .user)) (s .useraddr)) (s .created)) (s .own .number) < longWords
 words-fit s a b c d e =
     let w = or-lt 32 (bitOr (bitOr (bitOr (s .controladdr) (s .user)) (s .useraddr)) (s .created)) (s .own .number)
     (or-lt 32 (bitOr (bitOr (s .controladdr) (s .user)) (s .useraddr)) (s .created)
@@ -111,23 +120,22 @@ words-fit s a b c d e =
     omega arith
 
 -- the three ways of the two tests
-module _ (s : Session) (word : s .usage < 4294967296) where
-  vacant-is : (leb (s .usage) lastUse && blank s) ≡ (leb (s .usage + s .control * 4294967296) 16777215 && eqb (restBits s) 0)
-  unfolding lastUse
-  vacant-is = rw (← rest-bits s, first-fits (s .usage) (s .control) word) (three (leb (s .usage) 16777215) (eqb (s .control) 0) (eqb (restBits s) 0))
+module _ (s : Session) (word : s .usage < words) where
+  vacant-is : (leb (s .usage) lastUse && blank s) ≡ (leb (s .usage + s .control * words) lastUse && eqb (restBits s) 0)
+  vacant-is = rw (← rest-bits s, first-fits (s .usage) (s .control) word) (three (leb (s .usage) lastUse) (eqb (s .control) 0) (eqb (restBits s) 0))
     where
       three : (a b c : Bool) → (a && (b && c)) ≡ (a && b && c)
       three true b c = refl
       three false b c = refl
 
-  pub free-blank : s .usage + s .control * 4294967296 ≤ 16777215 → restBits s ≡ 0 → true ≡ freeOk s
+  pub free-blank : s .usage + s .control * words ≤ lastUse → restBits s ≡ 0 → true ≡ freeOk s
   unfolding freeOk
-  free-blank l e = rw (vacant-is, le-leb (s .usage + s .control * 4294967296) 16777215 l, eq-eqb (restBits s) 0 e)
+  free-blank l e = rw (vacant-is, le-leb (s .usage + s .control * words) lastUse l, eq-eqb (restBits s) 0 e)
 
   pub free-filled : (restBits s ≡ 0 → ⊥) → false ≡ freeOk s
   unfolding freeOk
-  free-filled e = rw (vacant-is, ne-eqb (restBits s) 0 e, and-no (leb (s .usage + s .control * 4294967296) 16777215))
+  free-filled e = rw (vacant-is, ne-eqb (restBits s) 0 e, and-no (leb (s .usage + s .control * words) lastUse))
 
-  pub free-used : 16777215 < s .usage + s .control * 4294967296 → false ≡ freeOk s
+  pub free-used : lastUse < s .usage + s .control * words → false ≡ freeOk s
   unfolding freeOk
-  free-used l = rw (vacant-is, lt-leb (s .usage + s .control * 4294967296) 16777215 l)
+  free-used l = rw (vacant-is, lt-leb (s .usage + s .control * words) lastUse l)

@@ -63,6 +63,8 @@ pub struct Session {
 impl Request {
     pub const LAST_NUMBER: u32 = 8388607;
 
+    pub const NUMBERS: u32 = Self::LAST_NUMBER + 1;
+
     pub fn idle() -> Self
         ensures { λ r. ⌜ r ≡ idle ⌝ }
     {
@@ -150,6 +152,9 @@ impl Session {
 
     pub const LAST_CREATED: u32 = 16777215;
 
+    // A word has 32 bits.
+    const WORDS: u64 = 4294967296;
+
     // A free place in its use.
     pub fn blank_at(usage: u32) -> Self
         ensures { λ r. ⌜ r ≡ blankAt usage ⌝ }
@@ -190,7 +195,7 @@ impl Session {
         ensures { λ r. ⌜ r ≡ freeOk self ⌝ }
     {
         let own = self.own;
-        let first = self.usage as u64 + self.control as u64 * 4294967296;
+        let first = self.usage as u64 + self.control as u64 * Self::WORDS;
         let words = self.controladdr | self.user | self.useraddr | self.created | own.number;
         let octets = self.point | self.ebi | own.timer | own.sends;
         if first <= tunnel::Holder::LAST_USE as u64 {

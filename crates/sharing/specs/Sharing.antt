@@ -26,11 +26,11 @@ use Rattle.plan.specs.Plan.{guaranteed, accepted}
 unfoldable pub share : ℕ → (ℕ → ℕ) → (ℕ → ℕ) → ℕ
 share n g u = sumTo (λ a. max (u a) (g a)) n
 
--- not all places are shared out: S < 64
+-- not all places are shared out: S < places
 unfoldable pub sharable : ℕ → (ℕ → ℕ) → (ℕ → ℕ) → Bool
 sharable n g u = ltb (share n g u) places
 
--- a new session of access point a is admitted when u < c and (u < g or S < 64)
+-- a new session of access point a is admitted when u < c and (u < g or S < places)
 unfoldable pub admitted : ℕ → (ℕ → ℕ) → (ℕ → ℕ) → (ℕ → ℕ) → ℕ → Bool
 admitted n g c u a = ltb (u a) (c a) && (ltb (u a) (g a) || sharable n g u)
 
@@ -51,7 +51,7 @@ admits p u a = admitted (parties p) (guaranteeAt p) (ceilingAt p) u a
 abbrev pub underCeilings : Plan → (ℕ → ℕ) → Bool
 underCeilings p u = allTo (λ a. leb (u a) (ceilingAt p a)) (parties p)
 
--- the counts of a table are within its plan: u ≤ c for each access point, and S ≤ 64
+-- the counts of a table are within its plan: u ≤ c for each access point, and S ≤ places
 unfoldable pub withinOk : Plan → (ℕ → ℕ) → Bool
 withinOk p u = underCeilings p u && leb (shareOf p u) places
 
@@ -117,7 +117,7 @@ module _ (n : ℕ) (g c : ℕ → ℕ) where
 
   module _ (u : ℕ → ℕ) (a : ℕ) where
     module _ (h : a < n) (w : Within u) (e : admitted n g c u a ≡ true) where
-      -- the counts with one more session of the access point: their S is still at most 64
+      -- the counts with one more session of the access point: their S is still at most `places`
       pub admitted-share : (v : ℕ → ℕ) → ((b : ℕ) → b < n → v b ≤ u b + boolByte (eqb a b)) → share n g v ≤ places
       unfolding share
       admitted-share v more = admitted-how u a e

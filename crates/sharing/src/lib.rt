@@ -54,7 +54,7 @@ pub fn admits(plan: Plan, live: [u16; 4], point: usize) -> bool
     let p = plan.points[point];
     let u = live[point];
     let s = share_of(plan, live);
-    (u < p.ceiling) & ((u < p.guarantee) | ((s as usize) < tunnel::Holder::PLACES))
+    (u < p.ceiling) & ((u < p.guarantee) | ((s as usize) < tunnel::Unit::PLACES))
 }
 
 // The ceilings alone.
@@ -99,5 +99,5 @@ pub fn within(plan: Plan, live: [u16; 4]) -> bool
         return false;
     }
     let s = share_of(plan, live);
-    s as usize <= tunnel::Holder::PLACES
+    s as usize <= tunnel::Unit::PLACES
 }

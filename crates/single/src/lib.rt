@@ -77,7 +77,7 @@ fn freed_on(seq: u32, s: Session, reply: &mut [u8]) -> Single
     }
 }
 
-// Delete: another EBI than the session's is 64.
+// Delete: another EBI than the session's is NOT_LIVE.
 fn delete_on(d: Delete, seq: u32, s: Session, reply: &mut [u8]) -> Single
     ensures { λ r. ⌜ singled r (now (reply .exit)) ≡ doneWith (deleteOn d seq s) (now (reply .entry)) ⌝ }
 {
@@ -116,7 +116,7 @@ fn live_on(x: Concern, seq: u32, s: Session, reply: &mut [u8]) -> Single
     }
 }
 
-// Where the number is no live session's: 64, to nobody.
+// Where the number is no live session's: NOT_LIVE, to nobody.
 fn none_on(x: Concern, seq: u32, s: Session, reply: &mut [u8]) -> Single
     ensures { λ r. ⌜ singled r (now (reply .exit)) ≡ doneWith (noneOn x seq s) (now (reply .entry)) ⌝ }
 {

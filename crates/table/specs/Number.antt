@@ -1,4 +1,4 @@
--- Own sequence numbers: they count 0 to 8,388,607 and round, and skip any that is still awaited. The echo and the places await one
+-- Own sequence numbers: they count 0 to `lastNumber` and round, and skip any that is still awaited. The echo and the places await one
 -- number each at most, so one more try than there are requests always finds a number that nobody awaits.
 -- Assumes nothing.
 use Prim.Native.Nat.{ℕ, zero, suc, _+_, _%_, _<_, _≤_}
@@ -52,9 +52,9 @@ pub tries-once : (x k n : ℕ) → n ≤ lastNumber → sumTo (λ j. boolByte (e
 unfolding sumTo lastNumber
 tries-once x k zero h = omega arith
 tries-once x k (suc n) h =
-    split (eqb x ((k + n) % 8388608))
-    (λ e. let z = eqb-true x ((k + n) % 8388608) e in
-    let o = to-equal (λ j. boolByte (eqb x ((k + j) % 8388608))) (λ j. 0) n (λ j q. rw (ne-eqb x ((k + j) % 8388608) (λ y. omega arith))) in
+    split (eqb x ((k + n) % (lastNumber + 1)))
+    (λ e. let z = eqb-true x ((k + n) % (lastNumber + 1)) e in
+    let o = to-equal (λ j. boolByte (eqb x ((k + j) % (lastNumber + 1)))) (λ j. 0) n (λ j q. rw (ne-eqb x ((k + j) % (lastNumber + 1)) (λ y. omega arith))) in
     let m = to-none n in
     rw e (omega arith))
     (λ e. let r = tries-once x k n (omega arith) in rw e (omega arith))
@@ -93,10 +93,10 @@ tries-all (suc n) k echo l h u =
     (λ e. absurd (u (rw e (eqb-true (awaited k echo l) 0 e))))
     (λ e. let v = rw e at u in
     let r = tries-all n (after k) echo l (after-range k) v in
-    let f = to-front (λ j. awaited ((k + j) % 8388608) echo l) n in
-    let g = to-equal (λ j. awaited ((after k + j) % 8388608) echo l) (λ j. awaited ((k + suc j) % 8388608) echo l) n
-    (λ j q. let y : ((k + 1) % 8388608 + j) % 8388608 ≡ (k + suc j) % 8388608 = omega arith in rw y) in
-    let o : (k + 0) % 8388608 ≡ k = omega arith in
+    let f = to-front (λ j. awaited ((k + j) % (lastNumber + 1)) echo l) n in
+    let g = to-equal (λ j. awaited ((after k + j) % (lastNumber + 1)) echo l) (λ j. awaited ((k + suc j) % (lastNumber + 1)) echo l) n
+    (λ j q. let y : ((k + 1) % (lastNumber + 1) + j) % (lastNumber + 1) ≡ (k + suc j) % (lastNumber + 1) = omega arith in rw y) in
+    let o : (k + 0) % (lastNumber + 1) ≡ k = omega arith in
     let w = rw o at f in
     let a = eqb-false (awaited k echo l) 0 e in
     omega arith)

@@ -1,14 +1,13 @@
-// The table: 64 session records, and what goes with them and counts as table; what becomes of a record, and which one a number names. The
+// The table: a session record for each place, and what goes with them and counts as table; what becomes of a record, and which one a number names. The
 // rules of a whole table are in the crate above.
 use plan::Plan;
 use session::Request;
 use session::Session;
 use tunnel::ControlTeid;
 use tunnel::Holder;
+use tunnel::Unit;
 use tunnel::UserTeid;
 ghost use mathlib.Core.Path.{_≡_};
-ghost use lib.ListN.{replicate};
-ghost use Rattle.session.specs.Session.{blankAt};
 ghost use Rattle.table.specs.Become.{changedBy};
 ghost use Rattle.table.specs.Number.{after};
 ghost use Rattle.table.specs.Own.{freshNode, rested, restarted, hearing, echoTicked};
@@ -23,11 +22,6 @@ pub struct Node {
     // 0 until a Recovery value of the exchange is stored
     pub heard: u8,
     pub recovery: u8,
-}
-
-// The records, by value.
-pub struct Table {
-    pub recs: [Session; 64],
 }
 
 // A place, or none.
@@ -119,25 +113,25 @@ pub fn after(k: u32) -> u32
     ((k as u64 + 1) % (Request::LAST_NUMBER as u64 + 1)) as u32
 }
 
-// The place that a control number names; 64 where it names none.
+// The place that a control number names; past the last where it names none.
 pub fn control_place(teid: ControlTeid) -> usize
     ensures { λ r. ⌜ r ≡ controlPlace (teid .0) ⌝ }
 {
     let h = teid.holder();
     match h {
         Holder::At { place, usage: _ } => place,
-        Holder::Nobody => Table::PLACES,
+        Holder::Nobody => Unit::PLACES,
     }
 }
 
-// The place that a user number names; 64 where it names none.
+// The place that a user number names; past the last where it names none.
 pub fn user_place(teid: UserTeid) -> usize
     ensures { λ r. ⌜ r ≡ userPlace (teid .0) ⌝ }
 {
     let h = teid.holder();
     match h {
         Holder::At { place, usage: _ } => place,
-        Holder::Nobody => Table::PLACES,
+        Holder::Nobody => Unit::PLACES,
     }
 }
 
@@ -168,19 +162,5 @@ pub fn has_user(s: Session, teid: UserTeid) -> bool
     match h {
         Holder::At { place: _, usage } => taken_in(s, usage),
         Holder::Nobody => false,
-    }
-}
-
-impl Table {
-    pub const PLACES: usize = 64;
-
-    // No place was ever taken.
-    pub fn fresh() -> Self
-        ensures { λ r. ⌜ r .recs ≡ replicate 64 (blankAt 0) ⌝ }
-    {
-        let nobody = Session::blank_at(0);
-        Table {
-            recs: [nobody; Self::PLACES],
-        }
     }
 }

@@ -2,17 +2,17 @@
 // line's number and `kept` or `broken`. What is to be printed, the file `stdout`, was written from document 01, case by case.
 //
 // A line has decimal numbers parted by single spaces, in triples `place field value`: each triple is an edit of one table, the base
-// table of `base`, in the order in which they stand. What follows a `#` is a comment and says in words what the case is.
+// table of `base`, in the order in which they stand; P is the number of places. What follows a `#` is a comment and says in words what the case is.
 //
-//   0 .. 63   a record: 0 IMSI, 1 use, 2 and 3 peer's control TEID and address, 4 and 5 peer's user TEID and address,
+//   below P   a record: 0 IMSI, 1 use, 2 and 3 peer's control TEID and address, 4 and 5 peer's user TEID and address,
 //             6 creating number, 7 timer, 8 sends, 9 own number, 10 state, 11 access point, 12 EBI
-//   64        what goes with the records: 0 echo's timer, 1 its sends, 2 its number, 3 next number, 4 whether a Recovery is stored,
+//   P         what goes with the records: 0 echo's timer, 1 its sends, 2 its number, 3 next number, 4 whether a Recovery is stored,
 //             5 which; of the plan: 6 pool base, 7 T, 8 N, 9 E, 10 how many access points
-//   65 .. 68  an access point's slot: 0 name size, 1 guarantee, 2 ceiling, 3 first octet of the name, 4 its 63rd octet
-//   69        so many places as `field` says, from place 10 on, are live on access point `value`, with an IMSI each
-//   70        no place was ever used
+//   P + 1 ..  an access point's slot: 0 name size, 1 guarantee, 2 ceiling, 3 first octet of the name, 4 its last octet
+//   P + 5     so many places as `field` says, from place 10 on, are live on access point `value`, with an IMSI each
+//   P + 6     no place was ever used
 //
-// The base keeps every rule. Two access points: g 1 and c 3, g 1 and c 64; T 3, N 2, E 60; the echo is due in 60 ticks. Place 0 is
+// The base keeps every rule. Two access points: g 1 and c 3, g 1 and c P; T 3, N 2, E 60; the echo is due in 60 ticks. Place 0 is
 // live on access point 0; place 1 is closing on access point 1 and was sent once, with number 5; place 2 is closing on it and was not
 // sent; place 3 is free in use 7; no other place was ever used.
 use octets::Number;
@@ -22,8 +22,13 @@ use session::Opening;
 use session::Request;
 use session::Session;
 use table::Node;
-use table::Table;
 use timing::Answer;
+use tunnel::Unit;
+
+// The records, by value.
+struct Table {
+    recs: [Session; Unit::PLACES],
+}
 
 // A table with what goes with it.
 struct Case {
@@ -60,8 +65,18 @@ fn low32(v: u64) -> u32 {
 }
 
 // ---- the base table
+impl Table {
+    // No place was ever taken.
+    fn fresh() -> Self {
+        let nobody = Session::blank_at(0);
+        Table {
+            recs: [nobody; Unit::PLACES],
+        }
+    }
+}
+
 fn point_called(first: u8, guarantee: u16, ceiling: u16) -> AccessPoint {
-    let mut name = [0; 63];
+    let mut name = [0; AccessPoint::LONGEST_NAME];
     name[0] = first;
     AccessPoint {
         name,
@@ -72,8 +87,8 @@ fn point_called(first: u8, guarantee: u16, ceiling: u16) -> AccessPoint {
 }
 
 fn base_plan() -> Plan {
-    let a = point_called(65, 1, 3);
-    let b = point_called(66, 1, 64);
+    let a = point_called(b'A', 1, 3);
+    let b = point_called(b'B', 1, Unit::PLACES as u16);
     let none = AccessPoint::none();
     Plan {
         control: 167772161,
@@ -167,7 +182,7 @@ fn with_field(mut s: Session, field: u64, v: u64) -> Session {
 }
 
 fn with_record(mut t: Table, place: usize, field: u64, v: u64) -> Table {
-    if place < 64 {
+    if place < Unit::PLACES {
         let s = t.recs[place];
         let n = with_field(s, field, v);
         t.recs[place] = n;
@@ -202,7 +217,7 @@ fn with_node(mut n: Node, field: u64, v: u64) -> Node {
 
 fn with_octet(mut p: AccessPoint, at: usize, v: u64) -> AccessPoint {
     let mut name = p.name;
-    if at < 63 {
+    if at < AccessPoint::LONGEST_NAME {
         name[at] = low8(v);
     }
     p.name = name;
@@ -215,7 +230,7 @@ fn with_share(mut p: AccessPoint, field: u64, v: u64) -> AccessPoint {
         1 => p.guarantee = (v % 65536) as u16,
         2 => p.ceiling = (v % 65536) as u16,
         3 => p = with_octet(p, 0, v),
-        _ => p = with_octet(p, 62, v),
+        _ => p = with_octet(p, AccessPoint::LONGEST_NAME - 1, v),
     }
     p
 }
@@ -231,7 +246,7 @@ fn with_point(mut plan: Plan, slot: usize, field: u64, v: u64) -> Plan {
 
 // A place below `end` live on an access point.
 fn live_at(mut t: Table, place: usize, end: u64, point: u8) -> Table {
-    if place < 64 {
+    if place < Unit::PLACES {
         if (place as u64) < end {
             let s = live_on(1010000001000 + place as u64, point);
             t.recs[place] = s;
@@ -243,7 +258,7 @@ fn live_at(mut t: Table, place: usize, end: u64, point: u8) -> Table {
 // The places from 10 on that are below `end` live on an access point.
 fn filled(mut t: Table, end: u64, point: u8) -> Table {
     let mut i: usize = 10;
-    while i < 64 {
+    while i < Unit::PLACES {
         t = live_at(t, i, end, point);
         i += 1;
     }
@@ -251,17 +266,19 @@ fn filled(mut t: Table, end: u64, point: u8) -> Table {
 }
 
 fn edited(mut c: Case, place: u64, field: u64, v: u64) -> Case {
-    if place < 64 {
+    let places = Unit::PLACES as u64;
+    if place < places {
         c.table = with_record(c.table, place as usize, field, v);
         return c;
     }
-    match place {
-        64 => c.node = with_node(c.node, field, v),
-        69 => c.table = filled(c.table, field % 64 + 10, low8(v)),
-        70 => c.table = Table::fresh(),
+    let past = place - places;
+    match past {
+        0 => c.node = with_node(c.node, field, v),
+        5 => c.table = filled(c.table, field % places + 10, low8(v)),
+        6 => c.table = Table::fresh(),
         _ => {
             let mut n = c.node;
-            n.plan = with_point(n.plan, (place - 65) as usize, field, v);
+            n.plan = with_point(n.plan, (past - 1) as usize, field, v);
             c.node = n;
         }
     }
@@ -332,7 +349,7 @@ fn print_verdict(line: u64, kept: bool) {
     }
 }
 
-fn records_in(table: Table) -> [Session; 64] {
+fn records_in(table: Table) -> [Session; Unit::PLACES] {
     table.recs
 }
 

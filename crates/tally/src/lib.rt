@@ -1,5 +1,5 @@
 // The number that the next first send takes.
-use table::Table;
+use tunnel::Unit;
 ghost use Prim.Native.Nat.{_+_};
 ghost use mathlib.Core.Path.{_≡_};
 ghost use Rattle.tunnel.specs.Numbering.{places};
@@ -19,7 +19,7 @@ pub fn free_among(next: u32, echo: u64, keys: &[u64]) -> u32
     ensures { λ r. ⌜ r ≡ freeAmong (places + 2) next echo (now (keys .entry)) ⌝ }
 {
     let mut k = next;
-    let mut tries: usize = Table::PLACES + 2;
+    let mut tries: usize = Unit::PLACES + 2;
     while 0 < tries {
         let ok = unclaimed(k, echo, keys);
         if ok {

@@ -12,7 +12,7 @@ use Rattle.table.specs.Change.{nobody, changedAt}
 use Rattle.table.specs.Find.{placeFound, ownerOf}
 use Rattle.timing.specs.declared.Answer.{Answer}
 
--- the reply buffer has 128 octets or more
+-- the reply buffer has so many octets or more
 unfoldable pub leastReply : ℕ
 leastReply = 128
 

@@ -3,7 +3,7 @@
 use octets::Number;
 use plan::Plan;
 use table::Node;
-use table::Table;
+use tunnel::Unit;
 ghost use mathlib.Core.Path.{_≡_};
 ghost use Rattle.timing.specs.Outcome.{bare};
 ghost use Rattle.timing.specs.Timing.{freshBy, stepped};
@@ -38,7 +38,7 @@ pub fn fresh(count: usize, plan: Plan) -> Answer
 {
     let none = Plan::none();
     let empty = Node::fresh(none);
-    if count != Table::PLACES {
+    if count != Unit::PLACES {
         return Answer::bare(Number::RULES_BROKEN, empty);
     }
     let ok = plan.accepted();

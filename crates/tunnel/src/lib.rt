@@ -4,6 +4,14 @@ ghost use mathlib.Core.Path.{_≡_};
 ghost use Rattle.tunnel.specs.Numbering.{controlOffset, userOffset, teids};
 ghost use Rattle.tunnel.specs.Tunnel.{numberAt, controlNumber, userNumber, holderOf, nextUse};
 
+// The unit, for the figure that every layer goes by.
+pub struct Unit {}
+
+impl Unit {
+    // The number of places.
+    pub const PLACES: usize = 64;
+}
+
 // Who holds a number: a place in one of its uses, or nobody ever.
 pub enum Holder {
     At { place: usize, usage: u32 },
@@ -11,8 +19,6 @@ pub enum Holder {
 }
 
 impl Holder {
-    pub const PLACES: usize = 64;
-
     pub const BASE: u32 = 256;
 
     pub const LAST_USE: u32 = 16777215;
@@ -41,7 +47,7 @@ fn holder_of(offset: u32, n: u32) -> Holder
     let usage = n / Holder::BASE;
     let at = low as usize;
     let first = offset as usize;
-    if (first <= at) & (at < first + Holder::PLACES) & (1 <= usage) {
+    if (first <= at) & (at < first + Unit::PLACES) & (1 <= usage) {
         Holder::At {
             place: at - first,
             usage,

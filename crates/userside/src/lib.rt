@@ -23,7 +23,7 @@ pub struct Handed {
     pub octets: usize,
 }
 
-// The place that the tunnel number names, whatever the datagram is; 64 where it names none or is cut.
+// The place that the tunnel number names, whatever the datagram is; past the last where it names none or is cut.
 pub fn concerned(d: &[u8]) -> usize
     ensures { λ r. ⌜ r ≡ concerned (now (d .entry)) ⌝ }
 {

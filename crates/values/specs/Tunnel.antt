@@ -17,13 +17,21 @@ use Rattle.values.specs.declared.Tunnel.the-variants.{Value, Missing, Sh
 unfoldable pub tunnelSize : ℕ
 tunnelSize = 9
 
+-- the top bit of the first octet is the V4 flag
+abbrev pub v4Flag : ℕ
+v4Flag = 128
+
+-- its low 6 bits are the interface
+abbrev pub interfaces : ℕ
+interfaces = 64
+
 -- the number in the four octets from k on
 unfoldable pub wordAt : List ℕ → ℕ → ℕ
 wordAt v k = numberOf (getD v k 0 ∷ getD v (k + 1) 0 ∷ getD v (k + 2) 0 ∷ getD v (k + 3) 0 ∷ [])
 
 -- V4 flag set, the interface that is asked for, TEID not 0
 unfoldable pub tunnelGood : List ℕ → ℕ → Bool
-tunnelGood v interface = leb 128 (getD v 0 0) && eqb (getD v 0 0 % 64) interface && ltb 0 (wordAt v 1)
+tunnelGood v interface = leb v4Flag (getD v 0 0) && eqb (getD v 0 0 % interfaces) interface && ltb 0 (wordAt v 1)
 
 unfoldable pub tunnelOf : List ℕ → ℕ → Tunnel
 tunnelOf v interface = pick (ltb (length v) tunnelSize) Short (pick (tunnelGood v interface) (Value (wordAt v 1) (wordAt v 5)) Wrong)
@@ -54,18 +62,18 @@ pub tunnel-live : (v : List ℕ) (interface t a : ℕ) → tunnelOf v interface 
 unfolding tunnelOf tunnelGood
 tunnel-live v interface t a e = split (ltb (length v) tunnelSize) short long
   where
-    good : (leb 128 (getD v 0 0) && eqb (getD v 0 0 % 64) interface && ltb 0 (wordAt v 1)) ≡ true → ltb (length v) tunnelSize ≡ false → 0 < t
+    good : (leb v4Flag (getD v 0 0) && eqb (getD v 0 0 % interfaces) interface && ltb 0 (wordAt v 1)) ≡ true → ltb (length v) tunnelSize ≡ false → 0 < t
     good q h =
         let g : Value (wordAt v 1) (wordAt v 5) ≡ Value t a = rw (h, q) at e in
         let k : wordAt v 1 ≡ t = cc in
         let z : ltb 0 (wordAt v 1) ≡ true = search (and-left, and-right) depth 5 in
         rw (← k) (ltb-true 0 (wordAt v 1) z)
 
-    bad : (leb 128 (getD v 0 0) && eqb (getD v 0 0 % 64) interface && ltb 0 (wordAt v 1)) ≡ false → ltb (length v) tunnelSize ≡ false → 0 < t
+    bad : (leb v4Flag (getD v 0 0) && eqb (getD v 0 0 % interfaces) interface && ltb 0 (wordAt v 1)) ≡ false → ltb (length v) tunnelSize ≡ false → 0 < t
     bad q h = let g : Wrong ≡ Value t a = rw (h, q) at e in never (cc)
 
     short : ltb (length v) tunnelSize ≡ true → 0 < t
     short h = let g : Short ≡ Value t a = rw h at e in never (cc)
 
     long : ltb (length v) tunnelSize ≡ false → 0 < t
-    long h = split (leb 128 (getD v 0 0) && eqb (getD v 0 0 % 64) interface && ltb 0 (wordAt v 1)) (λ q. good q h) (λ q. bad q h)
+    long h = split (leb v4Flag (getD v 0 0) && eqb (getD v 0 0 % interfaces) interface && ltb 0 (wordAt v 1)) (λ q. good q h) (λ q. bad q h)

@@ -32,6 +32,11 @@ impl Tunnel {
     pub const FIELD: u8 = 87;
 
     pub const SIZE: usize = 9;
+
+    // The top bit of the first octet is the V4 flag, its low 6 bits are the interface.
+    pub const V4: u8 = 128;
+
+    pub const INTERFACES: u8 = 64;
 }
 
 fn wide(x: u8) -> u64
@@ -91,7 +96,7 @@ pub fn tunnel_of(v: &[u8], interface: u8) -> Tunnel
     let teid = octets::be32(v[1], v[2], v[3], v[4]);
     let address = octets::be32(v[5], v[6], v[7], v[8]);
     let flags = v[0];
-    if (128 <= flags) & (flags % 64 == interface) & (0 < teid) {
+    if (Tunnel::V4 <= flags) & (flags % Tunnel::INTERFACES == interface) & (0 < teid) {
         return Tunnel::Value { teid, address };
     }
     Tunnel::Wrong

@@ -91,8 +91,8 @@ module _ (node : Node) where
       (λ e. split (eqb (gateOf d) otherVersion) (λ f. rw (e, f) tt) (λ f. rw (e, f) tt))
 
 -- ---- the number that makes a session has three octets
-three : (a b c : ℕ) → isOctet a ≡ true → isOctet b ≡ true → isOctet c ≡ true → numberOf (a ∷ b ∷ c ∷ []) ≤ 16777215
-unfolding numberOf numberFrom isOctet
+three : (a b c : ℕ) → isOctet a ≡ true → isOctet b ≡ true → isOctet c ≡ true → numberOf (a ∷ b ∷ c ∷ []) ≤ lastCreated
+unfolding numberOf numberFrom isOctet lastCreated
 three a b c p q r =
     let x = ltb-true a 256 p in
     let y = ltb-true b 256 q in

@@ -1,3 +1,4 @@
+use Rattle.plan.specs.Limits.{longestName}
 use Rattle.benchplan.specs.Plans.{pointFrom}
 use borrow.Author.Needs.{needs}
 use Rattle.benchplan.proofs.point_from.Statement.{statement}
@@ -13,7 +14,7 @@ cast-t11 : tie.Need-cast-t11
 cast-t11 c = search needs
 
 returns : tie.Need-returns
-unfolding pointFrom
+unfolding pointFrom longestName
 returns c = rw (← c .before .copy-front .ensures)
 
 pub point-from-spec : {M : Type 1} → statement M

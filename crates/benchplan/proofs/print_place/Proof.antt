@@ -21,7 +21,7 @@ use Rattle.benchplan.specs.Ended.{lineShown, place-unused, place-used, p
 use Rattle.benchplan.specs.State.{shown}
 use Rattle.placeline.specs.Line.{lineOf}
 use Rattle.session.specs.Session.{blankAt}
-use Rattle.timing.specs.Outcome.{back, outcome}
+use Rattle.timing.specs.Outcome.{back, leastReply, outcome}
 use Rattle.lentedit.proofs.read as c-read′
 use Rattle.lentedit.proofs.read.Symbol as c-read-def
 use Rattle.lentedit.proofs.read.Symbol.{name as #lentedit·read}
@@ -116,6 +116,7 @@ module _ {M : Type 1} (𝓤 : URA M) (H : Heap 𝓤) (A : Atoms 𝓤) (W : Given
 
   exits : (r : Bench) (w : Val) (w-out : List ℕ) → Said r w-out → length w-out ≡ length (out .now)
       → ent 𝓤 (⋆ 𝓤 H A (Toks ∷ ‵ (finally u8 (out .name) w-out) ∷ ‵ (Bench-t.the-row .own r (w ∷ [])) ∷ [])) (Post w)
+  unfolding leastReply
   exits r w w-out e l-out =
       qed W (Toks ∷ ‵ (finally u8 (out .name) w-out) ∷ ‵ (Bench-t.the-row .own r (w ∷ [])) ∷ []) ∵
       suffices ! _ (ends-at 𝓤 H A entry′.ended stayed (entry′.clauses 𝓤 H A mem run) W bound w r (tt, (tt, (tt, (w-out, tt)))) (tt, (tt, (tt, (l-out, tt))))) $ says ! e $ frame ! $
@@ -123,6 +124,7 @@ module _ {M : Type 1} (𝓤 : URA M) (H : Heap 𝓤) (A : Atoms 𝓤) (W : Given
 
   module _ (C : Calls 𝓤 H) (Λ : Loops 𝓤 H) (fm : FmC 𝓤 H (W .laws) C) (known-read : Triple 𝓤 (C #lentedit·read) (c-read 𝓤 H A mem run)) (known-never-used : Triple 𝓤 (C #benchplan·never-used) (c-never-used 𝓤 H A mem run)) (known-node-of : Triple 𝓤 (C #benchplan·node-of) (c-node-of 𝓤 H A mem run)) (known-grugavorn-line : Triple 𝓤 (C #lentline·grugavorn-line) (c-grugavorn-line 𝓤 H A mem run)) (known-put-line : Triple 𝓤 (C #benchplan·put-line) (c-put-line 𝓤 H A mem run)) where
     walk : Is Bench-t.the-row b (v-b ∷ []) → Room Session-t.the-row (length (recs .now)) → Is usize place (v-place ∷ []) → Room u8 (length (out .now)) → ent 𝓤 (onEntry 𝓤 H A entry′.signature (κ₀, (κ₁, tt)) (q₀, (q₁, tt)) a at) (WpFn 𝓤 H C Λ code.function (v-b ∷ v-recs ∷ v-place ∷ v-out ∷ []) Post)
+    unfolding leastReply
     walk is-b room-recs is-place room-out =
         qed W ((Toks) ∷ ‵ (owns (Bench-t.the-row ∷ (ShrSlice (named 0) κ₀ Session-t.the-row) ∷ usize ∷ (MutSlice (named 1) κ₁ u8) ∷ []) a at) ∷ []) ∵ enter ! C Λ code.function (v-b ∷ v-recs ∷ v-place ∷ v-out ∷ []) _ $ alloc1 ! (λ l₀.
         alloc1 ! (λ l₁. alloc1 ! (λ l₂. alloc1 ! (λ l₃. alloc1 ! (λ l₄. alloc1 ! (λ l₅. alloc1 ! (λ l₆. alloc1 ! (λ l₇. alloc1 ! (λ l₈. alloc1 ! (λ l₉. alloc1 ! (λ l₁₀. alloc1 ! (λ l₁₁. alloc1 ! (λ l₁₂. alloc1 ! (λ l₁₃. alloc1 ! (λ l₁₄.
@@ -226,6 +228,7 @@ module _ {M : Type 1} (𝓤 : URA M) (H : Heap 𝓤) (A : Atoms 𝓤) (W : Given
 module _ {M : Type 1} (𝓤 : URA M) (H : Heap 𝓤) (A : Atoms 𝓤) (W : Given 𝓤 H A) (mem : Memory → SProp 𝓤) (run : Routine → Fun 𝓤) where
   print-place-walks : (C : Calls 𝓤 H) (Λ : Loops 𝓤 H) → FmC 𝓤 H (W .laws) C → Triple 𝓤 (C #lentedit·read) (c-read 𝓤 H A mem run) → Triple 𝓤 (C #benchplan·never-used) (c-never-used 𝓤 H A mem run) → Triple 𝓤 (C #benchplan·node-of) (c-node-of 𝓤 H A mem run) → Triple 𝓤 (C #lentline·grugavorn-line) (c-grugavorn-line 𝓤 H A mem run) → Triple 𝓤 (C #benchplan·put-line) (c-put-line 𝓤 H A mem run)
       → Walks 𝓤 H A entry′.ended stayed (WpFn 𝓤 H C Λ code.function) (entry′.clauses 𝓤 H A mem run)
+  unfolding leastReply
   print-place-walks C Λ fm known-read known-never-used known-node-of known-grugavorn-line known-put-line = walked 𝓤 H A entry′.ended stayed (entry′.clauses 𝓤 H A mem run) (WpFn 𝓤 H C Λ code.function)
       (λ κs. (LL.vals Bench-t.the-type Bench-l.the-laws, (slice-vals, (uint-vals w64, (slice-vals, tt))))) (λ κs. (LL.tells Bench-t.the-type Bench-l.the-laws, (shr-slice-tells (named 0) (κs .0) Session-t.the-row, (uint-tells w64, (mut-slice-tells (named 1) (κs .1 .0) u8, tt)))))
       (λ κs qs bounds a g are. via 𝓤 _ (fst∗ 𝓤 _ (emp 𝓤))
@@ -234,12 +237,13 @@ module _ {M : Type 1} (𝓤 : URA M) (H : Heap 𝓤) (A : Atoms 𝓤) (W : Given
 print-place-meets : {M : Type 1} (𝓤 : URA M) (H : Heap 𝓤) (A : Atoms 𝓤) → Given 𝓤 H A → (mem : Memory → SProp 𝓤) (run : Routine → Fun 𝓤) (𝓣 : Tables 𝓤 H)
     → Triple 𝓤 (𝓣 .C #lentedit·read) (c-read 𝓤 H A mem run) → Triple 𝓤 (𝓣 .C #benchplan·never-used) (c-never-used 𝓤 H A mem run) → Triple 𝓤 (𝓣 .C #benchplan·node-of) (c-node-of 𝓤 H A mem run) → Triple 𝓤 (𝓣 .C #lentline·grugavorn-line) (c-grugavorn-line 𝓤 H A mem run) → Triple 𝓤 (𝓣 .C #benchplan·put-line) (c-put-line 𝓤 H A mem run)
     → Meets 𝓤 H A entry′.signature (WpFn 𝓤 H (𝓣 .C) (𝓣 .Λ) code.function) (entry′.spec 𝓤 H A mem run)
+unfolding leastReply
 print-place-meets 𝓤 H A W mem run 𝓣 known-read known-never-used known-node-of known-grugavorn-line known-put-line =
     walk-meets 𝓤 H A entry′.ended stayed W (goes-dropped 𝓤 H A W 2 (plain (λ _. Bench-t.the-row)) yes (λ κs x f. refl), (goes-dropped 𝓤 H A W 2 (shrSliceOf (0 ∷ []) tt (plain (λ _. Session-t.the-row))) yes (λ κs x f. refl), (goes-dropped 𝓤 H A W 2 (plain (λ _. usize)) yes (λ κs x f. refl), (goes-gave-slice 𝓤 H A W 2 1 tt (plain (λ _. u8)), tt)))) (entry′.clauses 𝓤 H A mem run)
     (WpFn 𝓤 H (𝓣 .C) (𝓣 .Λ) code.function) (WpFn-mono 𝓤 H (W .laws) 𝓣 code.function) (print-place-walks 𝓤 H A W mem run (𝓣 .C) (𝓣 .Λ) (fmOf 𝓤 H (W .laws) 𝓣) known-read known-never-used known-node-of known-grugavorn-line known-put-line)
 
 pub print-place-spec : {M : Type 1} → stated.statement M
-unfolding code.routine tablesOf
+unfolding code.routine tablesOf leastReply
 print-place-spec 𝓤 H 𝓜 𝓖 𝓡 =
     entered 𝓤 H (tripleOf 𝓤 H (𝓖 .A) entry′.signature (entry′.spec 𝓤 H (𝓖 .A) (𝓜 .mem) (𝓡 .run)))
     (tables 𝓤 H 𝓜 𝓡 code.env .C) (tables 𝓤 H 𝓜 𝓡 code.env .Λ) #benchplan·print-place code.function (code.unfolded 𝓤 H 𝓜 𝓡)

@@ -34,9 +34,11 @@ use Rattle.benchplan.proofs.print_places.Code as code
 use Rattle.benchplan.proofs.print_places.Code.Mir as mir
 
 within-word : (n i : ℕ) → n < 2 ^ 64 → i < n → i < 2 ^ 64
+unfolding places
 within-word n i g l = omega (arith, g, l)
 
 next-word : (n i : ℕ) → n < 2 ^ 64 → i < n → i + 1 < 2 ^ 64
+unfolding places
 next-word n i g l = omega (arith, g, l)
 
 abbrev stayed : Stays (entry′.ended .signature .params) (entry′.ended .kept)
@@ -98,6 +100,7 @@ module _ {M : Type 1} (𝓤 : URA M) (H : Heap 𝓤) (A : Atoms 𝓤) (W : Given
 
   exits : (r : Bench) (w : Val) (w-out : List ℕ) → Said r w-out → length w-out ≡ length (out .now)
       → ent 𝓤 (⋆ 𝓤 H A (Toks ∷ ‵ (finally u8 (out .name) w-out) ∷ ‵ (Bench-t.the-row .own r (w ∷ [])) ∷ [])) (Post w)
+  unfolding places
   exits r w w-out e l-out =
       qed W (Toks ∷ ‵ (finally u8 (out .name) w-out) ∷ ‵ (Bench-t.the-row .own r (w ∷ [])) ∷ []) ∵
       suffices ! _ (ends-at 𝓤 H A entry′.ended stayed (entry′.clauses 𝓤 H A mem run) W bound w r (tt, (tt, (w-out, tt))) (tt, (tt, (l-out, tt)))) $ says ! e $ frame ! $
@@ -129,6 +132,7 @@ module _ {M : Type 1} (𝓤 : URA M) (H : Heap 𝓤) (A : Atoms 𝓤) (W : Given
       Nearer u v = 64 - u .i < 64 - v .i
 
       Nearer-wf : WellFounded Nearer
+      unfolding places
       Nearer-wf = InvImage·wf (λ (u : St). 64 - u .i) (Nat·lt-wfRel .wf)
 
       abbrev At : St → List (Item 𝓤)
@@ -138,7 +142,7 @@ module _ {M : Type 1} (𝓤 : URA M) (H : Heap 𝓤) (A : Atoms 𝓤) (W : Given
       Turned u = afterTurn 𝓤 H (Below 𝓤 H A Nearer At u) (afterBlock 𝓤 H (afterSeq 𝓤 H (Wp 𝓤 H C Λ En mir.t-7 (atReturn 𝓤 H En Post)) (atReturn 𝓤 H En Post)))
 
       turns : (u : St) → Sq W (At u) (runs C Λ En mir.turn-1 (anyQ (Turned u)))
-      unfolding afterTurn
+      unfolding afterTurn places
       turns u =
           let fm = fmOf 𝓤 H (W .laws) 𝓣 in
           -- _9 = _6 lt 64
@@ -185,6 +189,7 @@ module _ {M : Type 1} (𝓤 : URA M) (H : Heap 𝓤) (A : Atoms 𝓤) (W : Given
     Start = ‵ (froom (sliceTy (tyRef erased mut (pointee (u8 .written)))) l₁₁ 0) ∷ ‵ (fdies (sliceTy (tyRef erased mut (pointee (u8 .written)))) l₁₁) ∷ ‵ (froom (tyRef erased mut (pointee (u8 .written))) l₁₀ 0) ∷ ‵ (fdies (tyRef erased mut (pointee (u8 .written))) l₁₀) ∷ ‵ (froom tyBool l₉ 0) ∷ ‵ (fdies tyBool l₉) ∷ ‵ (froom (sliceTy (tyRef erased mut (pointee (u8 .written)))) l₈ 0) ∷ ‵ (fdies (sliceTy (tyRef erased mut (pointee (u8 .written)))) l₈) ∷ ‵ (froom (tyRef erased mut (pointee (u8 .written))) l₇ 0) ∷ ‵ (fdies (tyRef erased mut (pointee (u8 .written))) l₇) ∷ ‵ (froom (tyInt w64) l₆ 0) ∷ ‵ (fdies (tyInt w64) l₆) ∷ ‵ (froom Bench-l.mir l₅ 0) ∷ ‵ (fdies Bench-l.mir l₅) ∷ ‵ (froom (tyInt w64) l₄ 0) ∷ ‵ (fdies (tyInt w64) l₄) ∷ ‵ (fat fullShare (sliceTy (tyRef (named 1) mut (pointee (u8 .written)))) l₃ 0 v-out) ∷ ‵ (fdies (sliceTy (tyRef (named 1) mut (pointee (u8 .written)))) l₃) ∷ ‵ (fat fullShare (sliceTy (tyRef (named 0) imm (pointee (Session-t.the-row .written)))) l₂ 0 v-recs) ∷ ‵ (fdies (sliceTy (tyRef (named 0) imm (pointee (Session-t.the-row .written)))) l₂) ∷ ‵ (fat fullShare Bench-l.mir l₁ 0 v-b) ∷ ‵ (fdies Bench-l.mir l₁) ∷ ‵ (froom Bench-l.mir l₀ 0) ∷ ‵ (fdies Bench-l.mir l₀) ∷ ‵ Own-out ∷ ‵ Own-recs ∷ ‵ (flft κ₀ q₀) ∷ ‵ (flft κ₁ q₁) ∷ []
 
     begins : Sq W Start (runs C Λ En mir.t-1 (atRet En Post))
+    unfolding places
     begins =
         let fm = fmOf 𝓤 H (W .laws) 𝓣 in
         -- _4 = sessions_in(_2)
@@ -223,6 +228,7 @@ module _ {M : Type 1} (𝓤 : URA M) (H : Heap 𝓤) (A : Atoms 𝓤) (W : Given
         first ! $ blocks ! $ loops ! 𝓣 (Nearer w-sessions-in r-sessions-in e-sessions-in is-sessions-in w-put-live r-put-live z-put-live e-put-live is-put-live len-put-live-out) (Nearer-wf w-sessions-in r-sessions-in e-sessions-in is-sessions-in w-put-live r-put-live z-put-live e-put-live is-put-live len-put-live-out) (At w-sessions-in r-sessions-in e-sessions-in is-sessions-in w-put-live r-put-live z-put-live e-put-live is-put-live len-put-live-out) (turns w-sessions-in r-sessions-in e-sessions-in is-sessions-in w-put-live r-put-live z-put-live e-put-live is-put-live len-put-live-out) (record { i = 0; le = zero-le; at-y = r-put-live; val-at-y = w-put-live; is-at-y = is-put-live; at-out = (z-put-live .1 .1 .0); len-at-out = len-put-live-out; held = places-none (recs .now) b r-put-live ys-out (z-put-live .1 .1 .0) r-sessions-in e-sessions-in e-put-live }))))))))))))))
 
   walk : (𝓣 : Tables 𝓤 H) → Triple 𝓤 (𝓣 .C #benchplan·sessions-in) (c-sessions-in 𝓤 H A mem run) → Triple 𝓤 (𝓣 .C #benchplan·put-live) (c-put-live 𝓤 H A mem run) → Triple 𝓤 (𝓣 .C #benchplan·print-place) (c-print-place 𝓤 H A mem run) → Is Bench-t.the-row b (v-b ∷ []) → Room Session-t.the-row (length (recs .now)) → Room u8 (length (out .now)) → ent 𝓤 (onEntry 𝓤 H A entry′.signature (κ₀, (κ₁, tt)) (q₀, (q₁, tt)) a at) (WpFn 𝓤 H (𝓣 .C) (𝓣 .Λ) code.function (v-b ∷ v-recs ∷ v-out ∷ []) Post)
+  unfolding places
   walk 𝓣 known-sessions-in known-put-live known-print-place is-b room-recs room-out =
       qed W ((Toks) ∷ ‵ (owns (Bench-t.the-row ∷ (ShrSlice (named 0) κ₀ Session-t.the-row) ∷ (MutSlice (named 1) κ₁ u8) ∷ []) a at) ∷ []) ∵ enter ! (𝓣 .C) (𝓣 .Λ) code.function (v-b ∷ v-recs ∷ v-out ∷ []) _ $ alloc1 ! (λ l₀. alloc1 ! (λ l₁.
       alloc1 ! (λ l₂. alloc1 ! (λ l₃. alloc1 ! (λ l₄. alloc1 ! (λ l₅. alloc1 ! (λ l₆. alloc1 ! (λ l₇. alloc1 ! (λ l₈. alloc1 ! (λ l₉. alloc1 ! (λ l₁₀. alloc1 ! (λ l₁₁. alloc0 ! $ params1 ! $
@@ -234,6 +240,7 @@ module _ {M : Type 1} (𝓤 : URA M) (H : Heap 𝓤) (A : Atoms 𝓤) (W : Given
 module _ {M : Type 1} (𝓤 : URA M) (H : Heap 𝓤) (A : Atoms 𝓤) (W : Given 𝓤 H A) (mem : Memory → SProp 𝓤) (run : Routine → Fun 𝓤) where
   print-places-walks : (𝓣 : Tables 𝓤 H) → Triple 𝓤 (𝓣 .C #benchplan·sessions-in) (c-sessions-in 𝓤 H A mem run) → Triple 𝓤 (𝓣 .C #benchplan·put-live) (c-put-live 𝓤 H A mem run) → Triple 𝓤 (𝓣 .C #benchplan·print-place) (c-print-place 𝓤 H A mem run)
       → Walks 𝓤 H A entry′.ended stayed (WpFn 𝓤 H (𝓣 .C) (𝓣 .Λ) code.function) (entry′.clauses 𝓤 H A mem run)
+  unfolding places
   print-places-walks 𝓣 known-sessions-in known-put-live known-print-place = walked 𝓤 H A entry′.ended stayed (entry′.clauses 𝓤 H A mem run) (WpFn 𝓤 H (𝓣 .C) (𝓣 .Λ) code.function)
       (λ κs. (LL.vals Bench-t.the-type Bench-l.the-laws, (slice-vals, (slice-vals, tt)))) (λ κs. (LL.tells Bench-t.the-type Bench-l.the-laws, (shr-slice-tells (named 0) (κs .0) Session-t.the-row, (mut-slice-tells (named 1) (κs .1 .0) u8, tt))))
       (λ κs qs bounds a g are. via 𝓤 _ (fst∗ 𝓤 _ (emp 𝓤))
@@ -242,12 +249,13 @@ module _ {M : Type 1} (𝓤 : URA M) (H : Heap 𝓤) (A : Atoms 𝓤) (W : Given
 print-places-meets : {M : Type 1} (𝓤 : URA M) (H : Heap 𝓤) (A : Atoms 𝓤) → Given 𝓤 H A → (mem : Memory → SProp 𝓤) (run : Routine → Fun 𝓤) (𝓣 : Tables 𝓤 H)
     → Triple 𝓤 (𝓣 .C #benchplan·sessions-in) (c-sessions-in 𝓤 H A mem run) → Triple 𝓤 (𝓣 .C #benchplan·put-live) (c-put-live 𝓤 H A mem run) → Triple 𝓤 (𝓣 .C #benchplan·print-place) (c-print-place 𝓤 H A mem run)
     → Meets 𝓤 H A entry′.signature (WpFn 𝓤 H (𝓣 .C) (𝓣 .Λ) code.function) (entry′.spec 𝓤 H A mem run)
+unfolding places
 print-places-meets 𝓤 H A W mem run 𝓣 known-sessions-in known-put-live known-print-place =
     walk-meets 𝓤 H A entry′.ended stayed W (goes-dropped 𝓤 H A W 2 (plain (λ _. Bench-t.the-row)) yes (λ κs x f. refl), (goes-dropped 𝓤 H A W 2 (shrSliceOf (0 ∷ []) tt (plain (λ _. Session-t.the-row))) yes (λ κs x f. refl), (goes-gave-slice 𝓤 H A W 2 1 tt (plain (λ _. u8)), tt))) (entry′.clauses 𝓤 H A mem run)
     (WpFn 𝓤 H (𝓣 .C) (𝓣 .Λ) code.function) (WpFn-mono 𝓤 H (W .laws) 𝓣 code.function) (print-places-walks 𝓤 H A W mem run 𝓣 known-sessions-in known-put-live known-print-place)
 
 pub print-places-spec : {M : Type 1} → stated.statement M
-unfolding code.routine tablesOf
+unfolding code.routine tablesOf places
 print-places-spec 𝓤 H 𝓜 𝓖 𝓡 =
     entered 𝓤 H (tripleOf 𝓤 H (𝓖 .A) entry′.signature (entry′.spec 𝓤 H (𝓖 .A) (𝓜 .mem) (𝓡 .run)))
     (tables 𝓤 H 𝓜 𝓡 code.env .C) (tables 𝓤 H 𝓜 𝓡 code.env .Λ) #benchplan·print-places code.function (code.unfolded 𝓤 H 𝓜 𝓡)

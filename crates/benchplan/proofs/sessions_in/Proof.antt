@@ -26,9 +26,11 @@ use Rattle.benchplan.proofs.sessions_in.Code as code
 use Rattle.benchplan.proofs.sessions_in.Code.Mir as mir
 
 within-word : (n i : ℕ) → n < 2 ^ 64 → i < n → i < 2 ^ 64
+unfolding places
 within-word n i g l = omega (arith, g, l)
 
 next-word : (n i : ℕ) → n < 2 ^ 64 → i < n → i + 1 < 2 ^ 64
+unfolding places
 next-word n i g l = omega (arith, g, l)
 
 abbrev stayed : Stays (entry′.ended .signature .params) (entry′.ended .kept)
@@ -72,6 +74,7 @@ module _ {M : Type 1} (𝓤 : URA M) (H : Heap 𝓤) (A : Atoms 𝓤) (W : Given
 
   exits : (r : ℕ) (w : Val) → Said r
       → ent 𝓤 (⋆ 𝓤 H A (Toks ∷ ‵ (usize .own r (w ∷ [])) ∷ [])) (Post w)
+  unfolding places
   exits r w e =
       qed W (Toks ∷ ‵ (usize .own r (w ∷ [])) ∷ []) ∵
       suffices ! _ (ends-at 𝓤 H A entry′.ended stayed (entry′.clauses 𝓤 H A mem run) W bound w r (tt, tt) (tt, tt)) $ says ! e $ frame ! $
@@ -101,6 +104,7 @@ module _ {M : Type 1} (𝓤 : URA M) (H : Heap 𝓤) (A : Atoms 𝓤) (W : Given
       Nearer u v = 64 - u .i < 64 - v .i
 
       Nearer-wf : WellFounded Nearer
+      unfolding places
       Nearer-wf = InvImage·wf (λ (u : St). 64 - u .i) (Nat·lt-wfRel .wf)
 
       abbrev At : St → List (Item 𝓤)
@@ -110,7 +114,7 @@ module _ {M : Type 1} (𝓤 : URA M) (H : Heap 𝓤) (A : Atoms 𝓤) (W : Given
       Turned u = afterTurn 𝓤 H (Below 𝓤 H A Nearer At u) (afterBlock 𝓤 H (afterSeq 𝓤 H (Wp 𝓤 H C Λ En mir.t-4 (atReturn 𝓤 H En Post)) (atReturn 𝓤 H En Post)))
 
       turns : (u : St) → Sq W (At u) (runs C Λ En mir.turn-1 (anyQ (Turned u)))
-      unfolding afterTurn
+      unfolding afterTurn places
       turns u =
           let fm = fmOf 𝓤 H (W .laws) 𝓣 in
           -- _5 = _3 lt 64
@@ -155,6 +159,7 @@ module _ {M : Type 1} (𝓤 : URA M) (H : Heap 𝓤) (A : Atoms 𝓤) (W : Given
     Start = ‵ (froom tyBool l₅ 0) ∷ ‵ (fdies tyBool l₅) ∷ ‵ (froom Session-l.mir l₄ 0) ∷ ‵ (fdies Session-l.mir l₄) ∷ ‵ (froom (tyInt w64) l₃ 0) ∷ ‵ (fdies (tyInt w64) l₃) ∷ ‵ (froom (tyInt w64) l₂ 0) ∷ ‵ (fdies (tyInt w64) l₂) ∷ ‵ (fat fullShare (sliceTy (tyRef (named 0) imm (pointee (Session-t.the-row .written)))) l₁ 0 v-recs) ∷ ‵ (fdies (sliceTy (tyRef (named 0) imm (pointee (Session-t.the-row .written)))) l₁) ∷ ‵ (froom (tyInt w64) l₀ 0) ∷ ‵ (fdies (tyInt w64) l₀) ∷ ‵ Own-recs ∷ ‵ (flft κ₀ q₀) ∷ []
 
     begins : Sq W Start (runs C Λ En mir.t-1 (atRet En Post))
+    unfolding places
     begins =
         let fm = fmOf 𝓤 H (W .laws) 𝓣 in
         -- _2 = 0
@@ -165,6 +170,7 @@ module _ {M : Type 1} (𝓤 : URA M) (H : Heap 𝓤) (A : Atoms 𝓤) (W : Given
         first ! $ blocks ! $ loops ! 𝓣 (Nearer) (Nearer-wf) (At) (turns) (record { i = 0; le = zero-le; at-n = 0; val-at-n = (vint w64 0); is-at-n = (refl, lit< tt); held = count-none (recs .now) })
 
   walk : (𝓣 : Tables 𝓤 H) → Triple 𝓤 (𝓣 .C #lentedit·read) (c-read 𝓤 H A mem run) → Triple 𝓤 (𝓣 .C #benchplan·one-more-of) (c-one-more-of 𝓤 H A mem run) → Room Session-t.the-row (length (recs .now)) → ent 𝓤 (onEntry 𝓤 H A entry′.signature (κ₀, tt) (q₀, tt) a at) (WpFn 𝓤 H (𝓣 .C) (𝓣 .Λ) code.function (v-recs ∷ []) Post)
+  unfolding places
   walk 𝓣 known-read known-one-more-of room-recs =
       qed W ((Toks) ∷ ‵ (owns ((ShrSlice (named 0) κ₀ Session-t.the-row) ∷ []) a at) ∷ []) ∵ enter ! (𝓣 .C) (𝓣 .Λ) code.function (v-recs ∷ []) _ $ alloc1 ! (λ l₀. alloc1 ! (λ l₁. alloc1 ! (λ l₂. alloc1 ! (λ l₃. alloc1 ! (λ l₄. alloc1 ! (λ l₅.
       alloc0 ! $ params1 ! $ pass1 ! (init ! 8 refl (tt, (tt, (record { fits = room-recs .0 }, tt)))) $ pass0 ! $ move ! (12 ∷ []) $ split ! $ move ! (1 ∷ []) $ drop ! $ move ! (13 ∷ []) $ fsplit ! $ move ! (1 ∷ []) $ drop ! $
@@ -173,6 +179,7 @@ module _ {M : Type 1} (𝓤 : URA M) (H : Heap 𝓤) (A : Atoms 𝓤) (W : Given
 module _ {M : Type 1} (𝓤 : URA M) (H : Heap 𝓤) (A : Atoms 𝓤) (W : Given 𝓤 H A) (mem : Memory → SProp 𝓤) (run : Routine → Fun 𝓤) where
   sessions-in-walks : (𝓣 : Tables 𝓤 H) → Triple 𝓤 (𝓣 .C #lentedit·read) (c-read 𝓤 H A mem run) → Triple 𝓤 (𝓣 .C #benchplan·one-more-of) (c-one-more-of 𝓤 H A mem run)
       → Walks 𝓤 H A entry′.ended stayed (WpFn 𝓤 H (𝓣 .C) (𝓣 .Λ) code.function) (entry′.clauses 𝓤 H A mem run)
+  unfolding places
   sessions-in-walks 𝓣 known-read known-one-more-of = walked 𝓤 H A entry′.ended stayed (entry′.clauses 𝓤 H A mem run) (WpFn 𝓤 H (𝓣 .C) (𝓣 .Λ) code.function)
       (λ κs. (slice-vals, tt)) (λ κs. (shr-slice-tells (named 0) (κs .0) Session-t.the-row, tt))
       (λ κs qs bounds a g are. via 𝓤 _ (fst∗ 𝓤 _ (emp 𝓤))
@@ -181,12 +188,13 @@ module _ {M : Type 1} (𝓤 : URA M) (H : Heap 𝓤) (A : Atoms 𝓤) (W : Given
 sessions-in-meets : {M : Type 1} (𝓤 : URA M) (H : Heap 𝓤) (A : Atoms 𝓤) → Given 𝓤 H A → (mem : Memory → SProp 𝓤) (run : Routine → Fun 𝓤) (𝓣 : Tables 𝓤 H)
     → Triple 𝓤 (𝓣 .C #lentedit·read) (c-read 𝓤 H A mem run) → Triple 𝓤 (𝓣 .C #benchplan·one-more-of) (c-one-more-of 𝓤 H A mem run)
     → Meets 𝓤 H A entry′.signature (WpFn 𝓤 H (𝓣 .C) (𝓣 .Λ) code.function) (entry′.spec 𝓤 H A mem run)
+unfolding places
 sessions-in-meets 𝓤 H A W mem run 𝓣 known-read known-one-more-of =
     walk-meets 𝓤 H A entry′.ended stayed W (goes-dropped 𝓤 H A W 1 (shrSliceOf (0 ∷ []) tt (plain (λ _. Session-t.the-row))) yes (λ κs x f. refl), tt) (entry′.clauses 𝓤 H A mem run)
     (WpFn 𝓤 H (𝓣 .C) (𝓣 .Λ) code.function) (WpFn-mono 𝓤 H (W .laws) 𝓣 code.function) (sessions-in-walks 𝓤 H A W mem run 𝓣 known-read known-one-more-of)
 
 pub sessions-in-spec : {M : Type 1} → stated.statement M
-unfolding code.routine tablesOf
+unfolding code.routine tablesOf places
 sessions-in-spec 𝓤 H 𝓜 𝓖 𝓡 =
     entered 𝓤 H (tripleOf 𝓤 H (𝓖 .A) entry′.signature (entry′.spec 𝓤 H (𝓖 .A) (𝓜 .mem) (𝓡 .run)))
     (tables 𝓤 H 𝓜 𝓡 code.env .C) (tables 𝓤 H 𝓜 𝓡 code.env .Λ) #benchplan·sessions-in code.function (code.unfolded 𝓤 H 𝓜 𝓡)

@@ -16,6 +16,7 @@ use Rattle.benchrun.proofs.Sent as Sent-t
 use Rattle.benchrun.proofs.Sent.Laws as Sent-l
 use Rattle.benchplan.specs.State.{ran}
 use Rattle.benchrun.specs.Run.{allSent, isDue, sentOne}
+use Rattle.tunnel.specs.Numbering.{places}
 use Rattle.benchrun.specs.Run.{dueSent, sent-on, sent-stop, sent-end, sent-none}
 use Rattle.benchrun.proofs.send_one as c-send-one′
 use Rattle.benchrun.proofs.send_one.Symbol as c-send-one-def
@@ -36,9 +37,11 @@ use Rattle.benchrun.proofs.send_due.Code as code
 use Rattle.benchrun.proofs.send_due.Code.Mir as mir
 
 within-word : (n i : ℕ) → n < 2 ^ 64 → i < n → i < 2 ^ 64
+unfolding places
 within-word n i g l = omega (arith, g, l)
 
 next-word : (n i : ℕ) → n < 2 ^ 64 → i < n → i + 1 < 2 ^ 64
+unfolding places
 next-word n i g l = omega (arith, g, l)
 
 abbrev stayed : Stays (entry′.ended .signature .params) (entry′.ended .kept)
@@ -106,6 +109,7 @@ module _ {M : Type 1} (𝓤 : URA M) (H : Heap 𝓤) (A : Atoms 𝓤) (W : Given
 
   exits : (r : Bench) (w : Val) (w-recs : List Session) (w-out : List ℕ) → Said r w-recs w-out → length w-recs ≡ length (recs .now) → length w-out ≡ length (out .now)
       → ent 𝓤 (⋆ 𝓤 H A (Toks ∷ ‵ (finally Session-t.the-row (recs .name) w-recs) ∷ ‵ (finally u8 (out .name) w-out) ∷ ‵ (Bench-t.the-row .own r (w ∷ [])) ∷ [])) (Post w)
+  unfolding places
   exits r w w-recs w-out e l-recs l-out =
       qed W (Toks ∷ ‵ (finally Session-t.the-row (recs .name) w-recs) ∷ ‵ (finally u8 (out .name) w-out) ∷ ‵ (Bench-t.the-row .own r (w ∷ [])) ∷ []) ∵
       suffices ! _ (ends-at 𝓤 H A entry′.ended stayed (entry′.clauses 𝓤 H A mem run) W bound w r (tt, (w-recs, (w-out, tt))) (tt, (l-recs, (l-out, tt)))) $ says ! e $ frame ! $
@@ -133,12 +137,13 @@ module _ {M : Type 1} (𝓤 : URA M) (H : Heap 𝓤) (A : Atoms 𝓤) (W : Given
         pub len-at-recs : length at-recs ≡ length ys-recs
         pub at-out : List ℕ
         pub len-at-out : length at-out ≡ length ys-out
-        pub held : allSent b ys-recs ys-out ≡ dueSent (65 - i) (ran at-y at-recs at-out)
+        pub held : allSent b ys-recs ys-out ≡ dueSent (places + 1 - i) (ran at-y at-recs at-out)
 
       abbrev Nearer : St → St → Type 0
       Nearer u v = 65 - u .i < 65 - v .i
 
       Nearer-wf : WellFounded Nearer
+      unfolding places
       Nearer-wf = InvImage·wf (λ (u : St). 65 - u .i) (Nat·lt-wfRel .wf)
 
       abbrev At : St → List (Item 𝓤)
@@ -148,7 +153,7 @@ module _ {M : Type 1} (𝓤 : URA M) (H : Heap 𝓤) (A : Atoms 𝓤) (W : Given
       Turned u = afterTurn 𝓤 H (Below 𝓤 H A Nearer At u) (afterBlock 𝓤 H (afterSeq 𝓤 H (Wp 𝓤 H C Λ En mir.t-4 (atReturn 𝓤 H En Post)) (atReturn 𝓤 H En Post)))
 
       turns : (u : St) → Sq W (At u) (runs C Λ En mir.turn-1 (anyQ (Turned u)))
-      unfolding afterTurn
+      unfolding afterTurn places
       turns u =
           let fm = fmOf 𝓤 H (W .laws) 𝓣 in
           -- _8 = _5 lt 65
@@ -238,6 +243,7 @@ module _ {M : Type 1} (𝓤 : URA M) (H : Heap 𝓤) (A : Atoms 𝓤) (W : Given
     Start = ‵ (froom (sliceTy (tyRef erased mut (pointee (u8 .written)))) l₁₂ 0) ∷ ‵ (fdies (sliceTy (tyRef erased mut (pointee (u8 .written)))) l₁₂) ∷ ‵ (froom (tyRef erased mut (pointee (u8 .written))) l₁₁ 0) ∷ ‵ (fdies (tyRef erased mut (pointee (u8 .written))) l₁₁) ∷ ‵ (froom (sliceTy (tyRef erased mut (pointee (Session-t.the-row .written)))) l₁₀ 0) ∷ ‵ (fdies (sliceTy (tyRef erased mut (pointee (Session-t.the-row .written)))) l₁₀) ∷ ‵ (froom (tyRef erased mut (pointee (Session-t.the-row .written))) l₉ 0) ∷ ‵ (fdies (tyRef erased mut (pointee (Session-t.the-row .written))) l₉) ∷ ‵ (froom tyBool l₈ 0) ∷ ‵ (fdies tyBool l₈) ∷ ‵ (froom tyBool l₇ 0) ∷ ‵ (fdies tyBool l₇) ∷ ‵ (froom Sent-l.mir l₆ 0) ∷ ‵ (fdies Sent-l.mir l₆) ∷ ‵ (froom (tyInt w64) l₅ 0) ∷ ‵ (fdies (tyInt w64) l₅) ∷ ‵ (froom Bench-l.mir l₄ 0) ∷ ‵ (fdies Bench-l.mir l₄) ∷ ‵ (fat fullShare (sliceTy (tyRef (named 1) mut (pointee (u8 .written)))) l₃ 0 v-out) ∷ ‵ (fdies (sliceTy (tyRef (named 1) mut (pointee (u8 .written)))) l₃) ∷ ‵ (fat fullShare (sliceTy (tyRef (named 0) mut (pointee (Session-t.the-row .written)))) l₂ 0 v-recs) ∷ ‵ (fdies (sliceTy (tyRef (named 0) mut (pointee (Session-t.the-row .written)))) l₂) ∷ ‵ (fat fullShare Bench-l.mir l₁ 0 v-b) ∷ ‵ (fdies Bench-l.mir l₁) ∷ ‵ (froom Bench-l.mir l₀ 0) ∷ ‵ (fdies Bench-l.mir l₀) ∷ ‵ Own-out ∷ ‵ Own-recs ∷ ‵ (flft κ₀ q₀) ∷ ‵ (flft κ₁ q₁) ∷ []
 
     begins : Sq W Start (runs C Λ En mir.t-1 (atRet En Post))
+    unfolding places
     begins =
         let fm = fmOf 𝓤 H (W .laws) 𝓣 in
         -- _4 = _1
@@ -248,6 +254,7 @@ module _ {M : Type 1} (𝓤 : URA M) (H : Heap 𝓤) (A : Atoms 𝓤) (W : Given
         first ! $ blocks ! $ loops ! 𝓣 (Nearer) (Nearer-wf) (At) (turns) (record { i = 0; le = zero-le; at-y = b; val-at-y = v-b; is-at-y = is-b; at-recs = ys-recs; len-at-recs = refl; at-out = ys-out; len-at-out = refl; held = sent-none b ys-recs ys-out })
 
   walk : (𝓣 : Tables 𝓤 H) → Triple 𝓤 (𝓣 .C #benchrun·send-one) (c-send-one 𝓤 H A mem run) → Triple 𝓤 (𝓣 .C #benchrun·bench-of) (c-bench-of 𝓤 H A mem run) → Triple 𝓤 (𝓣 .C #benchrun·is-last) (c-is-last 𝓤 H A mem run) → Is Bench-t.the-row b (v-b ∷ []) → Room Session-t.the-row (length (recs .now)) → Room u8 (length (out .now)) → ent 𝓤 (onEntry 𝓤 H A entry′.signature (κ₀, (κ₁, tt)) (q₀, (q₁, tt)) a at) (WpFn 𝓤 H (𝓣 .C) (𝓣 .Λ) code.function (v-b ∷ v-recs ∷ v-out ∷ []) Post)
+  unfolding places
   walk 𝓣 known-send-one known-bench-of known-is-last is-b room-recs room-out =
       qed W ((Toks) ∷ ‵ (owns (Bench-t.the-row ∷ (MutSlice (named 0) κ₀ Session-t.the-row) ∷ (MutSlice (named 1) κ₁ u8) ∷ []) a at) ∷ []) ∵ enter ! (𝓣 .C) (𝓣 .Λ) code.function (v-b ∷ v-recs ∷ v-out ∷ []) _ $ alloc1 ! (λ l₀. alloc1 ! (λ l₁.
       alloc1 ! (λ l₂. alloc1 ! (λ l₃. alloc1 ! (λ l₄. alloc1 ! (λ l₅. alloc1 ! (λ l₆. alloc1 ! (λ l₇. alloc1 ! (λ l₈. alloc1 ! (λ l₉. alloc1 ! (λ l₁₀. alloc1 ! (λ l₁₁. alloc1 ! (λ l₁₂. alloc0 ! $ params1 ! $
@@ -259,6 +266,7 @@ module _ {M : Type 1} (𝓤 : URA M) (H : Heap 𝓤) (A : Atoms 𝓤) (W : Given
 module _ {M : Type 1} (𝓤 : URA M) (H : Heap 𝓤) (A : Atoms 𝓤) (W : Given 𝓤 H A) (mem : Memory → SProp 𝓤) (run : Routine → Fun 𝓤) where
   send-due-walks : (𝓣 : Tables 𝓤 H) → Triple 𝓤 (𝓣 .C #benchrun·send-one) (c-send-one 𝓤 H A mem run) → Triple 𝓤 (𝓣 .C #benchrun·bench-of) (c-bench-of 𝓤 H A mem run) → Triple 𝓤 (𝓣 .C #benchrun·is-last) (c-is-last 𝓤 H A mem run)
       → Walks 𝓤 H A entry′.ended stayed (WpFn 𝓤 H (𝓣 .C) (𝓣 .Λ) code.function) (entry′.clauses 𝓤 H A mem run)
+  unfolding places
   send-due-walks 𝓣 known-send-one known-bench-of known-is-last = walked 𝓤 H A entry′.ended stayed (entry′.clauses 𝓤 H A mem run) (WpFn 𝓤 H (𝓣 .C) (𝓣 .Λ) code.function)
       (λ κs. (LL.vals Bench-t.the-type Bench-l.the-laws, (slice-vals, (slice-vals, tt)))) (λ κs. (LL.tells Bench-t.the-type Bench-l.the-laws, (mut-slice-tells (named 0) (κs .0) Session-t.the-row, (mut-slice-tells (named 1) (κs .1 .0) u8, tt))))
       (λ κs qs bounds a g are. via 𝓤 _ (fst∗ 𝓤 _ (emp 𝓤))
@@ -267,12 +275,13 @@ module _ {M : Type 1} (𝓤 : URA M) (H : Heap 𝓤) (A : Atoms 𝓤) (W : Given
 send-due-meets : {M : Type 1} (𝓤 : URA M) (H : Heap 𝓤) (A : Atoms 𝓤) → Given 𝓤 H A → (mem : Memory → SProp 𝓤) (run : Routine → Fun 𝓤) (𝓣 : Tables 𝓤 H)
     → Triple 𝓤 (𝓣 .C #benchrun·send-one) (c-send-one 𝓤 H A mem run) → Triple 𝓤 (𝓣 .C #benchrun·bench-of) (c-bench-of 𝓤 H A mem run) → Triple 𝓤 (𝓣 .C #benchrun·is-last) (c-is-last 𝓤 H A mem run)
     → Meets 𝓤 H A entry′.signature (WpFn 𝓤 H (𝓣 .C) (𝓣 .Λ) code.function) (entry′.spec 𝓤 H A mem run)
+unfolding places
 send-due-meets 𝓤 H A W mem run 𝓣 known-send-one known-bench-of known-is-last =
     walk-meets 𝓤 H A entry′.ended stayed W (goes-dropped 𝓤 H A W 2 (plain (λ _. Bench-t.the-row)) yes (λ κs x f. refl), (goes-gave-slice 𝓤 H A W 2 0 tt (plain (λ _. Session-t.the-row)), (goes-gave-slice 𝓤 H A W 2 1 tt (plain (λ _. u8)), tt))) (entry′.clauses 𝓤 H A mem run)
     (WpFn 𝓤 H (𝓣 .C) (𝓣 .Λ) code.function) (WpFn-mono 𝓤 H (W .laws) 𝓣 code.function) (send-due-walks 𝓤 H A W mem run 𝓣 known-send-one known-bench-of known-is-last)
 
 pub send-due-spec : {M : Type 1} → stated.statement M
-unfolding code.routine tablesOf
+unfolding code.routine tablesOf places
 send-due-spec 𝓤 H 𝓜 𝓖 𝓡 =
     entered 𝓤 H (tripleOf 𝓤 H (𝓖 .A) entry′.signature (entry′.spec 𝓤 H (𝓖 .A) (𝓜 .mem) (𝓡 .run)))
     (tables 𝓤 H 𝓜 𝓡 code.env .C) (tables 𝓤 H 𝓜 𝓡 code.env .Λ) #benchrun·send-due code.function (code.unfolded 𝓤 H 𝓜 𝓡)

@@ -19,7 +19,7 @@ use Rattle.timing.proofs.Answer as Answer-t
 use Rattle.timing.proofs.Answer.Laws as Answer-l
 use Rattle.benchplan.specs.State.{ran, shown}
 use Rattle.benchrun.specs.Run.{isDue, send-tried, sentOne, sentShown}
-use Rattle.timing.specs.Outcome.{back, outcome}
+use Rattle.timing.specs.Outcome.{back, leastReply, outcome}
 use Rattle.timing.specs.Timing.{sendOf}
 use Rattle.benchplan.proofs.node_of as c-node-of′
 use Rattle.benchplan.proofs.node_of.Symbol as c-node-of-def
@@ -107,6 +107,7 @@ module _ {M : Type 1} (𝓤 : URA M) (H : Heap 𝓤) (A : Atoms 𝓤) (W : Given
 
   exits : (r : Sent) (w : Val) (w-recs : List Session) (w-out : List ℕ) → Said r w-recs w-out → length w-recs ≡ length (recs .now) → length w-out ≡ length (out .now)
       → ent 𝓤 (⋆ 𝓤 H A (Toks ∷ ‵ (finally Session-t.the-row (recs .name) w-recs) ∷ ‵ (finally u8 (out .name) w-out) ∷ ‵ (Sent-t.the-row .own r (w ∷ [])) ∷ [])) (Post w)
+  unfolding leastReply
   exits r w w-recs w-out e l-recs l-out =
       qed W (Toks ∷ ‵ (finally Session-t.the-row (recs .name) w-recs) ∷ ‵ (finally u8 (out .name) w-out) ∷ ‵ (Sent-t.the-row .own r (w ∷ [])) ∷ []) ∵
       suffices ! _ (ends-at 𝓤 H A entry′.ended stayed (entry′.clauses 𝓤 H A mem run) W bound w r (tt, (w-recs, (w-out, tt))) (tt, (l-recs, (l-out, tt)))) $ says ! e $ frame ! $
@@ -115,6 +116,7 @@ module _ {M : Type 1} (𝓤 : URA M) (H : Heap 𝓤) (A : Atoms 𝓤) (W : Given
   module _ (C : Calls 𝓤 H) (Λ : Loops 𝓤 H) (fm : FmC 𝓤 H (W .laws) C) (known-node-of : Triple 𝓤 (C #benchplan·node-of) (c-node-of 𝓤 H A mem run)) (known-grugavorn-send : Triple 𝓤 (C #lentclock·grugavorn-send) (c-grugavorn-send 𝓤 H A mem run)) (known-show-sent : Triple 𝓤 (C #benchrun·show-sent) (c-show-sent 𝓤 H A mem run)) where
     module _ (is-b : Is Bench-t.the-row b (v-b ∷ [])) (room-recs : Room Session-t.the-row (length (recs .now))) (room-out : Room u8 (length (out .now))) (l₀ l₁ l₂ l₃ l₄ l₅ l₆ l₇ l₈ l₉ l₁₀ l₁₁ l₁₂ l₁₃ l₁₄ : ℕ) where
       part-8 : (w-node-of : Val) → (r-node-of : Node) → (e-node-of : r-node-of ≡ b .node) → (is-node-of : Is Node-t.the-row r-node-of (w-node-of ∷ [])) → (w-grugavorn-send : Val) → (r-grugavorn-send : Answer) → (z-grugavorn-send : (Unit {0}) × ((List Session) × ((List ℕ) × Unit {0}))) → (e-grugavorn-send : outcome r-grugavorn-send (z-grugavorn-send .1 .0) (z-grugavorn-send .1 .1 .0) ≡ sendOf r-node-of (ys-recs) ((replicate {A = ℕ} 128 0))) → (is-grugavorn-send : Is Answer-t.the-row r-grugavorn-send (w-grugavorn-send ∷ [])) → (len-grugavorn-send-recs : length (z-grugavorn-send .1 .0) ≡ length (ys-recs)) → (len-grugavorn-send-reply : length (z-grugavorn-send .1 .1 .0) ≡ length ((replicate {A = ℕ} 128 0))) → (is-grugavorn-send-back : Is (Array u8 128) (z-grugavorn-send .1 .1 .0) (array-vals (uint-vals w8) (z-grugavorn-send .1 .1 .0))) → Sq W (‵ (froom (sliceTy (tyRef erased mut (pointee (u8 .written)))) l₁₄ 0) ∷ ‵ (fdies (sliceTy (tyRef erased mut (pointee (u8 .written)))) l₁₄) ∷ ‵ (froom (tyRef erased mut (pointee (u8 .written))) l₁₃ 0) ∷ ‵ (fdies (tyRef erased mut (pointee (u8 .written))) l₁₃) ∷ ‵ (froom (sliceTy (tyRef erased imm (pointee (u8 .written)))) l₁₂ 0) ∷ ‵ (fdies (sliceTy (tyRef erased imm (pointee (u8 .written)))) l₁₂) ∷ ‵ (froom (tyRef erased imm (pointee ((Array u8 128) .written))) l₁₁ 0) ∷ ‵ (fdies (tyRef erased imm (pointee ((Array u8 128) .written))) l₁₁) ∷ ‵ (fat fullShare (sliceTy (tyRef erased mut (pointee (u8 .written)))) l₁₀ 0 (sliceVal (l₄, 0) 128)) ∷ ‵ (fdies (sliceTy (tyRef erased mut (pointee (u8 .written)))) l₁₀) ∷ ‵ (froom (tyRef erased mut (pointee ((Array u8 128) .written))) l₉ 0) ∷ ‵ (fdies (tyRef erased mut (pointee ((Array u8 128) .written))) l₉) ∷ ‵ (fat fullShare (sliceTy (tyRef erased mut (pointee (Session-t.the-row .written)))) l₈ 0 v-recs) ∷ ‵ (fdies (sliceTy (tyRef erased mut (pointee (Session-t.the-row .written)))) l₈) ∷ ‵ (froom (tyRef erased mut (pointee (Session-t.the-row .written))) l₇ 0) ∷ ‵ (fdies (tyRef erased mut (pointee (Session-t.the-row .written))) l₇) ∷ ‵ (fat fullShare Answer-l.mir l₆ 0 w-grugavorn-send) ∷ ‵ (fdies Answer-l.mir l₆) ∷ ‵ (fat fullShare Node-l.mir l₅ 0 w-node-of) ∷ ‵ (fdies Node-l.mir l₅) ∷ ‵ (fat fullShare (tyArray (tyInt w8) 128) l₄ 0 (only (array-vals (uint-vals w8) (z-grugavorn-send .1 .1 .0)))) ∷ ‵ (fdies (tyArray (tyInt w8) 128) l₄) ∷ ‵ (fat fullShare (sliceTy (tyRef (named 1) mut (pointee (u8 .written)))) l₃ 0 v-out) ∷ ‵ (fdies (sliceTy (tyRef (named 1) mut (pointee (u8 .written)))) l₃) ∷ ‵ (fat fullShare (sliceTy (tyRef (named 0) mut (pointee (Session-t.the-row .written)))) l₂ 0 v-recs) ∷ ‵ (fdies (sliceTy (tyRef (named 0) mut (pointee (Session-t.the-row .written)))) l₂) ∷ ‵ (fat fullShare Bench-l.mir l₁ 0 v-b) ∷ ‵ (fdies Bench-l.mir l₁) ∷ ‵ (froom Sent-l.mir l₀ 0) ∷ ‵ (fdies Sent-l.mir l₀) ∷ ‵ (finally Session-t.the-row (recs .name) (z-grugavorn-send .1 .0)) ∷ ‵ Own-out ∷ ‵ (flft κ₀ q₀) ∷ ‵ (flft κ₁ q₁) ∷ []) (runs C Λ (En l₀ l₁ l₂ l₃ l₄ l₅ l₆ l₇ l₈ l₉ l₁₀ l₁₁ l₁₂ l₁₃ l₁₄) mir.t-8 (atRet (En l₀ l₁ l₂ l₃ l₄ l₅ l₆ l₇ l₈ l₉ l₁₀ l₁₁ l₁₂ l₁₃ l₁₄) Post))
+      unfolding leastReply
       part-8 w-node-of r-node-of e-node-of is-node-of w-grugavorn-send r-grugavorn-send z-grugavorn-send e-grugavorn-send is-grugavorn-send len-grugavorn-send-recs len-grugavorn-send-reply is-grugavorn-send-back =
           -- _11 = & _4
           assigns ! (addr ! (from ! (stop !))) (from ! (stop !)) (init ! 6 refl (tt, tt)) $
@@ -150,6 +152,7 @@ module _ {M : Type 1} (𝓤 : URA M) (H : Heap 𝓤) (A : Atoms 𝓤) (W : Given
           by ! (exits r-show-sent w-show-sent (z-grugavorn-send .1 .0) (z-show-sent .1 .1 .1 .0) (send-tried b ys-recs (z-grugavorn-send .1 .0) ys-out (z-show-sent .1 .1 .1 .0) (z-grugavorn-send .1 .1 .0) r-node-of r-grugavorn-send r-show-sent e-node-of e-grugavorn-send e-show-sent) len-grugavorn-send-recs len-show-sent-out))))))))))
 
       part-3 : (w-node-of : Val) → (r-node-of : Node) → (e-node-of : r-node-of ≡ b .node) → (is-node-of : Is Node-t.the-row r-node-of (w-node-of ∷ [])) → Sq W (‵ (froom (sliceTy (tyRef erased mut (pointee (u8 .written)))) l₁₄ 0) ∷ ‵ (fdies (sliceTy (tyRef erased mut (pointee (u8 .written)))) l₁₄) ∷ ‵ (froom (tyRef erased mut (pointee (u8 .written))) l₁₃ 0) ∷ ‵ (fdies (tyRef erased mut (pointee (u8 .written))) l₁₃) ∷ ‵ (froom (sliceTy (tyRef erased imm (pointee (u8 .written)))) l₁₂ 0) ∷ ‵ (fdies (sliceTy (tyRef erased imm (pointee (u8 .written)))) l₁₂) ∷ ‵ (froom (tyRef erased imm (pointee ((Array u8 128) .written))) l₁₁ 0) ∷ ‵ (fdies (tyRef erased imm (pointee ((Array u8 128) .written))) l₁₁) ∷ ‵ (froom (sliceTy (tyRef erased mut (pointee (u8 .written)))) l₁₀ 0) ∷ ‵ (fdies (sliceTy (tyRef erased mut (pointee (u8 .written)))) l₁₀) ∷ ‵ (froom (tyRef erased mut (pointee ((Array u8 128) .written))) l₉ 0) ∷ ‵ (fdies (tyRef erased mut (pointee ((Array u8 128) .written))) l₉) ∷ ‵ (froom (sliceTy (tyRef erased mut (pointee (Session-t.the-row .written)))) l₈ 0) ∷ ‵ (fdies (sliceTy (tyRef erased mut (pointee (Session-t.the-row .written)))) l₈) ∷ ‵ (froom (tyRef erased mut (pointee (Session-t.the-row .written))) l₇ 0) ∷ ‵ (fdies (tyRef erased mut (pointee (Session-t.the-row .written))) l₇) ∷ ‵ (froom Answer-l.mir l₆ 0) ∷ ‵ (fdies Answer-l.mir l₆) ∷ ‵ (fat fullShare Node-l.mir l₅ 0 w-node-of) ∷ ‵ (fdies Node-l.mir l₅) ∷ ‵ (fat fullShare (tyArray (tyInt w8) 128) l₄ 0 (vstruct (ofList (replicate 128 (vint w8 0))))) ∷ ‵ (fdies (tyArray (tyInt w8) 128) l₄) ∷ ‵ (fat fullShare (sliceTy (tyRef (named 1) mut (pointee (u8 .written)))) l₃ 0 v-out) ∷ ‵ (fdies (sliceTy (tyRef (named 1) mut (pointee (u8 .written)))) l₃) ∷ ‵ (fat fullShare (sliceTy (tyRef (named 0) mut (pointee (Session-t.the-row .written)))) l₂ 0 v-recs) ∷ ‵ (fdies (sliceTy (tyRef (named 0) mut (pointee (Session-t.the-row .written)))) l₂) ∷ ‵ (fat fullShare Bench-l.mir l₁ 0 v-b) ∷ ‵ (fdies Bench-l.mir l₁) ∷ ‵ (froom Sent-l.mir l₀ 0) ∷ ‵ (fdies Sent-l.mir l₀) ∷ ‵ Own-out ∷ ‵ Own-recs ∷ ‵ (flft κ₀ q₀) ∷ ‵ (flft κ₁ q₁) ∷ []) (runs C Λ (En l₀ l₁ l₂ l₃ l₄ l₅ l₆ l₇ l₈ l₉ l₁₀ l₁₁ l₁₂ l₁₃ l₁₄) mir.t-3 (atRet (En l₀ l₁ l₂ l₃ l₄ l₅ l₆ l₇ l₈ l₉ l₁₀ l₁₁ l₁₂ l₁₃ l₁₄) Post))
+      unfolding leastReply
       part-3 w-node-of r-node-of e-node-of is-node-of =
           -- _7 = & _2.0.*
           assigns ! (addr ! (from ! (fld ! refl (hop ! (look-in ! 24 (sub ! 0 refl (whole !))) (stop !))))) (from ! (stop !)) (init ! 14 refl (tt, tt)) $
@@ -180,6 +183,7 @@ module _ {M : Type 1} (𝓤 : URA M) (H : Heap 𝓤) (A : Atoms 𝓤) (W : Given
           part-8 w-node-of r-node-of e-node-of is-node-of w-grugavorn-send r-grugavorn-send z-grugavorn-send e-grugavorn-send is-grugavorn-send len-grugavorn-send-recs len-grugavorn-send-reply is-grugavorn-send-back))))))))))
 
       part-1 : Sq W (‵ (froom (sliceTy (tyRef erased mut (pointee (u8 .written)))) l₁₄ 0) ∷ ‵ (fdies (sliceTy (tyRef erased mut (pointee (u8 .written)))) l₁₄) ∷ ‵ (froom (tyRef erased mut (pointee (u8 .written))) l₁₃ 0) ∷ ‵ (fdies (tyRef erased mut (pointee (u8 .written))) l₁₃) ∷ ‵ (froom (sliceTy (tyRef erased imm (pointee (u8 .written)))) l₁₂ 0) ∷ ‵ (fdies (sliceTy (tyRef erased imm (pointee (u8 .written)))) l₁₂) ∷ ‵ (froom (tyRef erased imm (pointee ((Array u8 128) .written))) l₁₁ 0) ∷ ‵ (fdies (tyRef erased imm (pointee ((Array u8 128) .written))) l₁₁) ∷ ‵ (froom (sliceTy (tyRef erased mut (pointee (u8 .written)))) l₁₀ 0) ∷ ‵ (fdies (sliceTy (tyRef erased mut (pointee (u8 .written)))) l₁₀) ∷ ‵ (froom (tyRef erased mut (pointee ((Array u8 128) .written))) l₉ 0) ∷ ‵ (fdies (tyRef erased mut (pointee ((Array u8 128) .written))) l₉) ∷ ‵ (froom (sliceTy (tyRef erased mut (pointee (Session-t.the-row .written)))) l₈ 0) ∷ ‵ (fdies (sliceTy (tyRef erased mut (pointee (Session-t.the-row .written)))) l₈) ∷ ‵ (froom (tyRef erased mut (pointee (Session-t.the-row .written))) l₇ 0) ∷ ‵ (fdies (tyRef erased mut (pointee (Session-t.the-row .written))) l₇) ∷ ‵ (froom Answer-l.mir l₆ 0) ∷ ‵ (fdies Answer-l.mir l₆) ∷ ‵ (froom Node-l.mir l₅ 0) ∷ ‵ (fdies Node-l.mir l₅) ∷ ‵ (froom (tyArray (tyInt w8) 128) l₄ 0) ∷ ‵ (fdies (tyArray (tyInt w8) 128) l₄) ∷ ‵ (fat fullShare (sliceTy (tyRef (named 1) mut (pointee (u8 .written)))) l₃ 0 v-out) ∷ ‵ (fdies (sliceTy (tyRef (named 1) mut (pointee (u8 .written)))) l₃) ∷ ‵ (fat fullShare (sliceTy (tyRef (named 0) mut (pointee (Session-t.the-row .written)))) l₂ 0 v-recs) ∷ ‵ (fdies (sliceTy (tyRef (named 0) mut (pointee (Session-t.the-row .written)))) l₂) ∷ ‵ (fat fullShare Bench-l.mir l₁ 0 v-b) ∷ ‵ (fdies Bench-l.mir l₁) ∷ ‵ (froom Sent-l.mir l₀ 0) ∷ ‵ (fdies Sent-l.mir l₀) ∷ ‵ Own-out ∷ ‵ Own-recs ∷ ‵ (flft κ₀ q₀) ∷ ‵ (flft κ₁ q₁) ∷ []) (runs C Λ (En l₀ l₁ l₂ l₃ l₄ l₅ l₆ l₇ l₈ l₉ l₁₀ l₁₁ l₁₂ l₁₃ l₁₄) mir.t-1 (atRet (En l₀ l₁ l₂ l₃ l₄ l₅ l₆ l₇ l₈ l₉ l₁₀ l₁₁ l₁₂ l₁₃ l₁₄) Post))
+      unfolding leastReply
       part-1 =
           -- _4 = [0; 128]
           assigns ! (rep ! 128 (lit ! tt)) (from ! (stop !)) (init ! 20 refl (array-lawful 𝓤 H A W u8 (uint-lawful 𝓤 H A W w8) 128 .typed (replicate {A = ℕ} 128 0) _ (repeat-is u8 0 (vint w8 0) (refl, lit< tt) 128) .0)) $
@@ -194,6 +198,7 @@ module _ {M : Type 1} (𝓤 : URA M) (H : Heap 𝓤) (A : Atoms 𝓤) (W : Given
           keep ! (0 ∷ 1 ∷ 2 ∷ 3 ∷ 4 ∷ 5 ∷ 6 ∷ 7 ∷ 8 ∷ 9 ∷ 10 ∷ 11 ∷ 12 ∷ 13 ∷ 14 ∷ 15 ∷ 16 ∷ 17 ∷ 18 ∷ 19 ∷ 20 ∷ 21 ∷ 22 ∷ 23 ∷ 24 ∷ 25 ∷ 26 ∷ 27 ∷ 28 ∷ 29 ∷ 30 ∷ 31 ∷ 32 ∷ 33 ∷ []) $ part-3 w-node-of r-node-of e-node-of is-node-of)))))
 
     walk : Is Bench-t.the-row b (v-b ∷ []) → Room Session-t.the-row (length (recs .now)) → Room u8 (length (out .now)) → ent 𝓤 (onEntry 𝓤 H A entry′.signature (κ₀, (κ₁, tt)) (q₀, (q₁, tt)) a at) (WpFn 𝓤 H C Λ code.function (v-b ∷ v-recs ∷ v-out ∷ []) Post)
+    unfolding leastReply
     walk is-b room-recs room-out =
         qed W ((Toks) ∷ ‵ (owns (Bench-t.the-row ∷ (MutSlice (named 0) κ₀ Session-t.the-row) ∷ (MutSlice (named 1) κ₁ u8) ∷ []) a at) ∷ []) ∵ enter ! C Λ code.function (v-b ∷ v-recs ∷ v-out ∷ []) _ $ alloc1 ! (λ l₀. alloc1 ! (λ l₁.
         alloc1 ! (λ l₂. alloc1 ! (λ l₃. alloc1 ! (λ l₄. alloc1 ! (λ l₅. alloc1 ! (λ l₆. alloc1 ! (λ l₇. alloc1 ! (λ l₈. alloc1 ! (λ l₉. alloc1 ! (λ l₁₀. alloc1 ! (λ l₁₁. alloc1 ! (λ l₁₂. alloc1 ! (λ l₁₃. alloc1 ! (λ l₁₄.
@@ -205,6 +210,7 @@ module _ {M : Type 1} (𝓤 : URA M) (H : Heap 𝓤) (A : Atoms 𝓤) (W : Given
 module _ {M : Type 1} (𝓤 : URA M) (H : Heap 𝓤) (A : Atoms 𝓤) (W : Given 𝓤 H A) (mem : Memory → SProp 𝓤) (run : Routine → Fun 𝓤) where
   send-one-walks : (C : Calls 𝓤 H) (Λ : Loops 𝓤 H) → FmC 𝓤 H (W .laws) C → Triple 𝓤 (C #benchplan·node-of) (c-node-of 𝓤 H A mem run) → Triple 𝓤 (C #lentclock·grugavorn-send) (c-grugavorn-send 𝓤 H A mem run) → Triple 𝓤 (C #benchrun·show-sent) (c-show-sent 𝓤 H A mem run)
       → Walks 𝓤 H A entry′.ended stayed (WpFn 𝓤 H C Λ code.function) (entry′.clauses 𝓤 H A mem run)
+  unfolding leastReply
   send-one-walks C Λ fm known-node-of known-grugavorn-send known-show-sent = walked 𝓤 H A entry′.ended stayed (entry′.clauses 𝓤 H A mem run) (WpFn 𝓤 H C Λ code.function)
       (λ κs. (LL.vals Bench-t.the-type Bench-l.the-laws, (slice-vals, (slice-vals, tt)))) (λ κs. (LL.tells Bench-t.the-type Bench-l.the-laws, (mut-slice-tells (named 0) (κs .0) Session-t.the-row, (mut-slice-tells (named 1) (κs .1 .0) u8, tt))))
       (λ κs qs bounds a g are. via 𝓤 _ (fst∗ 𝓤 _ (emp 𝓤))
@@ -213,12 +219,13 @@ module _ {M : Type 1} (𝓤 : URA M) (H : Heap 𝓤) (A : Atoms 𝓤) (W : Given
 send-one-meets : {M : Type 1} (𝓤 : URA M) (H : Heap 𝓤) (A : Atoms 𝓤) → Given 𝓤 H A → (mem : Memory → SProp 𝓤) (run : Routine → Fun 𝓤) (𝓣 : Tables 𝓤 H)
     → Triple 𝓤 (𝓣 .C #benchplan·node-of) (c-node-of 𝓤 H A mem run) → Triple 𝓤 (𝓣 .C #lentclock·grugavorn-send) (c-grugavorn-send 𝓤 H A mem run) → Triple 𝓤 (𝓣 .C #benchrun·show-sent) (c-show-sent 𝓤 H A mem run)
     → Meets 𝓤 H A entry′.signature (WpFn 𝓤 H (𝓣 .C) (𝓣 .Λ) code.function) (entry′.spec 𝓤 H A mem run)
+unfolding leastReply
 send-one-meets 𝓤 H A W mem run 𝓣 known-node-of known-grugavorn-send known-show-sent =
     walk-meets 𝓤 H A entry′.ended stayed W (goes-dropped 𝓤 H A W 2 (plain (λ _. Bench-t.the-row)) yes (λ κs x f. refl), (goes-gave-slice 𝓤 H A W 2 0 tt (plain (λ _. Session-t.the-row)), (goes-gave-slice 𝓤 H A W 2 1 tt (plain (λ _. u8)), tt))) (entry′.clauses 𝓤 H A mem run)
     (WpFn 𝓤 H (𝓣 .C) (𝓣 .Λ) code.function) (WpFn-mono 𝓤 H (W .laws) 𝓣 code.function) (send-one-walks 𝓤 H A W mem run (𝓣 .C) (𝓣 .Λ) (fmOf 𝓤 H (W .laws) 𝓣) known-node-of known-grugavorn-send known-show-sent)
 
 pub send-one-spec : {M : Type 1} → stated.statement M
-unfolding code.routine tablesOf
+unfolding code.routine tablesOf leastReply
 send-one-spec 𝓤 H 𝓜 𝓖 𝓡 =
     entered 𝓤 H (tripleOf 𝓤 H (𝓖 .A) entry′.signature (entry′.spec 𝓤 H (𝓖 .A) (𝓜 .mem) (𝓡 .run)))
     (tables 𝓤 H 𝓜 𝓡 code.env .C) (tables 𝓤 H 𝓜 𝓡 code.env .Λ) #benchrun·send-one code.function (code.unfolded 𝓤 H 𝓜 𝓡)

@@ -1,4 +1,5 @@
-use Rattle.benchtext.specs.Lines.{pointRead, numbersRead, withOctets, sized, nameMost}
+use Rattle.plan.specs.Limits.{longestName}
+use Rattle.benchtext.specs.Lines.{pointRead, numbersRead, withOctets, sized}
 use borrow.Author.Needs.{needs}
 use Rattle.benchtext.proofs.read_point.Statement.{statement}
 use Rattle.benchtext.proofs.read_point.Tie as tie
@@ -51,14 +52,14 @@ same-length : tie.Need-same-length
 same-length c = search needs
 
 returns-3 : tie.Need-returns-3
-unfolding pointRead numbersRead withOctets sized nameMost
+unfolding pointRead numbersRead withOctets sized longestName
 returns-3 c = rw (← c .before .before .before .before .before .before .before .before .before .before .before .before .before .before .before .before .field .ensures, ← c .before .before .before .before .before .before .before .before .before .before .before .before .before .before .before .number-in .ensures, c .before .before .before .before .before .before .before .before .before .before .before .before .before .guarantee .given .1, ← c .before .before .before .before .before .before .before .before .before .before .before .field2 .ensures, ← c .before .before .before .before .before .before .before .before .before .before .number-in2 .ensures, c .before .before .before .before .before .before .before .before .ceiling .given .1, ← c .before .before .before .before .before .before .field3 .ensures, ← c .before .before .before .before .octets-up-to .ensures, c .enum-told3 .given .1)
 
 same-length-2 : tie.Need-same-length-2
 same-length-2 c = search needs
 
 returns-4 : tie.Need-returns-4
-unfolding pointRead numbersRead withOctets sized nameMost
+unfolding pointRead numbersRead withOctets sized longestName
 returns-4 c = rw (← c .before .before .before .before .before .before .before .before .before .before .before .before .before .before .before .before .before .field .ensures, ← c .before .before .before .before .before .before .before .before .before .before .before .before .before .before .before .before .number-in .ensures, c .before .before .before .before .before .before .before .before .before .before .before .before .before .before .guarantee .given .1, ← c .before .before .before .before .before .before .before .before .before .before .before .before .field2 .ensures, ← c .before .before .before .before .before .before .before .before .before .before .before .number-in2 .ensures, c .before .before .before .before .before .before .before .before .before .ceiling .given .1, ← c .before .before .before .before .before .before .before .field3 .ensures, ← c .before .before .before .before .before .octets-up-to .ensures, c .before .size .given .1)
 
 pub read-point-spec : {M : Type 1} → statement M

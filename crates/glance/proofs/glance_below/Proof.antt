@@ -1,3 +1,4 @@
+use Rattle.tunnel.specs.Numbering.{places}
 use borrow.Author.Needs.{needs}
 use Rattle.glance.specs.Over.{Over, over-more, over-twice, over-all, clash, back, drop-map, length-marks, length-tallied, entersOf}
 use Rattle.glance.specs.Look.{freeFrom, over-free}
@@ -19,75 +20,88 @@ use Rattle.glance.proofs.note.Reads as note-reads
 use Rattle.glance.proofs.packed.Reads as packed-reads
 
 abbrev Inv-loop : tie.InvT-loop
-Inv-loop ds n marks₀ flags₀ tallies₀ i₀ marks flags tallies i = (length ds ≡ 64) × ((i ≤ 64) × ((length marks ≡ 1024) × ((length tallies ≡ 4) × Over (drop i ds) marks flags tallies)))
+Inv-loop ds n marks₀ flags₀ tallies₀ i₀ marks flags tallies i = (length ds ≡ places) × ((i ≤ places) × ((length marks ≡ 1024) × ((length tallies ≡ 4) × Over (drop i ds) marks flags tallies)))
 
 abbrev μ-loop : tie.MeasureT-loop
 μ-loop ds n marks₀ flags₀ tallies₀ i₀ marks flags tallies i = i
 
 -- src/lib.rt:265:5
 loop-holds : tie.Need-loop-holds Inv-loop μ-loop
-unfolding freeFrom
-loop-holds c = let a = c .before .args in let p = c .before .pre in let l : length (now (a .ds)) ≡ 64 = p .0 in let n : length (drop (a .n) (now (a .ds))) ≤ 64 = simp length-drop (omega arith) in
+unfolding freeFrom places
+loop-holds c = let a = c .before .args in let p = c .before .pre in let l : length (now (a .ds)) ≡ places = p .0 in let n : length (drop (a .n) (now (a .ds))) ≤ places = simp length-drop (omega arith) in
     (l, (p .1 .0, (length-replicate {A = ℕ} 1024 0, (refl, over-free _ _ (length-replicate {A = ℕ} 1024 0) n (p .1 .1)))))
 
 -- src/lib.rt:266:20
 sub-d : tie.Need-sub-d Inv-loop μ-loop
+unfolding places
 sub-d c = search needs
 
 -- src/lib.rt:266:17
 mul-d : tie.Need-mul-d Inv-loop μ-loop
+unfolding places
 mul-d c = search needs
 
 -- src/lib.rt:266:17
 shared-slice-read-d : tie.Need-shared-slice-read-d Inv-loop μ-loop
+unfolding places
 shared-slice-read-d c = search needs
 
 -- src/lib.rt:267:34
 slice-aggregate-note : tie.Need-slice-aggregate-note Inv-loop μ-loop
+unfolding places
 slice-aggregate-note c = search needs
 
 -- src/lib.rt:267:58
 slice-aggregate-note-2 : tie.Need-slice-aggregate-note-2 Inv-loop μ-loop
+unfolding places
 slice-aggregate-note-2 c = search needs
 
 -- src/lib.rt:267:13
 note-requires : tie.Need-note-requires Inv-loop μ-loop
+unfolding places
 note-requires c κs = (c .before .before .before .before .before .loop .inv .1 .1 .0, c .before .before .before .before .before .loop .inv .1 .1 .1 .0)
 
 -- src/lib.rt:269:13
 none-requires : tie.Need-none-requires Inv-loop μ-loop
+unfolding places
 none-requires c κs = search needs
 
 -- src/lib.rt:269:13
 returns : tie.Need-returns Inv-loop μ-loop
+unfolding places
 returns c = let ds = now (c .before .before .before .before .before .before .before .before .before .before .before .before .args .ds) in let k = c .before .before .before .before .before .before .before .before .before .before .loop in let g = k .inv .0 in
-    let n : length (drop (k .i) ds) ≤ 64 = simp length-drop (omega arith) in
+    let n : length (drop (k .i) ds) ≤ places = simp length-drop (omega arith) in
     let e : entersOf (keyIn (getD ds (k .i - 1) 0)) (map keyIn (drop (k .i) ds)) (k .marks) ≡ false = rw (← drop-map (k .i) ds, ← c .before .before .before .before .note .ensures .0) (not-true _ (c .before .if1 .taken)) in
     c .none .ensures ∙ sym (over-twice ds (k .i) (omega arith) (omega arith) (clash _ _ _ _ _ (k .inv .1 .1 .1 .1) n e))
 
 -- src/lib.rt:271:9
 sub-i : tie.Need-sub-i Inv-loop μ-loop
+unfolding places
 sub-i c = search needs
 
 -- src/lib.rt:265:5
 loop-less : tie.Need-loop-less Inv-loop μ-loop
+unfolding places
 loop-less c = search needs
 
 -- src/lib.rt:265:5
 loop-again : tie.Need-loop-again Inv-loop μ-loop
+unfolding places
 loop-again c = let ds = now (c .before .before .before .before .before .before .before .before .before .before .before .args .ds) in let k = c .before .before .before .before .before .before .before .before .before .loop in let v = k .inv in let g = v .0 in
     let e : entersOf (keyIn (getD ds (k .i - 1) 0)) (map keyIn (drop (k .i) ds)) (k .marks) ≡ true = rw (← drop-map (k .i) ds, ← c .before .before .before .note .ensures .0) (not-false _ (c .if1 .left)) in
-    let n : length (drop (k .i) ds) ≤ 64 = simp length-drop (omega arith) in
+    let n : length (drop (k .i) ds) ≤ places = simp length-drop (omega arith) in
     let m = c .before .before .before .note .ensures .1 in
     (v .0, (omega arith, (rw (m .0) (length-marks _ _ ∙ v .1 .1 .0), (rw (m .1 .1) (length-tallied _ _ ∙ v .1 .1 .1 .0), rw (back ds (k .i) (omega arith) (omega arith), m .0, m .1 .0, m .1 .1) (over-more _ _ _ _ _ (v .1 .1 .1 .1) n (v .1 .1 .0) e)))))
 
 -- src/lib.rt:273:9
 packed-requires : tie.Need-packed-requires Inv-loop μ-loop
+unfolding places
 packed-requires c κs = search needs
 
 -- src/lib.rt:257:1
 returns-2 : tie.Need-returns-2 Inv-loop μ-loop
-returns-2 c = let ds = now (c .before .before .before .before .args .ds) in let k = c .before .before .loop in let e : k .i ≡ 0 = omega arith in let g = k .inv .0 in let n : length ds ≤ 64 = omega arith in rw (c .packed .ensures) (sym (over-all ds _ _ _ n (rw e at (k .inv .1 .1 .1 .1))))
+unfolding places
+returns-2 c = let ds = now (c .before .before .before .before .args .ds) in let k = c .before .before .loop in let e : k .i ≡ 0 = omega arith in let g = k .inv .0 in let n : length ds ≤ places = omega arith in rw (c .packed .ensures) (sym (over-all ds _ _ _ n (rw e at (k .inv .1 .1 .1 .1))))
 
 pub glance-below-spec : {M : Type 1} → statement M
 glance-below-spec =

@@ -1,3 +1,4 @@
+use Rattle.tunnel.specs.Numbering.{places}
 use Rattle.glance.specs.Look.{freeFrom, glance-free}
 use lib.ListN.{length}
 use denote.Ref.{now}
@@ -15,18 +16,22 @@ use Rattle.glance.proofs.used.Reads as used-reads
 
 -- src/lib.rt:287:9
 used-requires : tie.Need-used-requires
+unfolding places
 used-requires c κs = search needs
 
 -- src/lib.rt:289:9
 returns : tie.Need-returns
-returns c = let ds = now (c .before .before .before .args .ds) in let l : length ds ≡ 64 = c .before .before .before .pre in sym (glance-free ds (omega arith) (rw (c .if1 .taken) at (c .before .used .ensures .1)))
+unfolding places
+returns c = let ds = now (c .before .before .before .args .ds) in let l : length ds ≡ places = c .before .before .before .pre in sym (glance-free ds (omega arith) (rw (c .if1 .taken) at (c .before .used .ensures .1)))
 
 -- src/lib.rt:296:5
 glance-below-requires : tie.Need-glance-below-requires
+unfolding places
 glance-below-requires c κs = search needs
 
 -- src/lib.rt:283:1
 returns-2 : tie.Need-returns-2
+unfolding places
 returns-2 c = search needs
 
 pub glance-of-spec : {M : Type 1} → statement M

@@ -22,7 +22,7 @@ accepted-requires c κs = search needs
 -- src/lib.rt:382:9
 returns : tie.Need-returns
 unfolding keptBut places
-returns c = let a = c .before .before .before .before .before .args in let t : (c .before .before .accepted .result && eqb (a .count) 64 && a .v .glance .good) ≡ false = not-true _ (c .if1 .taken) in rw (rw (c .before .before .accepted .ensures) at t)
+returns c = let a = c .before .before .before .before .before .args in let t : (c .before .before .accepted .result && eqb (a .count) places && a .v .glance .good) ≡ false = not-true _ (c .if1 .taken) in rw (rw (c .before .before .accepted .ensures) at t)
 
 -- src/lib.rt:384:9
 unpacked-requires : tie.Need-unpacked-requires
@@ -39,7 +39,7 @@ fits-requires c κs = search needs
 -- src/lib.rt:375:1
 returns-2 : tie.Need-returns-2
 unfolding keptBut fromCounts lastNumber places
-returns-2 c = let a = c .before .before .before .before .before .before .before .before .before .before .args in let t : (c .before .before .before .before .before .before .before .accepted .result && eqb (a .count) 64 && a .v .glance .good) ≡ true = not-false _ (c .before .before .before .before .before .if1 .left) in
+returns-2 c = let a = c .before .before .before .before .before .before .before .before .before .before .args in let t : (c .before .before .before .before .before .before .before .accepted .result && eqb (a .count) places && a .v .glance .good) ≡ true = not-false _ (c .before .before .before .before .before .if1 .left) in
     rw (rw (c .before .before .before .before .before .before .before .accepted .ensures) at t, c .before .before .before .within .ensures, c .before .before .before .before .unpacked .ensures, c .before .fits2 .ensures)
 
 pub kept-but-spec : {M : Type 1} → statement M

@@ -18,6 +18,7 @@ slice-aggregate-glance-of c = search needs
 
 -- src/lib.rt:351:9
 glance-of-requires : tie.Need-glance-of-requires
+unfolding places
 glance-of-requires c κs = search needs
 
 -- src/lib.rt:352:25

@@ -12,6 +12,7 @@ use Rattle.rules.proofs.key.Reads as key-reads
 use Rattle.session.proofs.Request.fits.Reads as fits-reads
 use Rattle.session.proofs.Session.held.Reads as held-reads
 use Rattle.std.proofs.num.wrapping_add_u64.Reads as wrapping-add-u64-reads
+use Rattle.session.specs.Request.{lastNumber}
 
 -- src/lib.rt:73:9
 held-requires : tie.Need-held-requires
@@ -19,7 +20,7 @@ held-requires c κs = search needs
 
 -- src/lib.rt:75:9
 returns : tie.Need-returns
-unfolding spoilt lastUse
+unfolding spoilt lastUse lastNumber
 returns c = taken-unheld (c .before .before .before .args .b) (c .before .before .before .args .s) (c .before .held .result) (c .before .held .ensures) (c .if1 .taken)
 
 -- src/lib.rt:78:9
@@ -60,7 +61,7 @@ cast-under-way-3 c = search needs
 
 -- src/lib.rt:85:13
 returns-2 : tie.Need-returns-2
-unfolding lastUse
+unfolding lastUse lastNumber
 returns-2 c = c .before .before .before .before .before .before .wrapping-add-u64 .ensures ∙ rw (c .before .before .before .before .before .before .before .before .key .ensures) (taken-live (c .before .before .before .before .before .before .before .before .before .before .before .before .before .args .b) (c .before .before .before .before .before .before .before .before .before .before .before .before .before .args .s) (c .before .before .before .before .before .before .before .before .before .before .before .held .result) (c .before .before .before .before .before .before .before .before .before .before .before .held .ensures) (c .before .before .before .before .before .before .before .before .before .before .if1 .left) (rests-yes _ (c .before .before .if2 .taken)) (c .if3 .taken))
 
 -- src/lib.rt:88:13
@@ -69,12 +70,12 @@ wrapping-add-u64-requires-2 c κs = search needs
 
 -- src/lib.rt:88:13
 returns-3 : tie.Need-returns-3
-unfolding lastUse
+unfolding lastUse lastNumber
 returns-3 c = c .wrapping-add-u642 .ensures ∙ rw (c .before .before .before .before .before .before .before .before .before .wrapping-add-u64 .ensures, c .before .before .before .before .before .before .before .before .before .before .before .key .ensures) (taken-due (c .before .before .before .before .before .before .before .before .before .before .before .before .before .before .before .before .args .b) (c .before .before .before .before .before .before .before .before .before .before .before .before .before .before .before .before .args .s) (c .before .before .before .before .before .before .before .before .before .before .before .before .before .before .held .result) (c .before .before .before .before .before .before .before .before .before .before .before .before .before .before .held .ensures) (c .before .before .before .before .before .before .before .before .before .before .before .before .before .if1 .left) (rests-yes _ (c .before .before .before .before .before .if2 .taken)) (c .before .before .before .if3 .left) (c .before .if4 .taken))
 
 -- src/lib.rt:90:9
 returns-4 : tie.Need-returns-4
-unfolding spoilt lastUse
+unfolding spoilt lastUse lastNumber
 returns-4 c = taken-odd (c .before .before .before .before .before .before .before .before .before .before .before .before .before .before .before .args .b) (c .before .before .before .before .before .before .before .before .before .before .before .before .before .before .before .args .s) (c .before .before .before .before .before .before .before .before .before .before .before .before .before .held .result) (c .before .before .before .before .before .before .before .before .before .before .before .before .before .held .ensures) (c .before .before .before .before .before .before .before .before .before .before .before .before .if1 .left) (c .before .before .if3 .left) (c .if4 .left)
 
 -- src/lib.rt:92:9
@@ -83,7 +84,7 @@ fits-requires c κs = search needs
 
 -- src/lib.rt:94:9
 returns-5 : tie.Need-returns-5
-unfolding spoilt lastUse
+unfolding spoilt lastUse lastNumber
 returns-5 c = taken-unfit (c .before .before .before .before .before .before .before .before .before .before .before .before .before .before .args .b) (c .before .before .before .before .before .before .before .before .before .before .before .before .before .before .args .s) (c .before .before .before .before .before .before .before .before .before .before .before .before .held .result) (c .before .before .before .before .before .before .before .before .before .before .before .before .held .ensures) (c .before .before .before .before .before .before .before .before .before .before .before .if1 .left) (rests-no _ (c .before .before .before .if2 .left)) (rw (c .before .before .fits2 .ensures) at (c .if5 .taken))
 
 -- src/lib.rt:97:50
@@ -96,7 +97,7 @@ wrapping-add-u64-requires-3 c κs = search needs
 
 -- src/lib.rt:97:9
 returns-6 : tie.Need-returns-6
-unfolding lastUse
+unfolding lastUse lastNumber
 returns-6 c = c .wrapping-add-u643 .ensures ∙ rw (c .before .before .before .before .before .before .before .before .before .before .wrapping-add-u64 .ensures, c .before .before .before .before .before .before .before .before .before .before .before .before .key .ensures) (taken-again (c .before .before .before .before .before .before .before .before .before .before .before .before .before .before .before .before .before .args .b) (c .before .before .before .before .before .before .before .before .before .before .before .before .before .before .before .before .before .args .s) (c .before .before .before .before .before .before .before .before .before .before .before .before .before .before .before .held .result) (c .before .before .before .before .before .before .before .before .before .before .before .before .before .before .before .held .ensures) (c .before .before .before .before .before .before .before .before .before .before .before .before .before .before .if1 .left) (rests-no _ (c .before .before .before .before .before .before .if2 .left)) (rw (c .before .before .before .before .before .fits2 .ensures) at (c .before .before .before .if5 .left)) (c .before .if6 .taken))
 
 -- src/lib.rt:99:5
@@ -105,7 +106,7 @@ wrapping-add-u64-requires-4 c κs = search needs
 
 -- src/lib.rt:69:1
 returns-7 : tie.Need-returns-7
-unfolding lastUse
+unfolding lastUse lastNumber
 returns-7 c = c .wrapping-add-u644 .ensures ∙ rw (c .before .before .before .before .before .before .before .before .before .before .wrapping-add-u64 .ensures, c .before .before .before .before .before .before .before .before .before .before .before .before .key .ensures) (taken-waits (c .before .before .before .before .before .before .before .before .before .before .before .before .before .before .before .before .before .args .b) (c .before .before .before .before .before .before .before .before .before .before .before .before .before .before .before .before .before .args .s) (c .before .before .before .before .before .before .before .before .before .before .before .before .before .before .before .held .result) (c .before .before .before .before .before .before .before .before .before .before .before .before .before .before .before .held .ensures) (c .before .before .before .before .before .before .before .before .before .before .before .before .before .before .if1 .left) (rests-no _ (c .before .before .before .before .before .before .if2 .left)) (rw (c .before .before .before .before .before .fits2 .ensures) at (c .before .before .before .if5 .left)) (c .before .if6 .left))
 
 pub taken-digest-spec : {M : Type 1} → statement M

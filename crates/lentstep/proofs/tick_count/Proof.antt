@@ -8,6 +8,7 @@ use Rattle.lentstep.proofs.tick_count.Tie as tie
 use Rattle.lentstep.proofs.tick_count.Reads as reads
 use Rattle.lentstep.proofs.tick_count.Lts as lts
 use Rattle.session.proofs.Request.spent.Reads as spent-reads
+use Rattle.tunnel.specs.Numbering.{places}
 
 -- src/lib.rt:54:9
 spent-requires : tie.Need-spent-requires
@@ -20,7 +21,7 @@ returns c = let a = c .before .before .before .before .args in let t : (eqb (a .
 
 -- src/lib.rt:49:1
 returns-2 : tie.Need-returns-2
-unfolding tickCount
+unfolding tickCount places
 returns-2 c = let a = c .before .before .before .before .args in let t : (eqb (a .how) 0 || eqb (a .how) 1 && not (c .before .spent .result)) ≡ false = c .if1 .left in rw (rw (c .before .spent .ensures) at t)
 
 pub tick-count-spec : {M : Type 1} → statement M

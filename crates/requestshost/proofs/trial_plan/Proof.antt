@@ -1,3 +1,4 @@
+use Rattle.plan.specs.Limits.{longestName}
 use Rattle.requestshost.specs.Host.{trialPlan, longName, upFrom}
 use mathlib.Core.Path.{sym, _∙_}
 use borrow.Author.Needs.{needs}
@@ -28,6 +29,9 @@ called-requires-2 c κs = search needs
 slice-aggregate-called-3 : tie.Need-slice-aggregate-called-3
 slice-aggregate-called-3 c = search needs
 
+cast-called : tie.Need-cast-called
+cast-called c = search needs
+
 -- src/lib.rt:99:9
 called-requires-3 : tie.Need-called-requires-3
 called-requires-3 c κs = search needs
@@ -38,7 +42,7 @@ none-requires c κs = search needs
 
 -- src/lib.rt:94:1
 returns : tie.Need-returns
-unfolding trialPlan longName upFrom
+unfolding trialPlan longName upFrom longestName
 returns c = rw (c .none .ensures, c .before .called3 .ensures, c .before .before .before .called2 .ensures, c .before .before .before .before .before .called .ensures)
 
 pub trial-plan-spec : {M : Type 1} → statement M
@@ -50,6 +54,7 @@ trial-plan-spec =
     slice-aggregate-called-2
     called-requires-2
     slice-aggregate-called-3
+    cast-called
     called-requires-3
     none-requires
     returns)

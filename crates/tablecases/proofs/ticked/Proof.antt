@@ -10,9 +10,9 @@ use Rattle.timing.proofs.Answer.Laws as Answer-l
 use Rattle.table.specs.declared.Node.{Node}
 use Rattle.table.proofs.Node as Node-t
 use Rattle.table.proofs.Node.Laws as Node-l
-use Rattle.table.specs.declared.Table.{Table}
-use Rattle.table.proofs.Table as Table-t
-use Rattle.table.proofs.Table.Laws as Table-l
+use Rattle.tablecases.specs.declared.Table.{Table}
+use Rattle.tablecases.proofs.Table as Table-t
+use Rattle.tablecases.proofs.Table.Laws as Table-l
 use Rattle.session.specs.declared.Session.{Session}
 use Rattle.session.proofs.Session as Session-t
 use Rattle.session.proofs.Session.Laws as Session-l

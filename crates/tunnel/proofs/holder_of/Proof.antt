@@ -17,8 +17,9 @@ add-if1 : tie.Need-add-if1
 add-if1 c = search needs
 
 sub-t14 : tie.Need-sub-t14
+unfolding base
 sub-t14 c = let s = c .before .args in
-    let l : leb (s .offset) (s .n % 256) ≡ true = search (and-left, and-right) in
+    let l : leb (s .offset) (s .n % base) ≡ true = search (and-left, and-right) in
     omega (arith, tests)
 
 returns : tie.Need-returns

@@ -2,6 +2,7 @@ use Prim.Native.Nat.{_≤_}
 use mathlib.Core.Path.{_≡_, _∙_, ap}
 use native.Mathlib.Omega.{arith}
 use lib.ListN.{length, length-map}
+use Rattle.plan.specs.Limits.{longestName}
 use Rattle.plan.specs.Names.{goesBy, sameName, name-part}
 use borrow.Author.Needs.{needs}
 use Rattle.plan.proofs.AccessPoint.goes_by.Statement.{statement}
@@ -17,8 +18,9 @@ part-same-start : tie.Need-part-same-start
 part-same-start c = search needs
 
 part-same-end : tie.Need-part-same-end
+unfolding longestName
 part-same-end c = let s = c .before .before .before .before in
-    let l : length (s .args .self .name) ≡ 63 = simp length-map at (s .good .0 .1 .1 .0 .1 .0 .1) in
+    let l : length (s .args .self .name) ≡ longestName = simp length-map at (s .good .0 .1 .1 .0 .1 .0 .1) in
     let e = c .before .name-size .ensures in
     omega arith
 
@@ -26,9 +28,9 @@ same-requires : tie.Need-same-requires
 same-requires c κs = search needs
 
 returns : tie.Need-returns
-unfolding goesBy sameName
+unfolding goesBy sameName longestName
 returns c = let s = c .before .before .before .before .before .before in
-    let l : length (s .args .self .name) ≡ 63 = simp length-map at (s .good .0 .1 .1 .0 .1 .0 .1) in
+    let l : length (s .args .self .name) ≡ longestName = simp length-map at (s .good .0 .1 .1 .0 .1 .0 .1) in
     c .same .ensures ∙ rw (name-part (s .args .self) _ l (c .before .before .before .name-size .ensures))
 
 pub goes-by-spec : {M : Type 1} → statement M

@@ -1,10 +1,10 @@
 use mathlib.Core.Path.{refl}
-use Rattle.plan.specs.Limits.{noPoint}
+use Rattle.plan.specs.Limits.{noPoint, longestName}
 use Rattle.plan.proofs.AccessPoint.none.Statement.{statement}
 use Rattle.plan.proofs.AccessPoint.none.Tie as tie
 
 returns : tie.Need-returns
-unfolding noPoint
+unfolding noPoint longestName
 returns c = refl
 
 pub none-spec : {M : Type 1} → statement M

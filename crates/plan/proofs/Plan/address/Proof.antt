@@ -1,5 +1,5 @@
 use native.Mathlib.Omega.{arith}
-use Rattle.plan.specs.Address.{addressOf}
+use Rattle.plan.specs.Address.{addressOf, addresses}
 use borrow.Author.Needs.{needs}
 use Rattle.plan.proofs.Plan.address.Statement.{statement}
 use Rattle.plan.proofs.Plan.address.Tie as tie
@@ -17,7 +17,7 @@ cast-result-2 : tie.Need-cast-result-2
 cast-result-2 c = search needs
 
 returns : tie.Need-returns
-unfolding addressOf
+unfolding addressOf addresses
 returns c = omega arith
 
 pub address-spec : {M : Type 1} → statement M

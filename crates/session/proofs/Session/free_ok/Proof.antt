@@ -1,3 +1,4 @@
+use Rattle.tunnel.specs.Numbering.{lastUse}
 use Rattle.session.specs.Wide.{octets-fit}
 use Rattle.session.specs.Wide.{words-fit}
 use native.Mathlib.Omega.{arith}
@@ -32,12 +33,14 @@ cast-if2-2 : tie.Need-cast-if2-2
 cast-if2-2 c = let s = c .before .before .before .before .before .before .before .before .before .before .before .before in let last = s .good .0 .1 .1 .1 .1 .1 .1 .1 .1 .1 .1 in record { fits = octets-fit (s .args .self) (omega (arith, last)) (omega (arith, last)) (omega arith) (omega arith) }
 
 returns : tie.Need-returns
+unfolding lastUse
 returns c = free-blank (c .before .before .before .before .before .before .before .before .before .before .before .before .before .args .self) (search needs) (c .before .before .if1 .taken) (c .if2 .taken)
 
 returns-2 : tie.Need-returns-2
 returns-2 c = free-filled (c .before .before .before .before .before .before .before .before .before .before .before .before .before .args .self) (search needs) (c .if2 .left)
 
 returns-3 : tie.Need-returns-3
+unfolding lastUse
 returns-3 c = free-used (c .before .before .before .before .before .before .before .before .before .before .before .args .self) (search needs) (c .if1 .left)
 
 pub free-ok-spec : {M : Type 1} → statement M
