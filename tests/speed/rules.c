@@ -1,6 +1,6 @@
-/* The table rules as one would write them in C for speed: one pass over the records, each test left at once,
- * counts by access point, and keys that were met marked by a hash, so that keys are compared only where a mark
- * was met before. In place of tests/reading/rules.c. */
+/* The table rules as one would write them in C for speed: one pass over the records, each test left at
+ * once, counts by access point, and keys that were met marked by a hash, so that keys are compared only
+ * where a mark was met before. In place of tests/reading/rules.c. */
 #include "../reading/reading.h"
 
 static int key_met(const uint64_t *keys, unsigned count, uint64_t key) {
