@@ -142,7 +142,7 @@ static void differ(const char *what, int call, unsigned number, unsigned other) 
   exit(1);
 }
 
-/* The same call on a unit of its own, as a host makes it: it has to come to the same, node and records too. */
+/* the same call on a unit of its own, as a host makes it: it has to come to the same, node and records too */
 static void compare_unit(int call, const grugavorn_left *a) {
   static grugavorn_unit unit;
   static uint8_t reply[BUFFER];
@@ -297,12 +297,12 @@ static void step(void) {
   }
 }
 
-/* ---- 64 live sessions */
+/* ---- all places live */
 static void fill(void) {
   grugavorn_plan p = some_plan();
   p.count = 1;
   p.points[0].guarantee = 1;
-  p.points[0].ceiling = 64;
+  p.points[0].ceiling = GRUGAVORN_PLACES;
   p.resend = 200;
   p.interval = 200;
   node = grugavorn_fresh(p, lent.records, GRUGAVORN_PLACES).node;
