@@ -145,42 +145,40 @@ static int is_user(const char *call) {
   return call[0] == 'p' || call[0] == 'u';
 }
 
-static void once_library(const char *call, size_t place) {
+/* which of the library's calls it is, by a letter; most are control datagrams */
+static int kind_of(const char *call) {
   if (is_user(call))
-    handed = grugavorn_user(node, records, lent, datagram, size, reply, sizeof reply);
-  else if (call[0] == 't')
-    answer = grugavorn_tick(node, records, lent);
-  else if (is(call, "send"))
-    answer = grugavorn_send(node, records, lent, reply, sizeof reply);
-  else if (is(call, "close"))
-    answer = grugavorn_close(node, records, lent, place);
-  else if (is(call, "line"))
-    answer = grugavorn_line(node, records, lent, place, reply, sizeof reply);
-  else
-    answer = grugavorn_control(node, records, lent, datagram, size, reply, sizeof reply);
-}
-
-static void once_plain(const char *call, size_t place) {
-  if (is_user(call))
-    handed = reading_user(node, records, lent, datagram, size, reply, sizeof reply);
-  else if (call[0] == 't')
-    answer = reading_tick(node, records, lent);
-  else if (is(call, "send"))
-    answer = reading_send(node, records, lent, reply, sizeof reply);
-  else if (is(call, "close"))
-    answer = reading_close(node, records, lent, place);
-  else if (is(call, "line"))
-    answer = reading_line(node, records, lent, place, reply, sizeof reply);
-  else
-    answer = reading_control(node, records, lent, datagram, size, reply, sizeof reply);
+    return 'u';
+  if (call[0] == 't')
+    return 't';
+  return is(call, "send") ? 's' : is(call, "close") ? 'x' : is(call, "line") ? 'l' : 'c';
 }
 
 static void once(const char *call, int plain, unsigned live) {
   size_t place = live == 0 ? 0 : live - 1;
-  if (plain)
-    once_plain(call, place);
-  else
-    once_library(call, place);
+  switch (kind_of(call)) {
+  case 'u':
+    handed = plain ? reading_user(node, records, lent, datagram, size, reply, sizeof reply)
+                   : grugavorn_user(node, records, lent, datagram, size, reply, sizeof reply);
+    break;
+  case 't':
+    answer = plain ? reading_tick(node, records, lent) : grugavorn_tick(node, records, lent);
+    break;
+  case 's':
+    answer = plain ? reading_send(node, records, lent, reply, sizeof reply)
+                   : grugavorn_send(node, records, lent, reply, sizeof reply);
+    break;
+  case 'x':
+    answer = plain ? reading_close(node, records, lent, place) : grugavorn_close(node, records, lent, place);
+    break;
+  case 'l':
+    answer = plain ? reading_line(node, records, lent, place, reply, sizeof reply)
+                   : grugavorn_line(node, records, lent, place, reply, sizeof reply);
+    break;
+  default:
+    answer = plain ? reading_control(node, records, lent, datagram, size, reply, sizeof reply)
+                   : grugavorn_control(node, records, lent, datagram, size, reply, sizeof reply);
+  }
 }
 
 static int same_answers(const grugavorn_left *a, const grugavorn_left *b) {
