@@ -25,18 +25,11 @@ static void field(unsigned type, unsigned instance, const uint8_t *v, unsigned s
 }
 
 static void fteid(unsigned instance, unsigned first, uint32_t teid) {
-  uint8_t v[12] = { (uint8_t)first,
-                    (uint8_t)(teid >> 24),
-                    (uint8_t)(teid >> 16),
-                    (uint8_t)(teid >> 8),
-                    (uint8_t)teid,
-                    10,
-                    1,
-                    (uint8_t)chance(),
-                    (uint8_t)chance(),
-                    1,
-                    2,
-                    3 };
+  uint8_t v[12] = { (uint8_t)first, 0, 0, 0, 0, 10, 1, 0, 0, 1, 2, 3 };
+  for (int i = 0; i < 4; i++)
+    v[1 + i] = (uint8_t)(teid >> 8 * (3 - i));
+  v[7] = (uint8_t)chance();
+  v[8] = (uint8_t)chance();
   if (one_in(40))
     v[0] = (uint8_t)chance();
   if (one_in(60))

@@ -207,6 +207,8 @@ static void compare(int call, const grugavorn_left *a, const grugavorn_left *b, 
     differ("the reply buffer", call, a->number, b->number);
   if (memcmp(lent.reply + a->size, before.reply + a->size, BUFFER - a->size) != 0)
     differ("the buffer past the reply", call, a->number, b->number);
+  if (call == LINE && a->size > GRUGAVORN_LINE)
+    differ("the most that a line has", call, a->number, b->number);
   if (count == GRUGAVORN_PLACES)
     compare_unit(call, a);
   met[call][a->number]++;
