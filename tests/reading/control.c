@@ -12,12 +12,14 @@ READING_PART reading_head reading_control_head(const uint8_t *d, size_t length) 
   }
   int t = d[0] >> 3 & 1, kind = d[1];
   int wants_teid = kind == 32 || kind == 34 || kind == 36 || kind == 100;
-  reading_head h;
-  h.number = 0;
-  h.kind = (uint32_t)kind;
-  h.teid = t ? reading_number(d + 4, 4) : 0;
-  h.sequence = reading_number(t ? d + 8 : d + 4, 3);
-  h.fields = t ? 12 : 8;
+  reading_head h = { 0, (uint32_t)kind, 0, 0, 8 };
+  if (t) {
+    h.teid = reading_number(d + 4, 4);
+    h.sequence = reading_number(d + 8, 3);
+    h.fields = 12;
+  } else {
+    h.sequence = reading_number(d + 4, 3);
+  }
   if (length < 8)
     h.number = 3;
   else if (d[0] >> 5 != 2)

@@ -8,6 +8,7 @@ On x86-64 nanoseconds a call are printed too, for information: they do not repea
 """
 import os
 import platform
+import shutil
 import subprocess
 import sys
 
@@ -27,7 +28,9 @@ NATIVE = platform.machine() == "x86_64"
 def counted(program, way, call, live, times, lent=PLACES):
     counter = (["valgrind", "--tool=callgrind", "--callgrind-out-file=/dev/null"] if NATIVE
                else ["qemu-x86_64", "-cpu", "max", "-plugin", "target/tests/count.so"])
-    done = subprocess.run(counter + [program, way, call, str(live), str(times), str(lent)], capture_output=True, text=True)
+    # no environment: its length moves the stack, and with it the copies of memory by up to 40 instructions a call
+    command = [shutil.which(counter[0])] + counter[1:] + [program, way, call, str(live), str(times), str(lent)]
+    done = subprocess.run(command, capture_output=True, text=True, env={})
     if done.returncode == 3:
         return None
     if done.returncode != 0:
