@@ -1,20 +1,23 @@
-/* A host in C: one session is created, one packet of it is unwrapped, its line is printed, its place is closed, and what is then due is
- * sent. Prints each call's number and octets. `examples/build` builds and runs it. */
+/* A host in C: one session is created, one packet of it is unwrapped, its line is printed, its place is
+ * closed, and what is then due is sent. Prints each call's number and octets. `examples/build` builds and
+ * runs it. */
 #include "../include/grugavorn.h"
 #include <stdio.h>
 #include <string.h>
 
-static grugavorn_session records[GRUGAVORN_PLACES];
+static grugavorn_unit unit;
 static uint8_t reply[GRUGAVORN_REPLY];
 
 static void show(const char *call, unsigned number, const uint8_t *octets, size_t size) {
   printf("%s %u ", call, number);
-  for (size_t i = 0; i < size; i++) printf("%02X", octets[i]);
+  for (size_t i = 0; i < size; i++)
+    printf("%02X", octets[i]);
   puts(size == 0 ? "-" : "");
 }
 
 /* a Create of IMSI 440101234567890, EBI 5, for the access point "data" */
 static const uint8_t create[] = {
+  /* clang-format off */
   0x48, 0x20, 0x00, 0x6D, 0, 0, 0, 0, 0, 0, 1, 0,
   1, 0, 8, 0, 0x44, 0x10, 0x10, 0x32, 0x54, 0x76, 0x98, 0xF0,
   82, 0, 1, 0, 6,
@@ -26,6 +29,7 @@ static const uint8_t create[] = {
   87, 0, 9, 2, 0x84, 0, 0, 0x22, 0x22, 10, 1, 0, 9,
   80, 0, 22, 0, 0x61, 9, 0, 0, 0, 0, 0, 0, 0, 0, 0, 0, 0, 0, 0, 0, 0, 0, 0, 0, 0, 0,
   3, 0, 1, 0, 3,
+  /* clang-format on */
 };
 
 /* a G-PDU for place 0 in its first use, with four octets of payload */
@@ -37,7 +41,8 @@ static const uint8_t echo[] = { 0x40, 0x01, 0, 9, 0, 0, 1, 0, 3, 0, 1, 0, 5 };
 /* as the bench prints: number and reply parted by a tab */
 static void print_answer(uint8_t number, const uint8_t *octets, size_t size) {
   printf("%u\t", number);
-  for (size_t i = 0; i < size; i++) printf("%02X", octets[i]);
+  for (size_t i = 0; i < size; i++)
+    printf("%02X", octets[i]);
   puts(size == 0 ? "-" : "");
 }
 
@@ -54,45 +59,41 @@ int main(void) {
   memcpy(plan.points[0].name, "\4data", 5);
   plan.points[0].size = 5;
   plan.points[0].guarantee = 1;
-  plan.points[0].ceiling = 64;
+  plan.points[0].ceiling = GRUGAVORN_PLACES;
 
-  grugavorn_left a = grugavorn_fresh(plan, records, GRUGAVORN_PLACES);
-  grugavorn_node node = a.node;
+  grugavorn_answer a = grugavorn_unit_fresh(&unit, &plan);
   show("fresh", a.number, reply, a.size);
 
-  a = grugavorn_control(node, records, GRUGAVORN_PLACES, create, sizeof create, reply, sizeof reply);
-  node = a.node;
+  a = grugavorn_unit_control(&unit, create, sizeof create, reply, sizeof reply);
   show("control", a.number, reply, a.size);
 
-  grugavorn_handed h = grugavorn_user(node, records, GRUGAVORN_PLACES, packet, sizeof packet, reply, sizeof reply);
+  grugavorn_handed h = grugavorn_unit_user(&unit, packet, sizeof packet, reply, sizeof reply);
   show("user", h.number, packet + h.start, h.octets);
 
-  a = grugavorn_line(node, records, GRUGAVORN_PLACES, h.place, reply, sizeof reply);
+  a = grugavorn_unit_line(&unit, h.place, reply, sizeof reply);
   printf("line %u %.*s\n", a.number, (int)a.size, (const char *)reply);
 
-  a = grugavorn_close(node, records, GRUGAVORN_PLACES, h.place);
-  node = a.node;
+  a = grugavorn_unit_close(&unit, h.place);
   show("close", a.number, reply, a.size);
 
-  a = grugavorn_send(node, records, GRUGAVORN_PLACES, reply, sizeof reply);
-  node = a.node;
+  a = grugavorn_unit_send(&unit, reply, sizeof reply);
   show("send", a.number, reply, a.size);
 
-  a = grugavorn_send(node, records, GRUGAVORN_PLACES, reply, sizeof reply);
-  node = a.node;
+  a = grugavorn_unit_send(&unit, reply, sizeof reply);
   show("send", a.number, reply, a.size);
 
-  a = grugavorn_tick(node, records, GRUGAVORN_PLACES);
+  a = grugavorn_unit_tick(&unit);
   show("tick", a.number, reply, a.size);
 
   /* the whole case of document 01, on a fresh unit */
-  a = grugavorn_fresh(plan, records, GRUGAVORN_PLACES);
-  a = grugavorn_control(a.node, records, GRUGAVORN_PLACES, echo, sizeof echo, reply, sizeof reply);
+  grugavorn_unit_fresh(&unit, &plan);
+  a = grugavorn_unit_control(&unit, echo, sizeof echo, reply, sizeof reply);
   print_answer(a.number, reply, a.size);
-  a = grugavorn_close(a.node, records, GRUGAVORN_PLACES, 0);
+  a = grugavorn_unit_close(&unit, 0);
   print_answer(a.number, reply, a.size);
   unsigned live = 0;
-  for (size_t i = 0; i < GRUGAVORN_PLACES; i++) live += records[i].state != GRUGAVORN_FREE;
+  for (size_t i = 0; i < GRUGAVORN_PLACES; i++)
+    live += unit.records[i].state != GRUGAVORN_FREE;
   printf("L\t%u\n", live);
   return 0;
 }

@@ -1,10 +1,20 @@
-// The host of host.c in Rust: the same calls, the same print. The structs are those of include/grugavorn.h, field for field.
+// The host of host.c in Rust: the same calls, the same print. The structs are those of include/grugavorn.h, field for
+// field; here the library's own calls are made, with the node by value.
 #![allow(dead_code)]
+
+// the figures of the header: places, access points, octets of a name, octets of the least reply buffer and of a record
+const PLACES: usize = 64;
+const POINTS: usize = 4;
+const NAME: usize = 63;
+const REPLY: usize = 128;
+const RECORD: usize = 48;
+// the state of a free record
+const FREE: u8 = 0;
 
 #[repr(C)]
 #[derive(Clone, Copy)]
 struct Point {
-    name: [u8; 63],
+    name: [u8; NAME],
     size: u8,
     guarantee: u16,
     ceiling: u16,
@@ -21,7 +31,7 @@ struct Plan {
     sends: u8,
     interval: u8,
     count: u8,
-    points: [Point; 4],
+    points: [Point; POINTS],
 }
 
 #[repr(C)]
@@ -80,7 +90,7 @@ const _: () = {
     assert!(size_of::<Point>() == 68 && offset_of!(Point, size) == 63 && offset_of!(Point, guarantee) == 64 && offset_of!(Point, ceiling) == 66);
     assert!(size_of::<Plan>() == 292 && offset_of!(Plan, recovery) == 12 && offset_of!(Plan, count) == 16 && offset_of!(Plan, points) == 18);
     assert!(size_of::<Request>() == 8 && offset_of!(Request, sends) == 1 && offset_of!(Request, number) == 4);
-    assert!(size_of::<Session>() == 48 && offset_of!(Session, usage) == 8 && offset_of!(Session, own) == 32 && offset_of!(Session, state) == 40);
+    assert!(size_of::<Session>() == RECORD && offset_of!(Session, usage) == 8 && offset_of!(Session, own) == 32 && offset_of!(Session, state) == 40);
     assert!(size_of::<Node>() == 308 && offset_of!(Node, echo) == 292 && offset_of!(Node, next) == 300 && offset_of!(Node, recovery) == 305);
     assert!(size_of::<Left>() == 328 && offset_of!(Left, size) == 8 && offset_of!(Left, node) == 16);
     assert!(size_of::<Handed>() == 40 && offset_of!(Handed, place) == 8 && offset_of!(Handed, octets) == 32);
@@ -96,49 +106,49 @@ extern "C" {
     fn grugavorn_close(node: Node, records: *mut Session, count: usize, place: usize) -> Left;
 }
 
-// The unit as a Rust host has it: records, node and reply buffer in one place. Each call's slices give the library pointer and count, so
-// that what it takes on trust of its caller always holds.
+// The unit as a Rust host has it: records, node and reply buffer in one place. Each call's slices give the library
+// pointer and count, so that what it takes on trust of its caller always holds.
 struct Unit {
-    records: [Session; 64],
+    records: [Session; PLACES],
     node: Node,
-    reply: [u8; 128],
+    reply: [u8; REPLY],
 }
 
 const IDLE: Request = Request { timer: 0, sends: 0, number: 0 };
-const NOBODY: Session = Session { imsi: 0, usage: 0, control: 0, controladdr: 0, user: 0, useraddr: 0, created: 0, own: IDLE, state: 0, point: 0, ebi: 0 };
+const NOBODY: Session = Session { imsi: 0, usage: 0, control: 0, controladdr: 0, user: 0, useraddr: 0, created: 0, own: IDLE, state: FREE, point: 0, ebi: 0 };
 
 impl Unit {
     fn fresh(plan: Plan) -> (Self, u8) {
-        let mut records = [NOBODY; 64];
+        let mut records = [NOBODY; PLACES];
         let a = unsafe { grugavorn_fresh(plan, records.as_mut_ptr(), records.len()) };
-        (Unit { records, node: a.node, reply: [0; 128] }, a.number)
+        (Unit { records, node: a.node, reply: [0; REPLY] }, a.number)
     }
     fn keep(&mut self, a: Left) -> (u8, &[u8]) {
         self.node = a.node;
         (a.number, &self.reply[..a.size])
     }
     fn control(&mut self, d: &[u8]) -> (u8, &[u8]) {
-        let a = unsafe { grugavorn_control(self.node, self.records.as_mut_ptr(), 64, d.as_ptr(), d.len(), self.reply.as_mut_ptr(), 128) };
+        let a = unsafe { grugavorn_control(self.node, self.records.as_mut_ptr(), PLACES, d.as_ptr(), d.len(), self.reply.as_mut_ptr(), REPLY) };
         self.keep(a)
     }
     fn user<'a>(&mut self, d: &'a [u8]) -> (u8, usize, &'a [u8]) {
-        let h = unsafe { grugavorn_user(self.node, self.records.as_ptr(), 64, d.as_ptr(), d.len(), self.reply.as_mut_ptr(), 128) };
+        let h = unsafe { grugavorn_user(self.node, self.records.as_ptr(), PLACES, d.as_ptr(), d.len(), self.reply.as_mut_ptr(), REPLY) };
         (h.number, h.place, &d[h.start..h.start + h.octets])
     }
     fn tick(&mut self) -> (u8, &[u8]) {
-        let a = unsafe { grugavorn_tick(self.node, self.records.as_mut_ptr(), 64) };
+        let a = unsafe { grugavorn_tick(self.node, self.records.as_mut_ptr(), PLACES) };
         self.keep(a)
     }
     fn send(&mut self) -> (u8, &[u8]) {
-        let a = unsafe { grugavorn_send(self.node, self.records.as_mut_ptr(), 64, self.reply.as_mut_ptr(), 128) };
+        let a = unsafe { grugavorn_send(self.node, self.records.as_mut_ptr(), PLACES, self.reply.as_mut_ptr(), REPLY) };
         self.keep(a)
     }
     fn line(&mut self, place: usize) -> (u8, &[u8]) {
-        let a = unsafe { grugavorn_line(self.node, self.records.as_ptr(), 64, place, self.reply.as_mut_ptr(), 128) };
+        let a = unsafe { grugavorn_line(self.node, self.records.as_ptr(), PLACES, place, self.reply.as_mut_ptr(), REPLY) };
         self.keep(a)
     }
     fn close(&mut self, place: usize) -> (u8, &[u8]) {
-        let a = unsafe { grugavorn_close(self.node, self.records.as_mut_ptr(), 64, place) };
+        let a = unsafe { grugavorn_close(self.node, self.records.as_mut_ptr(), PLACES, place) };
         self.keep(a)
     }
 }
@@ -176,10 +186,12 @@ fn print_answer(number: u8, octets: &[u8]) {
 }
 
 fn main() {
-    let mut name = [0u8; 63];
+    let mut name = [0u8; NAME];
     name[..5].copy_from_slice(b"\x04data");
-    let data = Point { name, size: 5, guarantee: 1, ceiling: 64 };
-    let none = Point { name: [0; 63], size: 0, guarantee: 0, ceiling: 0 };
+    let data = Point { name, size: 5, guarantee: 1, ceiling: PLACES as u16 };
+    let none = Point { name: [0; NAME], size: 0, guarantee: 0, ceiling: 0 };
+    let mut points = [none; POINTS];
+    points[0] = data;
     let plan = Plan {
         control: 0x0A000001,
         user: 0x0A000002,
@@ -189,7 +201,7 @@ fn main() {
         sends: 2,
         interval: 60,
         count: 1,
-        points: [data, none, none, none],
+        points,
     };
     let (mut unit, number) = Unit::fresh(plan);
     show("fresh", number, &[]);
@@ -214,5 +226,5 @@ fn main() {
     print_answer(number, reply);
     let (number, reply) = unit.close(0);
     print_answer(number, reply);
-    println!("L\t{}", unit.records.iter().filter(|r| r.state != 0).count());
+    println!("L\t{}", unit.records.iter().filter(|r| r.state != FREE).count());
 }

@@ -1,25 +1,32 @@
-/* Grugavorn for firmware in C: the session table is the caller's, each call is one function, nothing is kept between calls.
+/* Grugavorn for firmware in C: document 01, version 1.0. The session table is the caller's, each call is
+ * one function, nothing is kept between calls.
  *
- * The library is proved: every call ends and answers for any octets in any of its arguments, also for a table, a plan or a datagram that
- * makes no sense. It allocates nothing, keeps no static state, calls nothing outside (but memcpy and memset) and writes only to what a
- * call's comment says. What it takes on trust is the C side: that each pointer has as many elements behind it as the count beside it
- * says and is not null, not even for a count of 0, and that the records, the datagram and the reply buffer of one call do not overlap where
- * one of them is written to.
+ * A host keeps one grugavorn_unit and makes every call through it:
  *
- * The caller keeps two things: an array of 64 session records, and the node, which goes in and comes back by value in every call that can
- * change it. Together they are document 01's table: store the answer's node before the next call, whatever the number is.
- *
- *     static grugavorn_session records[GRUGAVORN_PLACES];
- *     grugavorn_left a = grugavorn_fresh(plan, records, GRUGAVORN_PLACES);
- *     grugavorn_node node = a.node;
+ *     static grugavorn_unit unit;
+ *     static uint8_t reply[GRUGAVORN_REPLY];
+ *     grugavorn_answer a = grugavorn_unit_fresh(&unit, &plan);
  *     ...
- *     a = grugavorn_control(node, records, GRUGAVORN_PLACES, datagram, length, reply, sizeof reply);
- *     node = a.node;
+ *     a = grugavorn_unit_control(&unit, datagram, length, reply, sizeof reply);
  *     if (a.size != 0) send(reply, a.size);
  *
- * Numbers are document 01's (enum grugavorn_number, docs/NUMBERS.md). Every refusal leaves the records, the node and the reply buffer as
- * they were, unless the call's comment or the number's row says otherwise. Octets of the reply buffer past the reply's length are never
- * written. Multi-octet fields below are the processor's own order; datagrams and replies are octets as on the wire. */
+ * The unit is document 01's table: 64 session records, and the node, which is all that goes with them. The
+ * calls on a unit stand at the end of this file. Each is a few lines over one of the library's own seven
+ * calls, which take the node by value, answer the node to keep, and are lent the records. A host may make
+ * those itself, where records and node lie apart; it has to store the answer's node before the next call,
+ * whatever the number is.
+ *
+ * The library is proved: every call ends and answers for any octets in any of its arguments, also for a
+ * table, a plan or a datagram that makes no sense. It allocates nothing, keeps no static state, calls
+ * nothing outside (but memcpy and memset) and writes only to what a call's comment says. What it takes on
+ * trust is the C side: that each pointer has as many elements behind it as the count beside it says and is
+ * not null, not even for a count of 0, and that the records, the datagram and the reply buffer of one call
+ * do not overlap where one of them is written to.
+ *
+ * Numbers are document 01's (enum grugavorn_number, docs/NUMBERS.md). Every refusal leaves the records,
+ * the node and the reply buffer as they were, unless the call's comment or the number's row says
+ * otherwise. Octets of the reply buffer past the reply's length are never written. Multi-octet fields
+ * below are the processor's own order; datagrams and replies are octets as on the wire. */
 #ifndef GRUGAVORN_H
 #define GRUGAVORN_H
 
@@ -29,15 +36,28 @@
 #if defined(__cplusplus)
 #define GRUGAVORN_LAID(what) static_assert(what, "the layout is the library's")
 extern "C" {
-#else
+#elif defined(__STDC_VERSION__) && __STDC_VERSION__ >= 201112L
 #define GRUGAVORN_LAID(what) _Static_assert(what, "the layout is the library's")
+#else
+#define GRUGAVORN_LAID(what) extern char grugavorn_layout_is_the_librarys[(what) ? 1 : -1]
 #endif
 
+/* The version: document 01 is 1.0. A change of the exported names, of their arguments or of a struct's
+ * layout raises the major number; what is only added raises the minor one. */
+#define GRUGAVORN_VERSION_MAJOR 1
+#define GRUGAVORN_VERSION_MINOR 0
+#define GRUGAVORN_VERSION "1.0"
+
+/* the places of a unit, numbered from 0; the most access points of a plan; the most octets of a name */
 #define GRUGAVORN_PLACES 64
 #define GRUGAVORN_POINTS 4
 #define GRUGAVORN_NAME 63
 /* the least reply buffer: a shorter one is number 1 */
 #define GRUGAVORN_REPLY 128
+/* the octets of one session record */
+#define GRUGAVORN_RECORD 48
+/* the characters of a place's line, at most */
+#define GRUGAVORN_LINE 83
 
 /* The numbers that come back (docs/NUMBERS.md). */
 enum grugavorn_number {
@@ -94,8 +114,8 @@ enum grugavorn_number {
 #define GRUGAVORN_LIVE 1
 #define GRUGAVORN_CLOSING 2
 
-/* An access point: its name as the APN field has it (labels with their lengths), of which the first `size` octets count, and how many
- * places it is promised and may have at most. */
+/* An access point: its name as the APN field has it (labels with their lengths), of which the first `size`
+ * octets count, and how many places it is promised and may have at most. */
 typedef struct {
   uint8_t name[GRUGAVORN_NAME];
   uint8_t size;
@@ -103,8 +123,8 @@ typedef struct {
   uint16_t ceiling;
 } grugavorn_point;
 
-/* A plan: the unit's addresses for control and user datagrams, the pool base, the unit's restart counter, T, N and E, and how many of
- * the access points are there. */
+/* A plan: the unit's addresses for control and user datagrams, the pool base, the unit's restart counter,
+ * T, N and E, and how many of the access points are there. */
 typedef struct {
   uint32_t control;
   uint32_t user;
@@ -117,15 +137,17 @@ typedef struct {
   grugavorn_point points[GRUGAVORN_POINTS];
 } grugavorn_plan;
 
-/* A request of the unit's own: ticks until it is due (0: due, or nothing under way), how often it was sent, its sequence number. */
+/* A request of the unit's own: ticks until it is due (0: due, or nothing under way), how often it was
+ * sent, its sequence number. */
 typedef struct {
   uint8_t timer;
   uint8_t sends;
   uint32_t number;
 } grugavorn_request;
 
-/* The record of one place. `usage` is its use number; `control` and `user` are the peer's TEIDs, each with its address; `created` is the
- * sequence number of the Create; `own` is the Delete Bearer of a closing place; `point` is the access point's number in the plan. */
+/* The record of one place. `usage` is its use number; `control` and `user` are the peer's TEIDs, each with
+ * its address; `created` is the sequence number of the Create; `own` is the Delete Bearer of a closing
+ * place; `point` is the access point's number in the plan. */
 typedef struct {
   uint64_t imsi;
   uint32_t usage;
@@ -140,8 +162,8 @@ typedef struct {
   uint8_t ebi;
 } grugavorn_session;
 
-/* What goes with the records: the plan, the unit's own echo, the next sequence number, and the Recovery value of the exchange, which is
- * one once `heard` is not 0. */
+/* What goes with the records: the plan, the unit's own echo, the next sequence number, and the Recovery
+ * value of the exchange, which is one once `heard` is not 0. */
 typedef struct {
   grugavorn_plan plan;
   grugavorn_request echo;
@@ -150,15 +172,17 @@ typedef struct {
   uint8_t recovery;
 } grugavorn_node;
 
-/* What a call answers: the number, the length of the reply in the reply buffer (0: none), and the node to keep. */
+/* What a call of the library answers: the number, the length of the reply in the reply buffer (0: none),
+ * and the node to keep. */
 typedef struct {
   uint8_t number;
   size_t size;
   grugavorn_node node;
 } grugavorn_left;
 
-/* What a user datagram comes to: the number, the place of its session, the length of the reply (0: none), and the payload: `octets`
- * octets from datagram + start on. Where nothing is handed up, place and octets are 0 and start is the datagram's length. */
+/* What a user datagram comes to: the number, the place of its session, the length of the reply (0: none),
+ * and the payload: `octets` octets from datagram + start on. Where nothing is handed up, place and octets
+ * are 0 and start is the datagram's length. */
 typedef struct {
   uint8_t number;
   size_t place;
@@ -167,67 +191,158 @@ typedef struct {
   size_t octets;
 } grugavorn_handed;
 
-GRUGAVORN_LAID(sizeof(grugavorn_point) == 68 && offsetof(grugavorn_point, name) == 0 && offsetof(grugavorn_point, size) == 63
-  && offsetof(grugavorn_point, guarantee) == 64 && offsetof(grugavorn_point, ceiling) == 66);
-GRUGAVORN_LAID(sizeof(grugavorn_plan) == 292 && offsetof(grugavorn_plan, control) == 0 && offsetof(grugavorn_plan, user) == 4
-  && offsetof(grugavorn_plan, pool) == 8 && offsetof(grugavorn_plan, recovery) == 12 && offsetof(grugavorn_plan, resend) == 13
-  && offsetof(grugavorn_plan, sends) == 14 && offsetof(grugavorn_plan, interval) == 15 && offsetof(grugavorn_plan, count) == 16
-  && offsetof(grugavorn_plan, points) == 18);
-GRUGAVORN_LAID(sizeof(grugavorn_request) == 8 && offsetof(grugavorn_request, timer) == 0 && offsetof(grugavorn_request, sends) == 1
-  && offsetof(grugavorn_request, number) == 4);
-GRUGAVORN_LAID(sizeof(grugavorn_session) == 48 && offsetof(grugavorn_session, imsi) == 0 && offsetof(grugavorn_session, usage) == 8
-  && offsetof(grugavorn_session, control) == 12 && offsetof(grugavorn_session, controladdr) == 16 && offsetof(grugavorn_session, user) == 20
-  && offsetof(grugavorn_session, useraddr) == 24 && offsetof(grugavorn_session, created) == 28 && offsetof(grugavorn_session, own) == 32
-  && offsetof(grugavorn_session, state) == 40 && offsetof(grugavorn_session, point) == 41 && offsetof(grugavorn_session, ebi) == 42);
-GRUGAVORN_LAID(sizeof(grugavorn_node) == 308 && offsetof(grugavorn_node, plan) == 0 && offsetof(grugavorn_node, echo) == 292
-  && offsetof(grugavorn_node, next) == 300 && offsetof(grugavorn_node, heard) == 304 && offsetof(grugavorn_node, recovery) == 305);
-GRUGAVORN_LAID(sizeof(grugavorn_left) == 328 && offsetof(grugavorn_left, number) == 0 && offsetof(grugavorn_left, size) == 8
-  && offsetof(grugavorn_left, node) == 16);
-GRUGAVORN_LAID(sizeof(grugavorn_handed) == 40 && offsetof(grugavorn_handed, number) == 0 && offsetof(grugavorn_handed, place) == 8
-  && offsetof(grugavorn_handed, size) == 16 && offsetof(grugavorn_handed, start) == 24 && offsetof(grugavorn_handed, octets) == 32);
+GRUGAVORN_LAID(sizeof(grugavorn_point) == 68 && offsetof(grugavorn_point, name) == 0
+               && offsetof(grugavorn_point, size) == 63 && offsetof(grugavorn_point, guarantee) == 64
+               && offsetof(grugavorn_point, ceiling) == 66);
+GRUGAVORN_LAID(sizeof(grugavorn_plan) == 292 && offsetof(grugavorn_plan, control) == 0
+               && offsetof(grugavorn_plan, user) == 4 && offsetof(grugavorn_plan, pool) == 8
+               && offsetof(grugavorn_plan, recovery) == 12 && offsetof(grugavorn_plan, resend) == 13
+               && offsetof(grugavorn_plan, sends) == 14 && offsetof(grugavorn_plan, interval) == 15
+               && offsetof(grugavorn_plan, count) == 16 && offsetof(grugavorn_plan, points) == 18);
+GRUGAVORN_LAID(sizeof(grugavorn_request) == 8 && offsetof(grugavorn_request, timer) == 0
+               && offsetof(grugavorn_request, sends) == 1 && offsetof(grugavorn_request, number) == 4);
+GRUGAVORN_LAID(sizeof(grugavorn_session) == GRUGAVORN_RECORD && offsetof(grugavorn_session, imsi) == 0
+               && offsetof(grugavorn_session, usage) == 8 && offsetof(grugavorn_session, control) == 12
+               && offsetof(grugavorn_session, controladdr) == 16 && offsetof(grugavorn_session, user) == 20
+               && offsetof(grugavorn_session, useraddr) == 24 && offsetof(grugavorn_session, created) == 28
+               && offsetof(grugavorn_session, own) == 32 && offsetof(grugavorn_session, state) == 40
+               && offsetof(grugavorn_session, point) == 41 && offsetof(grugavorn_session, ebi) == 42);
+GRUGAVORN_LAID(sizeof(grugavorn_node) == 308 && offsetof(grugavorn_node, plan) == 0
+               && offsetof(grugavorn_node, echo) == 292 && offsetof(grugavorn_node, next) == 300
+               && offsetof(grugavorn_node, heard) == 304 && offsetof(grugavorn_node, recovery) == 305);
+GRUGAVORN_LAID(sizeof(grugavorn_left) == 328 && offsetof(grugavorn_left, number) == 0
+               && offsetof(grugavorn_left, size) == 8 && offsetof(grugavorn_left, node) == 16);
+GRUGAVORN_LAID(sizeof(grugavorn_handed) == 40 && offsetof(grugavorn_handed, number) == 0
+               && offsetof(grugavorn_handed, place) == 8 && offsetof(grugavorn_handed, size) == 16
+               && offsetof(grugavorn_handed, start) == 24 && offsetof(grugavorn_handed, octets) == 32);
+
+/* ---- the library's own calls: the node goes in by value, and the one that comes back is to be stored */
 
 /* Fresh state from a plan. Whatever the records held, use numbers included, they are zero after it.
  *   0   a state under the plan, its first echo due after E ticks
- *   2   `count` is not 64: the records are kept; the node is one without access points, so later calls answer 2
+ *   2   `count` is not 64: the records are kept; the node is one without access points, so later calls
+ *       answer 2
  *   16  the plan breaks a limit: the records are zero; the node as for 2
  * There is no reply: size is 0. */
 grugavorn_left grugavorn_fresh(grugavorn_plan plan, grugavorn_session *records, size_t count);
 
-/* Take control datagram: `length` octets from the exchange. The reply buffer of `room` octets holds the reply's first `size` octets.
+/* Take control datagram: `length` octets from the exchange. The reply buffer of `room` octets holds the
+ * reply's first `size` octets.
  *   0   taken; records, node and reply as the datagram's type has it
- *   1   room under 128        2   the table breaks its rules, or `count` is not 64        3 to 9, 11   see docs/NUMBERS.md
+ *   1   room under 128
+ *   2   the table breaks its rules, or `count` is not 64
+ *   3 to 9, 11   see docs/NUMBERS.md
  *   5   replied to with Version Not Supported; table kept
- *   64 67 69 70 73 78 83   a reply with that cause; the table as before but for Recovery and a replaced session
+ *   64 67 69 70 73 78 83   a reply with that cause; the table as before but for Recovery and a replaced
+ *                          session
  * 1, 2 and the silent numbers leave all as it was. The datagram is never written to. */
-grugavorn_left grugavorn_control(grugavorn_node node, grugavorn_session *records, size_t count, const uint8_t *datagram, size_t length, uint8_t *reply, size_t room);
+grugavorn_left grugavorn_control(grugavorn_node node, grugavorn_session *records, size_t count,
+                                 const uint8_t *datagram, size_t length, uint8_t *reply, size_t room);
 
 /* Take user datagram. The table is only read, so no node comes back.
  *   0   a packet: place and payload; or an echo: no payload, a reply of 14 octets
  *   15  no live user number: a reply of 24 octets, the Error Indication
  *   1, 2, 3, 6, 7, 12, 13, 14   silent, as in docs/NUMBERS.md; 1 and 2 as for control
  * The payload is a part of the caller's datagram: nothing is copied. */
-grugavorn_handed grugavorn_user(grugavorn_node node, const grugavorn_session *records, size_t count, const uint8_t *datagram, size_t length, uint8_t *reply, size_t room);
+grugavorn_handed grugavorn_user(grugavorn_node node, const grugavorn_session *records, size_t count,
+                                const uint8_t *datagram, size_t length, uint8_t *reply, size_t room);
 
-/* Tick: what was sent and is unanswered counts down from T, and is due again, or given up after N sends: its place is freed, for an
- * echo all places.
- *   0   done        2   the table breaks its rules, or `count` is not 64
+/* Tick: what was sent and is unanswered counts down from T, and is due again, or given up after N sends:
+ * its place is freed, for an echo all places.
+ *   0   done
+ *   2   the table breaks its rules, or `count` is not 64
  * There is no reply: size is 0. Send what is due, then tick. */
 grugavorn_left grugavorn_tick(grugavorn_node node, grugavorn_session *records, size_t count);
 
-/* Send next due: one datagram to the exchange, an own echo (13 octets) or a place's Delete Bearer (17). Call it until it answers 17.
+/* Send next due: one datagram to the exchange, an own echo (13 octets) or a place's Delete Bearer (17).
+ * Call it until it answers 17.
  *   0   the reply buffer holds the datagram's `size` octets, and it counts as sent
- *   1, 2   as for control        17   nothing is due */
-grugavorn_left grugavorn_send(grugavorn_node node, grugavorn_session *records, size_t count, uint8_t *reply, size_t room);
+ *   1, 2   as for control
+ *   17  nothing is due */
+grugavorn_left grugavorn_send(grugavorn_node node, grugavorn_session *records, size_t count, uint8_t *reply,
+                              size_t room);
 
 /* Close a place: it is marked closing, and its Delete Bearer is due.
- *   0   marked, or closing already        2   as for tick        10  place over 63, or free
+ *   0   marked, or closing already
+ *   2   as for tick
+ *   10  a place over 63, or a free one
  * There is no reply: size is 0. */
 grugavorn_left grugavorn_close(grugavorn_node node, grugavorn_session *records, size_t count, size_t place);
 
-/* Line of a place: what the bench prints of it, as `size` characters of text in the reply buffer, at most 83, with no line end. The table
- * is only read: the node that comes back is the one that went in.
- *   0   the line, also of a free place        1, 2   as for control        10  place over 63 */
-grugavorn_left grugavorn_line(grugavorn_node node, const grugavorn_session *records, size_t count, size_t place, uint8_t *reply, size_t room);
+/* Line of a place: what the bench prints of it, as `size` characters of text in the reply buffer, at most
+ * GRUGAVORN_LINE, with no line end. The table is only read: the node that comes back is the one that went in.
+ *   0   the line, also of a free place
+ *   1, 2   as for control
+ *   10  a place over 63 */
+grugavorn_left grugavorn_line(grugavorn_node node, const grugavorn_session *records, size_t count,
+                              size_t place, uint8_t *reply, size_t room);
+
+/* ---- the calls on a unit: as above, with its own records and node; the node that comes back is stored */
+
+/* A unit: all that document 01 calls the table. Nothing has to be done to it before grugavorn_unit_fresh. */
+typedef struct grugavorn_unit {
+  grugavorn_node node;
+  grugavorn_session records[GRUGAVORN_PLACES];
+} grugavorn_unit;
+
+/* What a call on a unit answers: the number, and the length of the reply in the reply buffer (0: none). */
+typedef struct {
+  uint8_t number;
+  size_t size;
+} grugavorn_answer;
+
+/* Stores the node that came back. For the calls below. */
+static inline grugavorn_answer grugavorn_unit_keep(grugavorn_unit *unit, grugavorn_left left) {
+  grugavorn_answer answer;
+  answer.number = left.number;
+  answer.size = left.size;
+  unit->node = left.node;
+  return answer;
+}
+
+/* A unit under a plan: grugavorn_fresh. Where it answers 16, every later call answers 2. */
+static inline grugavorn_answer grugavorn_unit_fresh(grugavorn_unit *unit, const grugavorn_plan *plan) {
+  return grugavorn_unit_keep(unit, grugavorn_fresh(*plan, unit->records, GRUGAVORN_PLACES));
+}
+
+/* Takes a control datagram: grugavorn_control. */
+static inline grugavorn_answer grugavorn_unit_control(grugavorn_unit *unit, const uint8_t *datagram,
+                                                      size_t length, uint8_t *reply, size_t room) {
+  return grugavorn_unit_keep(
+      unit, grugavorn_control(unit->node, unit->records, GRUGAVORN_PLACES, datagram, length, reply, room));
+}
+
+/* Takes a user datagram: grugavorn_user. The unit is only read. */
+static inline grugavorn_handed grugavorn_unit_user(const grugavorn_unit *unit, const uint8_t *datagram,
+                                                   size_t length, uint8_t *reply, size_t room) {
+  return grugavorn_user(unit->node, unit->records, GRUGAVORN_PLACES, datagram, length, reply, room);
+}
+
+/* Counts one tick: grugavorn_tick. */
+static inline grugavorn_answer grugavorn_unit_tick(grugavorn_unit *unit) {
+  return grugavorn_unit_keep(unit, grugavorn_tick(unit->node, unit->records, GRUGAVORN_PLACES));
+}
+
+/* Writes the next due datagram into the reply buffer: grugavorn_send. Call it until it answers 17. */
+static inline grugavorn_answer grugavorn_unit_send(grugavorn_unit *unit, uint8_t *reply, size_t room) {
+  return grugavorn_unit_keep(unit, grugavorn_send(unit->node, unit->records, GRUGAVORN_PLACES, reply, room));
+}
+
+/* Closes a place: grugavorn_close. */
+static inline grugavorn_answer grugavorn_unit_close(grugavorn_unit *unit, size_t place) {
+  return grugavorn_unit_keep(unit, grugavorn_close(unit->node, unit->records, GRUGAVORN_PLACES, place));
+}
+
+/* Writes the line of a place into the reply buffer: grugavorn_line. The unit is only read: the node that
+ * comes back is its own, so that there is nothing to store. */
+static inline grugavorn_answer grugavorn_unit_line(const grugavorn_unit *unit, size_t place, uint8_t *reply,
+                                                   size_t room) {
+  grugavorn_left left = grugavorn_line(unit->node, unit->records, GRUGAVORN_PLACES, place, reply, room);
+  grugavorn_answer answer;
+  answer.number = left.number;
+  answer.size = left.size;
+  return answer;
+}
 
 #if defined(__cplusplus)
 }

@@ -1,7 +1,9 @@
 """What the cases are written with: input lines and datagrams built octet by octet, and expected lines spelled out by hand.
 
-Shares nothing with the model: a slip in the one's octets is not a slip in the other's. Hex texts may have spaces for the eye.
+Shares nothing with the model but the figures: a slip in the one's octets is not a slip in the other's. Hex texts may have spaces for the eye.
 """
+
+from figures import DATAGRAM, NAME_LENGTH, PLACES  # noqa: F401  the cases have them from here
 
 CASES = []  # (name, what it shows, input text, by hand: expected text or None)
 TAB = "\t"
@@ -16,7 +18,7 @@ def N(control="0A000001", user="0A000002", pool="64400000", recovery=7, t=3, n=2
     return TAB.join(["N", control, user, pool, str(recovery), str(t), str(n), str(e)])
 
 
-def A(name=b"\x04data", g=1, c=64):
+def A(name=b"\x04data", g=1, c=PLACES):
     return TAB.join(["A", name.hex().upper(), str(g), str(c)])
 
 
@@ -37,7 +39,7 @@ def T(times=1):
 
 
 PLAN = (N(), A())  # the plan of document 01's whole case
-TWO = (N(), A(b"\x04data", 1, 64), A(b"\x03net", 0, 64))
+TWO = (N(), A(b"\x04data", 1, PLACES), A(b"\x03net", 0, PLACES))
 
 
 # ---- fields; NONE in place of a field leaves it out

@@ -50,19 +50,19 @@ for name, shows, text in [
     case("bad-" + name, "bad first line: " + shows, A(), C(echo(0x40)), plan=(text,), out=bad(1))
 
 case("n-leading-zeros", "leading zeros are allowed in decimal numbers",
-     "X\t0000000000000000000064",
-     plan=(N(recovery="007", t="0000000000000000000000003", n="02", e="060"), "A\t0464617461\t01\t064"), out=[line(10, "-"), line("L", 0)])
+     "X\t" + "0" * 20 + str(PLACES),
+     plan=(N(recovery="007", t="0000000000000000000000003", n="02", e="060"), "A\t0464617461\t01\t0%d" % PLACES), out=[line(10, "-"), line("L", 0)])
 
-case("x-many-leading-zeros", "however many zeros", "X\t" + "0" * 5000 + "63", "X\t" + "0" * 5000 + "64", out=[line(10, "-"), line(10, "-"), line("L", 0)])
+case("x-many-leading-zeros", "however many zeros", "X\t" + "0" * 5000 + str(PLACES - 1), "X\t" + "0" * 5000 + str(PLACES), out=[line(10, "-"), line(10, "-"), line("L", 0)])
 
 # ---- A lines
 for name, shows, text in [
         ("a-too-few", "a field of A missing", "A\t0464617461\t1"),
         ("a-too-many", "a field too many", A() + "\t1"),
         ("a-alone", "nothing behind A", "A"),
-        ("a-odd-hex", "a name of an odd count of digits", "A\t046\t1\t64"),
-        ("a-lower-case", "lower-case hex in a name", "A\t04646f\t1\t64"),
-        ("a-name-of-64", "a name of 64 octets", A(b"a" * 64)),
+        ("a-odd-hex", "a name of an odd count of digits", "A\t046\t1\t%d" % PLACES),
+        ("a-lower-case", "lower-case hex in a name", "A\t04646f\t1\t%d" % PLACES),
+        ("a-name-of-64", "a name of 64 octets", A(b"a" * (NAME_LENGTH + 1))),
         ("a-g-over-255", "g 256", A(g=256)),
         ("a-c-over-255", "c 256", A(c=256)),
         ("a-c-empty", "an empty c", A(c="")),
@@ -94,9 +94,9 @@ for name, shows, text in [
         ("c-space-within", "a space within the hex", "C\t4001 0004"),
         ("c-space-behind", "a space behind the hex", C(echo(0x40)) + " "),
         ("c-carriage-return", "a carriage return at the end", C(echo(0x40)) + "\r"),
-        ("c-of-2049", "2,049 octets", C(bytes(2049))),
+        ("c-of-2049", "2,049 octets", C(bytes(DATAGRAM + 1))),
         ("c-of-10000", "a line far longer than any good one", C(bytes(10000))),
-        ("u-of-2049", "2,049 octets", U(bytes(2049))),
+        ("u-of-2049", "2,049 octets", U(bytes(DATAGRAM + 1))),
         ("u-alone", "U without a field", "U"),
         ("u-odd-hex", "an odd count of hex digits", "U\t3"),
         ("t-with-field", "T with a field", "T\t1"),
@@ -117,8 +117,8 @@ case("bad-last-line-without-end", "a bad last line without a line end", "T\t", p
 case("bad-first-after-plan", "the first line behind a good plan is bad", "Q", out=bad(3))
 case("bad-line-keeps-what-was-said", "what was printed before a bad line stays, D lines too; no L lines follow", C(create()), X(0), "X", "T",
      out=[accepted(), line(0, "-"), line("D", "48 63 000D 00001111 000000 00 49 0001 00 05")] + bad(5))
-case("u-of-2048", "2,048 octets are taken: the payload is all but 8", C(create()), U(gpdu(0x180, b"\xA5" * 2040)),
-     out=[accepted(), line(0, "-", "A5" * 2040), line("L", 1), SESSION])
+case("u-of-2048", "2,048 octets are taken: the payload is all but 8", C(create()), U(gpdu(0x180, b"\xA5" * (DATAGRAM - 8))),
+     out=[accepted(), line(0, "-", "A5" * (DATAGRAM - 8)), line("L", 1), SESSION])
 case("c-empty-hex", "empty hex is a datagram of no octets: 3", "C\t", "U\t", out=[line(3, "-"), line(3, "-"), line("L", 0)])
 
 # ---- refused plans
@@ -133,9 +133,9 @@ for name, shows, lines in [
         ("empty-name", "an empty name", (N(), A(b""))),
         ("same-names", "two access points of one name", (N(), A(b"\x01a", 0, 1), A(b"\x01b", 0, 1), A(b"\x01a", 1, 2))),
         ("c-0", "c 0", (N(), A(g=0, c=0))),
-        ("c-65", "c 65", (N(), A(g=0, c=65))),
+        ("c-65", "c 65", (N(), A(g=0, c=PLACES + 1))),
         ("g-over-c", "g over c", (N(), A(g=3, c=2))),
-        ("guarantees-65", "guarantees that add to 65", (N(), A(b"\x01a", 60, 64), A(b"\x01b", 5, 64))),
+        ("guarantees-65", "guarantees that add to 65", (N(), A(b"\x01a", PLACES - 4, PLACES), A(b"\x01b", 5, PLACES))),
         ("last-of-four", "the fourth access point breaks the limit",
          (N(), A(b"\x01a", 0, 1), A(b"\x01b", 0, 1), A(b"\x01c", 0, 1), A(b"\x01d", 2, 1)))]:
     case("plan-refused-" + name, "refused plan: " + shows, C(echo(0x40)), T(), plan=lines, out=REFUSED)
@@ -146,6 +146,7 @@ case("plan-refused-before-an-empty-line", "the same with an empty line", "", "T"
 case("plan-at-its-limits", "T 255, N 10, E 255, four names, one of 63 octets, guarantees that add to 64, c 64, pool base FFFFFF00",
      crowd(1, 1, b"\x01d"), crowd(2, 2, b"\x01a"),
      plan=(N("FFFFFFFF", "00000000", "FFFFFF00", 255, 255, 10, 255),
-           A(b"\x01a", 64, 64), A(b"\x3e" + b"z" * 62, 0, 1), A(b"\x01", 0, 1), A(b"\x01d", 0, 64)))
+           A(b"\x01a", PLACES, PLACES), A(bytes([NAME_LENGTH - 1]) + b"z" * (NAME_LENGTH - 1), 0, 1), A(b"\x01", 0, 1),
+           A(b"\x01d", 0, PLACES)))
 case("plan-at-its-lower-limits", "T 1, N 1, E 1, a name of one octet, g 0, c 1, pool base 0", C(create(1, apn=apn(b"\x00"))), T(2),
      plan=(N("00000000", "FFFFFFFF", "00000000", 0, 1, 1, 1), A(b"\x00", 0, 1)))

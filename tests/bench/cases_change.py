@@ -133,8 +133,8 @@ case("place-5-use-1", "the pair of document 01: place 5, use 1 has TEIDs 261 and
      crowd(1, 6), C(modify(261, 1)), U(gpdu(389, b"\x45")), C(modify(389, 2)), U(gpdu(261, b"\x45")))
 
 case("places-0-to-63", "all 64 places: numbers and addresses of each",
-     crowd(1, 64), U(gpdu(0x1BF, b"!")), U(gpdu(0x1C0, b"!")), C(modify(0x13F)), C(modify(0x140)),
-     out=[seated(k, k + 1) for k in range(64)]
+     crowd(1, PLACES), U(gpdu(0x1BF, b"!")), U(gpdu(0x1C0, b"!")), C(modify(0x13F)), C(modify(0x140)),
+     out=[seated(k, k + 1) for k in range(PLACES)]
      + [line(0, "-", "21"), line(15, "32 1A 0010 00000000 00000000 10 000001C0 85 0004 0A000002"),
-        line(0, "48 23 000E 00001111 000020 00 02 0002 00 10 00"), line(64, "48 23 000E 00000000 000020 00 02 0002 00 40 00"), line("L", 64)]
-     + [record(k, k + 1) for k in range(64)])
+        line(0, "48 23 000E 00001111 000020 00 02 0002 00 10 00"), line(64, "48 23 000E 00000000 000020 00 02 0002 00 40 00"), line("L", PLACES)]
+     + [record(k, k + 1) for k in range(PLACES)])

@@ -157,11 +157,11 @@ case("create-reply-teid", "a cause reply goes to a good Sender F-TEID, also wher
           line(78, "48 21 000E 00000009 000005 00 02 0002 00 4E 00"),
           line("L", 0)])
 
-LONG = bytes([62]) + b"a" * 62  # 63 octets, the longest name
+LONG = bytes([NAME_LENGTH - 1]) + b"a" * (NAME_LENGTH - 1)  # the longest name
 
 case("create-apn-unknown", "78: another name, another case, a part of one, one with more behind it, none, over 63 octets; then each known one",
      *[C(create(k, apn=apn(name))) for k, name in enumerate([b"\x04dat", b"\x04DATA", b"\x04dat", b"\x04data\x03net", b"", b"data", LONG + b"a",
-                                                            LONG[:62], b"\x04data"], 1)],
+                                                            LONG[:-1], b"\x04data"], 1)],
      *[C(create(k, apn=apn(name), imsi=person(k))) for k, name in enumerate([b"\x04data", LONG, b"\x00"], 20)],
      plan=(N(), A(), A(LONG, 0, 1), A(b"\x00", 0, 1)))
 

@@ -64,5 +64,5 @@ case("version-not-supported-taken", "type 3 is taken and changes nothing; its fi
      out=[accepted()] + [line(0, "-")] * 3 + [line(6, "-"), line("L", 1), SESSION])
 
 case("datagram-of-2048", "the longest datagram a line may have is taken: an unknown field fills it up",
-     C(create(more=field(255, bytes(2048 - 108 - 4)))),
+     C(create(more=field(255, bytes(DATAGRAM - 108 - 4)))),
      out=[accepted(), line("L", 1), SESSION])

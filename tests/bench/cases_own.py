@@ -70,7 +70,7 @@ case("recovery-read-before-the-rule", "at the ceiling: with the same value 73; w
 
 case("recovery-frees-all-and-73", "another value frees all also where 73 follows: no room is left beside a guarantee of 64, used or not",
      C(create(1, more=recovery(5))), C(create(2, imsi=person(2), apn=apn(b"\x03net"), more=recovery(6))),
-     plan=(N(), A(g=64, c=64), A(b"\x03net", 0, 64)),
+     plan=(N(), A(g=PLACES, c=PLACES), A(b"\x03net", 0, PLACES)),
      out=[accepted(), line(73, "48 21 000E 00001111 000002 00 02 0002 00 49 00"), *GONE])
 
 case("recovery-stored-by-73", "the first value seen stands in a Create refused with 73, and counts",
@@ -145,7 +145,7 @@ case("close-in-between", "one tick before the N x T-th it is still closing, and 
           line(0, 1, "X", 0, "440101234567890", 5, 4369, "0A010008", 8738, "0A010009", 1)])
 
 case("close-unfit", "a place over 63, or free: 10; a place freed before is free",
-     X(0), X(63), X(64), X(255), C(create()), C(delete(0x100, 1)), X(0),
+     X(0), X(PLACES - 1), X(PLACES), X(255), C(create()), C(delete(0x100, 1)), X(0),
      out=[line(10, "-")] * 4 + [accepted(), line(0, "48 25 000E 00001111 000001 00 02 0002 00 10 00"), line(10, "-"), *GONE])
 
 case("close-twice", "closing twice answers 0 and changes nothing: no second request, the timer goes on",
@@ -202,6 +202,6 @@ case("close-and-echo-apart", "echo and places count down each for itself; an ans
      crowd(1, 2), T(2), X(0), T(1), X(1), T(1), C(bearer_deleted(0x100, 1, cause())), T(6), plan=plan(t=4, n=2, e=2))
 
 case("close-all-64", "all 64 places closed: 64 own numbers, all given up in the same tick",
-     crowd(1, 64), *[X(k) for k in range(64)], T(2), plan=plan(1, 2, 200),
-     out=[seated(k, k + 1) for k in range(64)] + [part for k in range(64) for part in (OK, bearer_delete(k))]
-     + [OK] + [bearer_delete(k) for k in range(64)] + [OK, line("L", 0)] + [freed(k) for k in range(64)])
+     crowd(1, PLACES), *[X(k) for k in range(PLACES)], T(2), plan=plan(1, 2, 200),
+     out=[seated(k, k + 1) for k in range(PLACES)] + [part for k in range(PLACES) for part in (OK, bearer_delete(k))]
+     + [OK] + [bearer_delete(k) for k in range(PLACES)] + [OK, line("L", 0)] + [freed(k) for k in range(PLACES)])

@@ -7,10 +7,10 @@ gtp.py has the octets. A call returns (number, reply, payload or None).
 import sys
 
 import gtp
+from figures import DATAGRAM, NAMES, NAME_LENGTH, PLACES
 from gtp import Refused, first, number
 
 # ---- Numbers
-PLACES, NAMES, NAME_LENGTH, DATAGRAM = 64, 4, 63, 2048
 LAST_USE, LAST_NUMBER = 16_777_215, 8_388_607
 FREE, LIVE, CLOSING = "F", "L", "X"
 

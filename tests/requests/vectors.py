@@ -6,10 +6,16 @@ document 01 in Python that shares nothing with the Rattle code or with fuzz.c: i
 down a table of the fields in document 01's order. For the independent datagrams its number is also held to the one that stands beside
 them. Run it after a change of the cases; `git diff` then shows what moved."""
 import os
+import sys
 
 HERE = os.path.dirname(os.path.abspath(__file__))
+sys.dont_write_bytecode = True
+sys.path.insert(0, os.path.join(HERE, "..", "bench"))
+
+from figures import NAME_LENGTH
+
 CRATE = os.path.join(HERE, "..", "..", "crates", "controlvectors")
-PLAN = [b"\x04data", b"\x03net", bytes([62]) + bytes(97 + i % 26 for i in range(62))]
+PLAN = [b"\x04data", b"\x03net", bytes([NAME_LENGTH - 1]) + bytes(97 + i % 26 for i in range(NAME_LENGTH - 1))]
 SESSION_EBI = 5
 # what a line of a request has behind type, TEID and sequence number
 COLUMNS = "number named field instance kind imsi ebi control controladdr user useraddr point recovery moved context usermoved replyto".split()
@@ -192,7 +198,7 @@ WRONG = {
     (1, 0): [("a digit A", b"\x4A" + IMSI[1:]), ("a high half F in the middle", IMSI[:3] + b"\xF2" + IMSI[4:]), ("last half 0", IMSI[:7] + b"\x00"), ("last digit F", IMSI[:7] + b"\xFF")],
     (82, 0): [("value 0", b"\0"), ("value 2", b"\2"), ("value 7", b"\7"), ("value 22 (low half 6)", b"\x16"), ("value 1", b"\1")],
     (87, 0): [("no V4", tunnel_value(0x06, "00001111")), ("V6 alone", tunnel_value(0x46, "00001111")), ("V4 and V6", tunnel_value(0xC6, "00001111")), ("interface 7", tunnel_value(0x87, "00001111")), ("interface 38", tunnel_value(0xA6, "00001111")), ("TEID 0", tunnel_value(0x86, "00000000")), ("address 0", tunnel_value(0x86, "00001111", "00000000"))],
-    (71, 0): [("empty", b""), ("capitals", b"\4DATA"), ("one octet more", b"\4dataa"), ("one octet less", b"\4dat"), ("net", b"\3net"), ("63 octets, known", PLAN[2]), ("63 octets, unknown", PLAN[2][:62] + b"!"), ("64 octets", PLAN[2] + b"k")],
+    (71, 0): [("empty", b""), ("capitals", b"\4DATA"), ("one octet more", b"\4dataa"), ("one octet less", b"\4dat"), ("net", b"\3net"), ("63 octets, known", PLAN[2]), ("63 octets, unknown", PLAN[2][:-1] + b"!"), ("64 octets", PLAN[2] + b"k")],
     (79, 0): [("type 0", bytes(5)), ("type 2", b"\2" + bytes(4)), ("type 3", b"\3" + bytes(4)), ("spare bits set", b"\xF9" + bytes(4)), ("type 7", b"\xFF" * 5)],
     (73, 0): [("4", b"\4"), ("0", b"\0"), ("15", b"\x0F"), ("high half set", b"\xF5"), ("high half alone", b"\x50")],
     (87, 2): [("no V4", tunnel_value(0x04, "00002222")), ("interface 5", tunnel_value(0x85, "00002222")), ("interface 6", tunnel_value(0x86, "00002222")), ("TEID 0", tunnel_value(0x84, "00000000"))],

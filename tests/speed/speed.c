@@ -1,119 +1,245 @@
-/* One call again and again, on the proved library or on the plain implementation, for counting instructions; and a comparison of what
- * the two answer. The same table, node and datagram go into every call: what a call changes is put back after it.
- *   speed check                          every call with every number of sessions, both ways: answers, tables and buffers are equal
- *   speed library|plain CALL LIVE COUNT [LENT]  COUNT calls with so many live sessions; LENT records are lent, 64 where it is not said: any
- *                                        other number is refused (2) with no record looked at
- *   speed time library|plain CALL LIVE COUNT    the same, and prints the nanoseconds a call */
+/* One call again and again, on the proved library or on the plain implementation (plain.c), for counting
+ * instructions; and a comparison of what the two answer. The same table, node and datagram go into every
+ * call: what a call changes is put back after it.
+ *   speed check
+ *       every call with every number of sessions, both ways: answers, tables and buffers are equal
+ *   speed library|plain CALL LIVE COUNT [LENT]
+ *       COUNT calls with so many live sessions; LENT records are lent, all places where it is not said: any
+ *       other number is refused (2) with no record looked at
+ *   speed time library|plain CALL LIVE COUNT
+ *       the same, and prints the nanoseconds a call */
 #define _POSIX_C_SOURCE 199309L /* for the clock */
-#include "../lent/reading.h"
+#include "../reading/reading.h"
 #include <stdio.h>
 #include <stdlib.h>
 #include <string.h>
 #include <time.h>
 
-enum { PLACES = 64 };
+enum { PLACES = GRUGAVORN_PLACES };
+
 static grugavorn_session first[PLACES], records[PLACES];
 static grugavorn_node node;
-static uint8_t reply[128], datagram[256];
+static uint8_t reply[GRUGAVORN_REPLY], datagram[256];
 static size_t size, lent = PLACES;
 
 static void octets(const char *hex) {
   for (size = 0; hex[0]; hex += 2) {
     unsigned v;
-    if (sscanf(hex, "%2x", &v) != 1) exit(2);
+    if (sscanf(hex, "%2x", &v) != 1)
+      exit(2);
     datagram[size++] = (uint8_t)v;
   }
 }
 
 /* a Create with the IMSI of a person, for the access point "data" */
 static void create(unsigned person) {
-  octets("4820006800000000000100000100080044101000000000F05200010006570009008600001111" "0A010008" "47000500" "0464617461" "4F00050001"
-         "00000000" "5D002C00" "4900010005" "570009028400002222" "0A010009" "50001600" "61090000000000000000000000000000000000000000");
-  for (int digit = 14; digit > 5; digit--, person /= 10)
-    datagram[16 + digit / 2] = (uint8_t)(digit % 2 ? (datagram[16 + digit / 2] & 15) | person % 10 << 4 : (datagram[16 + digit / 2] & 240) | person % 10);
+  octets("482000680000000000010000"
+         "0100080044101000000000F0"
+         "5200010006"
+         "5700090086000011110A010008"
+         "470005000464617461"
+         "4F0005000100000000"
+         "5D002C00"
+         "4900010005"
+         "5700090284000022220A010009"
+         "5000160061090000000000000000000000000000000000000000");
+  for (int digit = 14; digit > 5; digit--) {
+    uint8_t *both = &datagram[16 + digit / 2];
+    *both = (uint8_t)(digit % 2 ? (*both & 15) | (person % 10) << 4 : (*both & 240) | person % 10);
+    person /= 10;
+  }
+}
+
+static void set_point(grugavorn_point *a, const char *name, unsigned ceiling) {
+  a->size = (uint8_t)strlen(name);
+  memcpy(a->name, name, a->size);
+  a->ceiling = (uint16_t)ceiling;
 }
 
 static void table(unsigned live, int closing, unsigned ceiling) {
   grugavorn_plan p;
   memset(&p, 0, sizeof p);
-  p.control = 0x0A000001, p.user = 0x0A000002, p.pool = 0x64400000, p.recovery = 7, p.resend = 200, p.sends = 2, p.interval = 200, p.count = 2;
-  memcpy(p.points[0].name, "\4data", 5), p.points[0].size = 5, p.points[0].guarantee = 0, p.points[0].ceiling = (uint16_t)ceiling;
-  memcpy(p.points[1].name, "\4grid", 5), p.points[1].size = 5, p.points[1].guarantee = 0, p.points[1].ceiling = 64;
+  p.control = 0x0A000001;
+  p.user = 0x0A000002;
+  p.pool = 0x64400000;
+  p.recovery = 7;
+  p.resend = 200;
+  p.sends = 2;
+  p.interval = 200;
+  p.count = 2;
+  set_point(&p.points[0], "\4data", ceiling);
+  set_point(&p.points[1], "\4grid", PLACES);
   node = reading_fresh(p, first, PLACES).node;
   for (unsigned i = 0; i < live; i++) {
     grugavorn_session *s = &first[i];
-    s->imsi = 440101000000000ull + 7919u * i, s->usage = 1, s->control = 0x1111, s->controladdr = 0x0A010008, s->user = 0x2222, s->useraddr = 0x0A010009;
-    s->created = 0x100 + i, s->ebi = 5, s->state = closing ? GRUGAVORN_CLOSING : GRUGAVORN_LIVE;
-    if (closing) s->own.timer = 100, s->own.sends = 1, s->own.number = i;
+    s->imsi = 440101000000000ull + 7919u * i;
+    s->usage = 1;
+    s->control = 0x1111;
+    s->controladdr = 0x0A010008;
+    s->user = 0x2222;
+    s->useraddr = 0x0A010009;
+    s->created = 0x100 + i;
+    s->ebi = 5;
+    s->state = closing ? GRUGAVORN_CLOSING : GRUGAVORN_LIVE;
+    if (closing) {
+      s->own.timer = 100;
+      s->own.sends = 1;
+      s->own.number = i;
+    }
   }
-  if (closing) node.next = live;
+  if (closing)
+    node.next = live;
   memcpy(records, first, sizeof records);
 }
 
-static const char *const calls[] = { "packet", "user-echo", "user-short", "echo", "create", "repeat", "no-room", "modify", "delete", "tick", "tick-closing", "send", "close", "line" };
+static const char *const calls[] = { "packet",       "user-echo", "user-short", "echo",   "create",
+                                     "repeat",       "no-room",   "modify",     "delete", "tick",
+                                     "tick-closing", "send",      "close",      "line" };
+
+static int is(const char *call, const char *name) {
+  return strcmp(call, name) == 0;
+}
+
+/* The name as it stands above, or null. What is compared in every call then lies where the compiler put
+ * it, and not at the end of the stack, where the length of a comparison goes by the environment. */
+static const char *known(const char *name) {
+  for (size_t i = 0; i < sizeof calls / sizeof *calls; i++)
+    if (is(calls[i], name))
+      return calls[i];
+  return NULL;
+}
 
 /* the table and the datagram of a call; 0 where it makes no sense with so many sessions */
 static int prepare(const char *call, unsigned live) {
-  int closing = strcmp(call, "tick-closing") == 0;
-  int last = strcmp(call, "create") == 0 && live == PLACES;
-  table(last ? PLACES - 1 : live, closing, strcmp(call, "no-room") == 0 && live != 0 ? live : 64);
-  if (strcmp(call, "packet") == 0) octets("30FF000400000180" "45000000"), datagram[7] = (uint8_t)(live == 0 ? 128 : 127 + live);
-  else if (strcmp(call, "user-echo") == 0) octets("3201000400000000" "12340000");
-  else if (strcmp(call, "user-short") == 0) octets("30FF00");
-  else if (strcmp(call, "echo") == 0) octets("40010004" "00010000");
-  else if (strcmp(call, "create") == 0) create(1);
-  else if (strcmp(call, "no-room") == 0) create(1);
-  else if (strcmp(call, "repeat") == 0) create(7919 * (live - 1)), datagram[9] = (uint8_t)((0x100 + live - 1) >> 8), datagram[10] = (uint8_t)(0x100 + live - 1);
-  else if (strcmp(call, "modify") == 0) octets("4822001500000100" "00020000" "57000900" "8600003333" "0A010077"), datagram[7] = (uint8_t)(live - 1);
-  else if (strcmp(call, "delete") == 0) octets("4824000800000100" "00020000"), datagram[7] = (uint8_t)(live - 1);
-  else if (strcmp(call, "send") == 0 && live != 0) first[live - 1].state = GRUGAVORN_CLOSING, memcpy(records, first, sizeof records);
-  return live != 0 || (strcmp(call, "repeat") != 0 && strcmp(call, "no-room") != 0 && strcmp(call, "modify") != 0 && strcmp(call, "delete") != 0 && !closing);
+  int closing = is(call, "tick-closing"), last = is(call, "create") && live == PLACES;
+  if (live == 0
+      && (is(call, "repeat") || is(call, "no-room") || is(call, "modify") || is(call, "delete") || closing))
+    return 0;
+  table(last ? PLACES - 1 : live, closing, is(call, "no-room") ? live : PLACES);
+  if (is(call, "packet")) {
+    octets("30FF00040000018045000000");
+    datagram[7] = (uint8_t)(live == 0 ? 128 : 127 + live);
+  } else if (is(call, "user-echo")) {
+    octets("320100040000000012340000");
+  } else if (is(call, "user-short")) {
+    octets("30FF00");
+  } else if (is(call, "echo")) {
+    octets("4001000400010000");
+  } else if (is(call, "create") || is(call, "no-room")) {
+    create(1);
+  } else if (is(call, "repeat")) {
+    create(7919 * (live - 1));
+    datagram[9] = (uint8_t)((0x100 + live - 1) >> 8);
+    datagram[10] = (uint8_t)(0x100 + live - 1);
+  } else if (is(call, "modify")) {
+    octets("4822001500000100000200005700090086000033330A010077");
+    datagram[7] = (uint8_t)(live - 1);
+  } else if (is(call, "delete")) {
+    octets("482400080000010000020000");
+    datagram[7] = (uint8_t)(live - 1);
+  } else if (is(call, "send") && live != 0) {
+    first[live - 1].state = GRUGAVORN_CLOSING;
+    memcpy(records, first, sizeof records);
+  }
+  return 1;
 }
 
 static grugavorn_left answer;
 static grugavorn_handed handed;
 
+/* of a user datagram there is no node */
+static int is_user(const char *call) {
+  return call[0] == 'p' || call[0] == 'u';
+}
+
+/* which of the library's calls it is, by a letter; most are control datagrams */
+static int kind_of(const char *call) {
+  if (is_user(call))
+    return 'u';
+  if (call[0] == 't')
+    return 't';
+  return is(call, "send") ? 's' : is(call, "close") ? 'x' : is(call, "line") ? 'l' : 'c';
+}
+
 static void once(const char *call, int plain, unsigned live) {
   size_t place = live == 0 ? 0 : live - 1;
-  switch (call[0] == 'p' || call[0] == 'u' ? 'u' : call[0] == 't' ? 't' : strcmp(call, "send") == 0 ? 's' : strcmp(call, "close") == 0 ? 'x' : strcmp(call, "line") == 0 ? 'l' : 'c') {
-    case 'u': handed = plain ? reading_user(node, records, lent, datagram, size, reply, sizeof reply) : grugavorn_user(node, records, lent, datagram, size, reply, sizeof reply); break;
-    case 't': answer = plain ? reading_tick(node, records, lent) : grugavorn_tick(node, records, lent); break;
-    case 's': answer = plain ? reading_send(node, records, lent, reply, sizeof reply) : grugavorn_send(node, records, lent, reply, sizeof reply); break;
-    case 'x': answer = plain ? reading_close(node, records, lent, place) : grugavorn_close(node, records, lent, place); break;
-    case 'l': answer = plain ? reading_line(node, records, lent, place, reply, sizeof reply) : grugavorn_line(node, records, lent, place, reply, sizeof reply); break;
-    default: answer = plain ? reading_control(node, records, lent, datagram, size, reply, sizeof reply) : grugavorn_control(node, records, lent, datagram, size, reply, sizeof reply);
+  switch (kind_of(call)) {
+  case 'u':
+    handed = plain ? reading_user(node, records, lent, datagram, size, reply, sizeof reply)
+                   : grugavorn_user(node, records, lent, datagram, size, reply, sizeof reply);
+    break;
+  case 't':
+    answer = plain ? reading_tick(node, records, lent) : grugavorn_tick(node, records, lent);
+    break;
+  case 's':
+    answer = plain ? reading_send(node, records, lent, reply, sizeof reply)
+                   : grugavorn_send(node, records, lent, reply, sizeof reply);
+    break;
+  case 'x':
+    answer = plain ? reading_close(node, records, lent, place) : grugavorn_close(node, records, lent, place);
+    break;
+  case 'l':
+    answer = plain ? reading_line(node, records, lent, place, reply, sizeof reply)
+                   : grugavorn_line(node, records, lent, place, reply, sizeof reply);
+    break;
+  default:
+    answer = plain ? reading_control(node, records, lent, datagram, size, reply, sizeof reply)
+                   : grugavorn_control(node, records, lent, datagram, size, reply, sizeof reply);
   }
 }
 
+static int same_answers(const grugavorn_left *a, const grugavorn_left *b) {
+  return a->number == b->number && a->size == b->size && a->node.next == b->node.next
+         && a->node.echo.timer == b->node.echo.timer && a->node.heard == b->node.heard
+         && a->node.recovery == b->node.recovery;
+}
+
+static int same_parts(const grugavorn_handed *a, const grugavorn_handed *b) {
+  return a->number == b->number && a->place == b->place && a->size == b->size && a->start == b->start
+         && a->octets == b->octets;
+}
+
+static int same_records(const grugavorn_session *a, const grugavorn_session *b) {
+  return a->imsi == b->imsi && a->usage == b->usage && a->control == b->control
+         && a->controladdr == b->controladdr && a->user == b->user && a->useraddr == b->useraddr
+         && a->created == b->created && a->own.timer == b->own.timer && a->own.sends == b->own.sends
+         && a->own.number == b->own.number && a->state == b->state && a->point == b->point
+         && a->ebi == b->ebi;
+}
+
 static int check(void) {
-  static const unsigned numbers[] = { 0, 32, 64 };
+  static const unsigned numbers[] = { 0, PLACES / 2, PLACES };
   int runs = 0;
   for (size_t c = 0; c < sizeof calls / sizeof *calls; c++)
     for (int k = 0; k < 3; k++) {
       grugavorn_session seen[2][PLACES];
-      uint8_t said[2][128];
+      uint8_t said[2][GRUGAVORN_REPLY];
       grugavorn_left left[2];
       grugavorn_handed part[2];
-      if (!prepare(calls[c], numbers[k])) continue;
+      if (!prepare(calls[c], numbers[k]))
+        continue;
       for (int plain = 0; plain < 2; plain++) {
-        memcpy(records, first, sizeof records), memset(reply, 0x5A, sizeof reply);
-        memset(&answer, 0, sizeof answer), memset(&handed, 0, sizeof handed);
+        memcpy(records, first, sizeof records);
+        memset(reply, 0x5A, sizeof reply);
+        memset(&answer, 0, sizeof answer);
+        memset(&handed, 0, sizeof handed);
         once(calls[c], plain, numbers[k]);
-        memcpy(seen[plain], records, sizeof records), memcpy(said[plain], reply, sizeof reply);
-        left[plain] = answer, part[plain] = handed;
+        memcpy(seen[plain], records, sizeof records);
+        memcpy(said[plain], reply, sizeof reply);
+        left[plain] = answer;
+        part[plain] = handed;
       }
-      int same = left[0].number == left[1].number && left[0].size == left[1].size && left[0].node.next == left[1].node.next
-        && left[0].node.echo.timer == left[1].node.echo.timer && left[0].node.heard == left[1].node.heard && left[0].node.recovery == left[1].node.recovery
-        && part[0].number == part[1].number && part[0].place == part[1].place && part[0].size == part[1].size && part[0].start == part[1].start
-        && part[0].octets == part[1].octets && memcmp(said[0], said[1], 128) == 0;
-      for (int i = 0; i < PLACES; i++) {
-        const grugavorn_session *a = &seen[0][i], *b = &seen[1][i];
-        same = same && a->imsi == b->imsi && a->usage == b->usage && a->control == b->control && a->controladdr == b->controladdr && a->user == b->user
-          && a->useraddr == b->useraddr && a->created == b->created && a->own.timer == b->own.timer && a->own.sends == b->own.sends
-          && a->own.number == b->own.number && a->state == b->state && a->point == b->point && a->ebi == b->ebi;
+      int same = same_answers(&left[0], &left[1]) && same_parts(&part[0], &part[1])
+                 && memcmp(said[0], said[1], GRUGAVORN_REPLY) == 0;
+      for (int i = 0; i < PLACES; i++)
+        same = same && same_records(&seen[0][i], &seen[1][i]);
+      if (!same) {
+        printf("speed: %s with %u live: the two differ (%u and %u)\n", calls[c], numbers[k], left[0].number,
+               left[1].number);
+        return 1;
       }
-      if (!same) return printf("speed: %s with %u live: the two differ (%u and %u)\n", calls[c], numbers[k], left[0].number, left[1].number), 1;
-      printf("%s %u %u %zu\n", calls[c], numbers[k], calls[c][0] == 'p' || calls[c][0] == 'u' ? part[0].number : left[0].number, left[0].size + part[0].size);
+      printf("%s %u %u %zu\n", calls[c], numbers[k], is_user(calls[c]) ? part[0].number : left[0].number,
+             left[0].size + part[0].size);
       runs++;
     }
   printf("speed: %d kinds of calls, the answers are equal\n", runs);
@@ -121,26 +247,38 @@ static int check(void) {
 }
 
 int main(int argc, char **argv) {
-  if (argc == 2 && strcmp(argv[1], "check") == 0) return check();
-  int timed = argc == 6 && strcmp(argv[1], "time") == 0;
-  argc -= timed, argv += timed;
-  if (argc != 5 && argc != 6) return 2;
-  int plain = strcmp(argv[1], "plain") == 0;
+  if (argc == 2 && is(argv[1], "check"))
+    return check();
+  int timed = argc == 6 && is(argv[1], "time");
+  argc -= timed;
+  argv += timed;
+  if (argc != 5 && argc != 6)
+    return 2;
+  int plain = is(argv[1], "plain");
+  const char *call = known(argv[2]);
+  if (call == NULL)
+    return 2;
   unsigned live = (unsigned)atoi(argv[3]), sum = 0;
-  if (!prepare(argv[2], live)) return 3;
-  if (argc == 6) lent = (size_t)atoi(argv[5]);
-  size_t last = live == 0 || strcmp(argv[2], "create") == 0 ? (live == PLACES ? PLACES - 1 : live) : live - 1;
-  int all = argv[2][0] == 't';
+  if (!prepare(call, live))
+    return 3;
+  if (argc == 6)
+    lent = (size_t)atoi(argv[5]);
+  size_t last = live == 0 || is(call, "create") ? (live == PLACES ? PLACES - 1 : live) : live - 1;
+  int all = call[0] == 't';
   struct timespec start, end;
   clock_gettime(CLOCK_MONOTONIC, &start);
   for (int i = atoi(argv[4]); i > 0; i--) {
-    once(argv[2], plain, live);
+    once(call, plain, live);
     sum += answer.number + handed.number;
-    if (all) memcpy(records, first, sizeof records);
-    else records[last] = first[last];
+    if (all)
+      memcpy(records, first, sizeof records);
+    else
+      records[last] = first[last];
   }
   clock_gettime(CLOCK_MONOTONIC, &end);
   printf("%u\n", sum);
-  if (timed) printf("%.0f\n", ((double)(end.tv_sec - start.tv_sec) * 1e9 + (double)(end.tv_nsec - start.tv_nsec)) / atoi(argv[4]));
+  if (timed)
+    printf("%.0f\n", ((double)(end.tv_sec - start.tv_sec) * 1e9 + (double)(end.tv_nsec - start.tv_nsec))
+                         / atoi(argv[4]));
   return 0;
 }

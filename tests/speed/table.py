@@ -2,26 +2,35 @@
 elsewhere QEMU's user mode with the plugin that `run` has built from count.c.
 
 The count of a call is that of 100 calls less that of none, by 100: what the host does to put the table back is in both columns.
-Its parts, with 64 live sessions: around is a call that is lent 63 records and refuses them unread (the host, the plan's limits, the node in and
-out, copies of it included); rules is what checking the records takes, measured on a datagram of three octets; work is the rest.
+Its parts, with all places live: around is a call that is lent a record too few and refuses them unread (the host, the plan's limits, the node
+in and out, copies of it included); rules is what checking the records takes, measured on a datagram of three octets; work is the rest.
 On x86-64 nanoseconds a call are printed too, for information: they do not repeat.
 """
+import os
 import platform
+import shutil
 import subprocess
 import sys
+
+sys.dont_write_bytecode = True
+sys.path.insert(0, os.path.join(os.path.dirname(os.path.abspath(__file__)), "..", "bench"))
+
+from figures import PLACES
 
 CALLS = [("packet", "G-PDU"), ("user-echo", "user echo"), ("echo", "control echo"), ("create", "Create accepted"), ("repeat", "Create repeated"),
          ("no-room", "Create, no room"), ("modify", "Modify"), ("delete", "Delete"), ("tick", "tick"), ("tick-closing", "tick, all closing"),
          ("send", "send"), ("close", "close"), ("line", "line")]
-LIVE = (0, 32, 64)
+LIVE = (0, PLACES // 2, PLACES)
 TIMES = 100
 NATIVE = platform.machine() == "x86_64"
 
 
-def counted(program, way, call, live, times, lent=64):
+def counted(program, way, call, live, times, lent=PLACES):
     counter = (["valgrind", "--tool=callgrind", "--callgrind-out-file=/dev/null"] if NATIVE
                else ["qemu-x86_64", "-cpu", "max", "-plugin", "target/tests/count.so"])
-    done = subprocess.run(counter + [program, way, call, str(live), str(times), str(lent)], capture_output=True, text=True)
+    # no environment: its length moves the stack, and with it the copies of memory by up to 40 instructions a call
+    command = [shutil.which(counter[0])] + counter[1:] + [program, way, call, str(live), str(times), str(lent)]
+    done = subprocess.run(command, capture_output=True, text=True, env={})
     if done.returncode == 3:
         return None
     if done.returncode != 0:
@@ -29,34 +38,35 @@ def counted(program, way, call, live, times, lent=64):
     return int(done.stderr.split("Collected :" if NATIVE else "instructions")[1].split()[0])
 
 
-def instructions(program, way, call, live, lent=64):
+def instructions(program, way, call, live, lent=PLACES):
     none = counted(program, way, call, live, 0, lent)
     return None if none is None else (counted(program, way, call, live, TIMES, lent) - none) // TIMES
 
 
 def parts(program, full):
-    """A line a call with 64 live sessions: around, rules and work, of the library and of the plain implementation."""
-    print("\n%-18s%26s%26s" % ("64 live", "library", "plain"))
+    """A line a call with all places live: around, rules and work, of the library and of the plain implementation."""
+    print("\n%-18s%26s%26s" % ("%d live" % PLACES, "library", "plain"))
     print("%-18s" % "" + "%26s" % "around  rules   work" * 2)
-    rules = [instructions(program, way, "user-short", 64) - instructions(program, way, "user-short", 64, 63) for way in ("library", "plain")]
+    rules = [instructions(program, way, "user-short", PLACES) - instructions(program, way, "user-short", PLACES, PLACES - 1)
+             for way in ("library", "plain")]
     for (call, name), counts in full:
-        around = [instructions(program, way, call, 64, 63) for way in ("library", "plain")]
+        around = [instructions(program, way, call, PLACES, PLACES - 1) for way in ("library", "plain")]
         print("%-18s" % name + "".join("%12d %6d %6d" % (a, r, n - a - r) for a, r, n in zip(around, rules, counts)), flush=True)
 
 
 def times(program, full):
-    """Nanoseconds a call with 64 live sessions, of both."""
-    print("\n%-18s%13s%13s" % ("64 live", "library, ns", "plain, ns"))
+    """Nanoseconds a call with all places live, of both."""
+    print("\n%-18s%13s%13s" % ("%d live" % PLACES, "library, ns", "plain, ns"))
     for (call, name), _ in full:
-        took = [subprocess.run([program, "time", way, call, "64", "200000"], capture_output=True, text=True).stdout.split()[1] for way in ("library", "plain")]
+        took = [subprocess.run([program, "time", way, call, str(PLACES), "200000"], capture_output=True, text=True).stdout.split()[1] for way in ("library", "plain")]
         print("%-18s%13s%13s" % (name, *took), flush=True)
 
 
 def picture(rows, path):
-    """Bars of the calls with 64 live sessions: the library's over the plain one's."""
+    """Bars of the calls with all places live: the library's over the plain one's."""
     most, left, wide, step = max(max(r[1], r[2]) for r in rows), 130, 470, 34
     out = ['<svg xmlns="http://www.w3.org/2000/svg" width="%d" height="%d" font-family="sans-serif" font-size="12">' % (left + wide + 130, 50 + step * len(rows)),
-           '<text x="10" y="20">Instructions a call with 64 live sessions: proved library (dark), plain C (light), ratio</text>']
+           '<text x="10" y="20">Instructions a call with %d live sessions: proved library (dark), plain C (light), ratio</text>' % PLACES]
     for k, (name, ours, plain) in enumerate(rows):
         y = 36 + step * k
         out.append('<text x="%d" y="%d" text-anchor="end">%s</text>' % (left - 8, y + 17, name))
@@ -77,7 +87,7 @@ def main():
         for live in LIVE:
             ours, plain = (instructions(program, way, call, live) for way in ("library", "plain"))
             cells.append("%26s" % "-" if ours is None else "%12d %6d %6.2f" % (ours, plain, ours / plain))
-            if live == 64 and ours is not None:
+            if live == PLACES and ours is not None:
                 full.append(((call, name), (ours, plain)))
         print("%-18s" % name + "".join(cells), flush=True)
     parts(program, full)

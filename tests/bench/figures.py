@@ -1,0 +1,6 @@
+"""The figures of document 01 that the tests in Python name ("Numbers", "Bench print"); in C they are macros of
+include/grugavorn.h."""
+PLACES = 64  # of a unit, numbered from 0
+NAMES = 4  # access points of a plan, at most
+NAME_LENGTH = 63  # octets of a name, at most
+DATAGRAM = 2048  # octets of a bench line's datagram, at most
