@@ -1,5 +1,5 @@
 #!/usr/bin/env python3
-"""Writes the input of the program uservectors and what it has to print: `vectors.py`, or `vectors.py --check` to compare only.
+"""Writes the input of the program trial_user and what it has to print: `vectors.py`, or `vectors.py --check` to compare only.
 
 The expectation is this file's own reading of document 01, "User header" and "The numbers that come back"; nothing of it
 comes from the Rattle code or from a run of the program. The number in vectors.tsv, which was given by hand, is compared too.
@@ -8,7 +8,7 @@ import os
 import sys
 
 here = os.path.dirname(os.path.abspath(__file__))
-crate = os.path.join(here, "..", "..", "crates", "uservectors")
+crate = os.path.join(here, "..", "..", "crates", "trial_user")
 
 
 def read(d):
@@ -88,7 +88,7 @@ for name, text in files.items():
     path = os.path.join(crate, name)
     if "--check" in sys.argv:
         if open(path).read() != text:
-            sys.exit(f"{name} of uservectors is not what vectors.py makes")
+            sys.exit(f"{name} of trial_user is not what vectors.py makes")
     else:
         open(path, "w").write(text)
 print(f"{len(vectors)} vectors, {forms} datagrams")

@@ -1,4 +1,4 @@
-"""Has tshark decode the lines of crates/messagesprint ("KIND HEX" each) and holds what it reads to the sample values.
+"""Has tshark decode the lines of crates/trial_messages ("KIND HEX" each) and holds what it reads to the sample values.
 
 decode.py LINES FOLDER writes FOLDER/messages.pcap, one packet a line, and asks tshark for every field of every packet. A packet
 that is malformed, or on which tshark has a warning or an error, is a fault; so is a field that is not as it should be, one that is

@@ -20,7 +20,7 @@ typedef struct {
   uint32_t echo, echounread, echoreply, bearerunread, cause;
 } Carried;
 
-/* the decoder (crate requestshost) */
+/* the decoder (crate trial_readers) */
 Head requests_head(const uint8_t *d, size_t n);
 Answer requests_create(const uint8_t *s, size_t n);
 Answer requests_modify(const uint8_t *s, size_t n, uint8_t ebi);
@@ -30,7 +30,7 @@ Carried requests_carried(const uint8_t *s, size_t n);
 /* ---- the reading, as the host has it */
 enum { NAMES = 3 };
 
-/* the trial plan of requestshost: three names, the last as long as a name may be */
+/* the trial plan of trial_readers: three names, the last as long as a name may be */
 static void long_name(uint8_t *name) {
   name[0] = GRUGAVORN_NAME - 1;
   for (int i = 1; i < GRUGAVORN_NAME; i++)

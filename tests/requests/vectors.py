@@ -1,5 +1,5 @@
 #!/usr/bin/env python3
-"""Writes the input and the expected output of the program `controlvectors`.
+"""Writes the input and the expected output of the program `trial_control`.
 
 The datagrams are those of independent.tsv and damaged forms that are built here. What is expected is computed here, by a reading of
 document 01 in Python that shares nothing with the Rattle code or with fuzz.c: it cuts a message into fields by slices of bytes and goes
@@ -14,7 +14,7 @@ sys.path.insert(0, os.path.join(HERE, "..", "bench"))
 
 from figures import NAME_LENGTH
 
-CRATE = os.path.join(HERE, "..", "..", "crates", "controlvectors")
+CRATE = os.path.join(HERE, "..", "..", "crates", "trial_control")
 PLAN = [b"\x04data", b"\x03net", bytes([NAME_LENGTH - 1]) + bytes(97 + i % 26 for i in range(NAME_LENGTH - 1))]
 SESSION_EBI = 5
 # what a line of a request has behind type, TEID and sequence number

@@ -18,7 +18,7 @@ USAGE = """usage, at the root of the repository:
   python3 -m tools.walks --facts CRATE/FN          what a law can name in that walk
   --mir DIR   keeps what `rt mir` printed in DIR, and asks again only where a source has changed
 """
-PRELUDE = "crates/lentkit/proofs/Walks.antt"
+PRELUDE = "crates/lent_records/proofs/Walks.antt"
 
 
 class Repository:

@@ -28,7 +28,7 @@ class Names:
         self.declared = set()       # names that need no import: parameters, `use` and `abbrev` lines
         self.imports = {}           # module -> the proof's name -> the module's name
         self.origin = {}            # the proof's name -> module, name there
-        self.kit = set()            # modules of lentkit/proofs
+        self.kit = set()            # modules of lent_records/proofs
 
     def home(self, crate, kind, rest):
         """A module of a crate's specs or proofs, as this crate names it."""
@@ -145,15 +145,15 @@ class Names:
         return chosen
 
     def _kit_lines(self):
-        """The lines for the modules of lentkit/proofs."""
-        return [f"use {self.home('lentkit', 'proofs', module)}.{{{', '.join(logic.KIT[module].split())}}}"
+        """The lines for the modules of lent_records/proofs."""
+        return [f"use {self.home('lent_records', 'proofs', module)}.{{{', '.join(logic.KIT[module].split())}}}"
                 for module in sorted(self.kit)]
 
     def _logic_lines(self, words):
-        """The lines for the names of the logic: one, where the crate has lentkit's prelude."""
-        if "lentkit" in self.crates and os.path.exists(f"{self.root}/crates/lentkit/proofs/Walks.antt"):
+        """The lines for the names of the logic: one, where the crate has lent_records's prelude."""
+        if "lent_records" in self.crates and os.path.exists(f"{self.root}/crates/lent_records/proofs/Walks.antt"):
             names = [name for name in logic.MODULE_OF if _has(words, name)]
-            return [f"use {self.home('lentkit', 'proofs', 'Walks')}.{{{', '.join(names)}}}"]
+            return [f"use {self.home('lent_records', 'proofs', 'Walks')}.{{{', '.join(names)}}}"]
         lines = []
         for module, entry in logic.PRELUDE.items():
             names = [logic.spelled(*pair) for pair in logic.entries(entry) if _has(words, pair[1])]

@@ -93,7 +93,7 @@ class Proof:
         return [" ".join([first] + heads[:1]), GENERATED] + [f"-- {head}" for head in heads[1:]]
 
     def _uses(self):
-        """The `use` lines but those for the logic and for lentkit's lemmas."""
+        """The `use` lines but those for the logic and for lent_records's lemmas."""
         walk, home = self.walk, self.walk.names.home
         lines = []
         for name, kind in walk.types.used.items():

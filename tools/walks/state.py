@@ -266,7 +266,7 @@ class Walk:
         return lets[number] if 0 <= number < len(lets) and lets.count(lets[number]) == 1 else f"_{local}"
 
     def array_law(self, name, kind):
-        """A law of lentkit/proofs/Arrays, at the type of a local array."""
+        """A law of lent_records/proofs/Arrays, at the type of a local array."""
         self.names.kit.add("Arrays")
         of = kind.of
         return f"{name} {of.row} {kind.count} ({of.vals}) ({of.tells}) tt 𝓤 H A W {of.makes}"

@@ -7,62 +7,62 @@ use mathlib.Core.Path.{_≡_, refl, ap, _∙_}
 use native.Mathlib.Omega.{arith}
 use lib.ListN.{length, take, drop, getD, length-append}
 use lib.Dec.{eqb}
-use Rattle.octets.specs.Choice.{pick, split}
-use Rattle.session.specs.declared.Session.{Session}
-use Rattle.benchplan.specs.declared.Bench.{Bench}
-use Rattle.benchplan.specs.State.{Ran, ran, first, plans, runs, emptyRun, withLine, withMade}
-use Rattle.benchplan.specs.Ended.{ended}
-use Rattle.benchplan.specs.Whole.{Adds, adds-on, adds-within, adds-whole, endPrints, end-adds, end-most}
-use Rattle.benchrun.specs.Taken.{lineTaken}
-use Rattle.benchrun.specs.Whole.{linePrints, toldPrints, earlyPrints, line-adds, line-most, first-most}
+use Rattle.base_octets.specs.Choice.{pick, split}
+use Rattle.unit_session.specs.declared.Session.{Session}
+use Rattle.bench_unit.specs.declared.Bench.{Bench}
+use Rattle.bench_unit.specs.State.{Ran, ran, firstPhase, plans, runs, benchStart, withLine, withMade}
+use Rattle.bench_unit.specs.Ended.{endOfInput}
+use Rattle.bench_unit.specs.Whole.{Adds, adds-on, adds-within, adds-whole, endPrints, end-adds, end-most}
+use Rattle.bench_run.specs.Taken.{lineTaken}
+use Rattle.bench_run.specs.Whole.{linePrints, toldPrints, earlyPrints, line-adds, line-most, first-most}
 
 -- of many runs one after another, N behind the first line ends the run before it
 unfoldable pub goesOn : Bench → Bool → List ℕ → Bool
 goesOn b many line =
-    pick (not many || eqb (b .phase) first) true (pick (eqb (length line) 0) true (not (eqb (getD line 0 0) 78)))
+    pick (not many || eqb (b .phase) firstPhase) true (pick (eqb (length line) 0) true (not (eqb (getD line 0 0) 78)))
 
 -- a fresh run, behind what was printed
 unfoldable pub anewOf : Bench → Bench
-anewOf b = withMade (b .made) emptyRun
+anewOf b = withMade (b .made) benchStart
 
-unfoldable pub startedAnew : Bench → List Session → Bool → List ℕ → List ℕ → Ran
-startedAnew b t many line out =
-    pick (goesOn b many line) (ran b t out) (ran (anewOf (ended b t out .bench)) (ended b t out .table) (ended b t out .out))
+unfoldable pub startAnew : Bench → List Session → Bool → List ℕ → List ℕ → Ran
+startAnew b t many line out =
+    pick (goesOn b many line) (ran b t out) (ran (anewOf (endOfInput b t out .bench)) (endOfInput b t out .table) (endOfInput b t out .out))
 
 -- ---- what a line of input prints, with the lines at the end of the run before it
 unfoldable pub runPrints : Bench → List Session → Bool → List ℕ → List ℕ
-runPrints b t many line = pick (goesOn b many line) (linePrints line b t) (endPrints b t ++ linePrints line emptyRun [])
+runPrints b t many line = pick (goesOn b many line) (linePrints line b t) (endPrints b t ++ linePrints line benchStart [])
 
 -- text that stands whole behind the first octets, and the rest as it was
 unfoldable pub placed : ℕ → List ℕ → List ℕ → List ℕ
 placed made m out = take made out ++ (m ++ drop (made + length m) out)
 
 -- the first line of a fresh run prints the same whatever was printed before
-fresh-prints : (line : List ℕ) (made : ℕ) (t : List Session) → linePrints line (withMade made emptyRun) t ≡ linePrints line emptyRun []
-unfolding linePrints toldPrints earlyPrints withMade emptyRun withLine first plans runs
+fresh-prints : (line : List ℕ) (made : ℕ) (t : List Session) → linePrints line (withMade made benchStart) t ≡ linePrints line benchStart []
+unfolding linePrints toldPrints earlyPrints withMade benchStart withLine firstPhase plans runs
 fresh-prints line made t = refl
 
 module _ (b : Bench) (t : List Session) (many : Bool) (line out : List ℕ) where
   abbrev start : Ran
-  start = startedAnew b t many line out
+  start = startAnew b t many line out
 
   abbrev after : Ran
   after = lineTaken line (start .bench) (start .table) (start .out)
 
   runs-add : b .made ≤ length out → Adds (runPrints b t many line) (b .made) out (after .bench .made) (after .out)
-  unfolding runPrints startedAnew anewOf withMade
+  unfolding runPrints startAnew anewOf withMade
   runs-add h =
       let e = end-adds b t out h in
       split (goesOn b many line) (λ g. rw g (line-adds line b t out h))
-      (λ g. rw (g, ← fresh-prints line (ended b t out .bench .made) (ended b t out .table))
-      (adds-on _ _ _ _ _ _ _ _ e (line-adds line (withMade (ended b t out .bench .made) emptyRun) (ended b t out .table) (ended b t out .out) (adds-within _ _ _ _ _ e))))
+      (λ g. rw (g, ← fresh-prints line (endOfInput b t out .bench .made) (endOfInput b t out .table))
+      (adds-on _ _ _ _ _ _ _ _ e (line-adds line (withMade (endOfInput b t out .bench .made) benchStart) (endOfInput b t out .table) (endOfInput b t out .out) (adds-within _ _ _ _ _ e))))
 
 pub runs-most : (b : Bench) (t : List Session) (many : Bool) (line : List ℕ) → length (runPrints b t many line) ≤ 7941
-unfolding runPrints emptyRun
+unfolding runPrints benchStart
 runs-most b t many line =
     let l = line-most line b t in
     let e = end-most b t in
-    let f = first-most line emptyRun [] refl in
+    let f = first-most line benchStart [] refl in
     split (goesOn b many line) (λ g. rw g (omega arith)) (λ g. rw g (simp length-append (omega arith)))
 
 -- ---- with 8,192 octets left nothing is cut
@@ -76,17 +76,17 @@ run-whole b t many line out h =
 
 -- ---- laws in the words of the walks
 pub anew-on : (b : Bench) (t : List Session) (many : Bool) (line out : List ℕ) (on : Bool) → on ≡ goesOn b many line → on ≡ true
-    → ran b t out ≡ startedAnew b t many line out
-unfolding startedAnew
+    → ran b t out ≡ startAnew b t many line out
+unfolding startAnew
 anew-on b t many line out on e f = rw (← e, f)
 
 pub anew-off : (b r x : Bench) (t t′ : List Session) (many : Bool) (line out o : List ℕ) (on : Bool) → on ≡ goesOn b many line → on ≡ false
-    → ran x t′ o ≡ ended b t out → r ≡ anewOf x → ran r t′ o ≡ startedAnew b t many line out
-unfolding startedAnew
+    → ran x t′ o ≡ endOfInput b t out → r ≡ anewOf x → ran r t′ o ≡ startAnew b t many line out
+unfolding startAnew
 anew-off b r x t t′ many line out o on e f g h = rw (← e, f, ← g, h)
 
 pub run-placed : (b s c r : Bench) (t t′ t″ : List Session) (many : Bool) (line out o p : List ℕ) → (b .made ≤ 57344) × (65536 ≤ length out)
-    → ran s t′ o ≡ startedAnew b t many line out → ran c t″ p ≡ lineTaken line s t′ o → r .made ≤ 57344
+    → ran s t′ o ≡ startAnew b t many line out → ran c t″ p ≡ lineTaken line s t′ o → r .made ≤ 57344
     → (r .made ≤ 57344) × (p ≡ placed (b .made) (runPrints b t many line) out)
 run-placed b s c r t t′ t″ many line out o p h e f g =
     let k = h .0 in
@@ -94,7 +94,7 @@ run-placed b s c r t t′ t″ many line out o p h e f g =
     let z : p ≡ after b t many line out .out = ap (λ (x : Ran). x .out) f ∙ ap (λ (x : Ran). lineTaken line (x .bench) (x .table) (x .out) .out) e in
     (g, z ∙ run-whole b t many line out (omega arith) .1)
 
-pub end-placed : (b r : Bench) (t t′ : List Session) (out o : List ℕ) → (b .made ≤ 57344) × (65536 ≤ length out) → ran r t′ o ≡ ended b t out
+pub end-placed : (b r : Bench) (t t′ : List Session) (out o : List ℕ) → (b .made ≤ 57344) × (65536 ≤ length out) → ran r t′ o ≡ endOfInput b t out
     → o ≡ placed (b .made) (endPrints b t) out
 unfolding placed
 end-placed b r t t′ out o h e =
@@ -113,8 +113,8 @@ made-as b c e h = rw e h
 pub room-of : (b : Bench) (out o : List ℕ) → b .made ≤ 57344 → 65536 ≤ length out → length o ≡ length out → (b .made ≤ 57344) × (65536 ≤ length o)
 room-of b out o h k e = (h, rw e k)
 
-pub room-first : (b : Bench) (out : List ℕ) → 65536 ≤ length out → b ≡ emptyRun → (b .made ≤ 57344) × (65536 ≤ length out)
-unfolding emptyRun
+pub room-first : (b : Bench) (out : List ℕ) → 65536 ≤ length out → b ≡ benchStart → (b .made ≤ 57344) × (65536 ≤ length out)
+unfolding benchStart
 room-first b out h e = rw e (omega arith, h)
 
 pub room-whole : (out : List ℕ) → length out ≡ 65536 → 65536 ≤ length out

@@ -2,15 +2,15 @@
 // to all that follows. The input may be of any length: a buffer is filled, its whole lines are taken, and what is left of the last moves to
 // the front. Started with any argument, it takes many runs one after another: a line N starts a fresh unit, after the lines at the end of
 // the unit before it.
-use benchplan::Bench;
-use session::Session;
-use tunnel::Unit;
+use bench_unit::Bench;
+use unit_session::Session;
+use unit_tunnel::Unit;
 ghost use mathlib.Core.Path.{_≡_};
 ghost use Prim.Native.Nat.{_≤_};
 ghost use lib.ListN.{length};
-ghost use Rattle.bench.specs.Room.{goesOn, anewOf, startedAnew, runPrints, placed};
-ghost use Rattle.benchplan.specs.State.{ran};
-ghost use Rattle.benchplan.specs.Whole.{endPrints};
+ghost use Rattle.bench.specs.Room.{goesOn, anewOf, startAnew, runPrints, placed};
+ghost use Rattle.bench_unit.specs.State.{ran};
+ghost use Rattle.bench_unit.specs.Whole.{endPrints};
 
 // What was printed goes out. Where it cannot be written the run ends.
 fn emit(mut b: Bench, out: &[u8]) -> Bench
@@ -28,8 +28,8 @@ fn emit(mut b: Bench, out: &[u8]) -> Bench
     b
 }
 
-// After it 8,192 octets are left. No line of input prints more: 4,400 characters at most (`line-most` of benchrun), 7,918 at the end (`end-most` of
-// benchplan), 7,941 where one run ends and the next starts (`runs-most`); so nothing is ever cut (`run-whole`, and the contract of `run_line`).
+// After it 8,192 octets are left. No line of input prints more: 4,400 characters at most (`line-most` of bench_run), 7,918 at the end (`end-most` of
+// bench_unit), 7,941 where one run ends and the next starts (`runs-most`); so nothing is ever cut (`run-whole`, and the contract of `run_line`).
 fn emit_if_full(b: Bench, out: &[u8]) -> Bench
     ensures { λ r. ⌜ r .made ≤ 57344 ⌝ }
 {
@@ -72,17 +72,17 @@ fn anew(b: Bench) -> Bench
     ensures { λ r. ⌜ r ≡ anewOf b ⌝ }
 {
     let next = Bench::start();
-    benchplan::with_made(next, b.made)
+    bench_unit::with_made(next, b.made)
 }
 
 fn start_anew(b: Bench, recs: &mut [Session], many: bool, line: &[u8], out: &mut [u8]) -> Bench
-    ensures { λ r. ⌜ ran r (now (recs .exit)) (now (out .exit)) ≡ startedAnew b (now (recs .entry)) many (now (line .entry)) (now (out .entry)) ⌝ }
+    ensures { λ r. ⌜ ran r (now (recs .exit)) (now (out .exit)) ≡ startAnew b (now (recs .entry)) many (now (line .entry)) (now (out .entry)) ⌝ }
 {
     let on = goes_on(b, many, line);
     if on {
         return b;
     }
-    let e = benchplan::end_of_input(b, recs, out);
+    let e = bench_unit::end_of_input(b, recs, out);
     anew(e)
 }
 
@@ -92,7 +92,7 @@ fn run_line(b: Bench, recs: &mut [Session], many: bool, line: &[u8], out: &mut [
     ensures { λ r. ⌜ (r .made ≤ 57344) × (now (out .exit) ≡ placed (b .made) (runPrints b (now (recs .entry)) many (now (line .entry))) (now (out .entry))) ⌝ }
 {
     let a = start_anew(b, recs, many, line, out);
-    let c = benchrun::take_line(a, recs, line, out);
+    let c = bench_run::take_line(a, recs, line, out);
     emit_if_full(c, out)
 }
 
@@ -138,7 +138,7 @@ fn is_over(b: Bench) -> bool {
 // The line that comes next.
 fn line_in<'a>(s: &'a [u8], t: Turn) -> &'a [u8] {
     let used = t.used;
-    let part = benchplan::front(s, t.end);
+    let part = bench_unit::front(s, t.end);
     if used <= part.len() {
         return &part[used..];
     }
@@ -195,7 +195,7 @@ fn take_lines(
     requires { ⌜ (b .made ≤ 57344) × (65536 ≤ length (now out)) ⌝ }
     ensures { λ r. ⌜ r .bench .made ≤ 57344 ⌝ }
 {
-    let s = benchplan::front(buf, end);
+    let s = bench_unit::front(buf, end);
     lines_in(b, recs, many, s, out)
 }
 
@@ -253,13 +253,13 @@ fn end_run(b: Bench, recs: &mut [Session], out: &mut [u8]) -> Bench
     requires { ⌜ (b .made ≤ 57344) × (65536 ≤ length (now out)) ⌝ }
     ensures { λ r. ⌜ now (out .exit) ≡ placed (b .made) (endPrints b (now (recs .entry))) (now (out .entry)) ⌝ }
 {
-    benchplan::end_of_input(b, recs, out)
+    bench_unit::end_of_input(b, recs, out)
 }
 
 fn finish(b: Bench, recs: &mut [Session], many: bool, buf: &[u8], end: usize, out: &mut [u8])
     requires { ⌜ (b .made ≤ 57344) × (65536 ≤ length (now out)) ⌝ }
 {
-    let rest = benchplan::front(buf, end);
+    let rest = bench_unit::front(buf, end);
     let c = take_rest(b, recs, many, rest, out);
     let d = end_run(c, recs, out);
     emit(d, out);

@@ -5,8 +5,8 @@ use Rattle.bench.proofs.anew.Statement.{statement}
 use Rattle.bench.proofs.anew.Tie as tie
 use Rattle.bench.proofs.anew.Reads as reads
 use Rattle.bench.proofs.anew.Lts as lts
-use Rattle.benchplan.proofs.Bench.start.Reads as start-reads
-use Rattle.benchplan.proofs.with_made.Reads as with-made-reads
+use Rattle.bench_unit.proofs.Bench.start.Reads as start-reads
+use Rattle.bench_unit.proofs.with_made.Reads as with-made-reads
 
 -- src/main.rt:73:9
 start-requires : tie.Need-start-requires

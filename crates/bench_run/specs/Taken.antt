@@ -1,0 +1,148 @@
+-- One line of input by where the run stands. The plan is taken at the first line that is not one of an access point, or at the end: a refused
+-- plan wins over a bad such line, a bad line of an access point over a refused plan.
+-- Assumes nothing.
+use Prim.Native.Nat.{ℕ}
+use mathlib.Core.Bool.{Bool, true, false, not, _&&_}
+use mathlib.Core.List.{List}
+use mathlib.Core.Path.{_≡_, ap}
+use lib.ListN.{take, replicate}
+use lib.Dec.{eqb}
+use Rattle.base_octets.specs.Choice.{pick}
+use Rattle.unit_session.specs.declared.Session.{Session}
+use Rattle.call_own.specs.Calls.{tickOf, closeOf}
+use Rattle.call_control.specs.Control.{controlTaken}
+use Rattle.bench_text.specs.declared.Line.{Line}
+use Rattle.bench_text.specs.declared.Line.the-variants.{Node, Point, Control, User, Tick, Close, BadPoint, Bad}
+use Rattle.bench_text.specs.Lines.{Told, told, lineRead}
+use Rattle.bench_unit.specs.declared.Bench.{Bench}
+use Rattle.bench_unit.specs.State.{Shown, shown, Ran, ran, beside, firstPhase, plans, runs, over, lentReply, withLine, endBad, unitShown}
+use Rattle.bench_unit.specs.Plans.{oneMore, planTaken, startLine}
+use Rattle.bench_run.specs.declared.Ask.{Ask}
+use Rattle.bench_run.specs.Run.{thenSent, userRun}
+
+-- ---- what a line asks of the unit: which call, of how many octets a datagram, of which place
+abbrev pub asking : ℕ → ℕ → ℕ → Ask
+asking kind size place = record { kind = kind; size = size; place = place }
+
+unfoldable pub askOf : Line → Ask
+askOf (Control size) = asking 1 size 0
+askOf (User size) = asking 2 size 0
+askOf Tick = asking 3 0 0
+askOf (Close place) = asking 4 0 place
+askOf (Node control user pool recovery resend sends interval) = asking 0 0 0
+askOf (Point guarantee ceiling size) = asking 0 0 0
+askOf BadPoint = asking 0 0 0
+askOf Bad = asking 0 0 0
+
+-- ---- once the plan is taken: C, U, T, X, and any other line is a bad one
+unfoldable pub askRun : Ask → List ℕ → Bench → List Session → List ℕ → Ran
+askRun a octets b t out =
+    pick (eqb (a .kind) 1) (unitShown (controlTaken (b .node) t (take (a .size) octets) lentReply) b out)
+    (pick (eqb (a .kind) 2) (userRun (take (a .size) octets) b t out)
+    (pick (eqb (a .kind) 3) (thenSent (unitShown (tickOf (b .node) t) b out))
+    (pick (eqb (a .kind) 4) (thenSent (unitShown (closeOf (b .node) t (a .place)) b out)) (beside t (endBad b out)))))
+
+unfoldable pub runLine : Line → List ℕ → Bench → List Session → List ℕ → Ran
+runLine line octets b t out = askRun (askOf line) octets b t out
+
+-- ---- where the lines of the plan stand
+-- a line of an access point, a good one or a bad one
+unfoldable pub isPoint : Line → Bool
+isPoint (Point guarantee ceiling size) = true
+isPoint BadPoint = true
+isPoint (Node control user pool recovery resend sends interval) = false
+isPoint (Control size) = false
+isPoint (User size) = false
+isPoint Tick = false
+isPoint (Close place) = false
+isPoint Bad = false
+
+-- is taken into the plan
+unfoldable pub pointLine : Line → List ℕ → Bench → List ℕ → Shown
+pointLine (Point guarantee ceiling size) octets b out = oneMore b guarantee ceiling (take size octets) out
+pointLine BadPoint octets b out = endBad b out
+pointLine (Node control user pool recovery resend sends interval) octets b out = endBad b out
+pointLine (Control size) octets b out = endBad b out
+pointLine (User size) octets b out = endBad b out
+pointLine Tick octets b out = endBad b out
+pointLine (Close place) octets b out = endBad b out
+pointLine Bad octets b out = endBad b out
+
+-- any other takes the plan first
+unfoldable pub leavePlan : Line → List ℕ → Bench → List Session → List ℕ → Ran
+leavePlan line octets b t out =
+    pick (eqb (planTaken b t out .bench .phase) over) (planTaken b t out)
+    (runLine line octets (planTaken b t out .bench) (planTaken b t out .table) (planTaken b t out .out))
+
+-- ---- by where the run stands
+-- a line that asks nothing of the unit: the first, one of an access point, or one once the run has ended, which does nothing
+unfoldable pub earlyLine : Line → List ℕ → Bench → List ℕ → Shown
+earlyLine line octets b out =
+    pick (eqb (b .phase) firstPhase) (startLine line (withLine b) out)
+    (pick (eqb (b .phase) plans) (pointLine line octets (withLine b) out) (shown b out))
+
+unfoldable pub lentOctets : List ℕ
+lentOctets = replicate 2048 0
+
+unfoldable pub toldTaken : Told → Bench → List Session → List ℕ → Ran
+toldTaken x b t out =
+    pick (eqb (b .phase) runs) (runLine (x .line) (x .octets) (withLine b) t out)
+    (pick (eqb (b .phase) plans && not (isPoint (x .line))) (leavePlan (x .line) (x .octets) (withLine b) t out)
+    (beside t (earlyLine (x .line) (x .octets) b out)))
+
+unfoldable pub lineTaken : List ℕ → Bench → List Session → List ℕ → Ran
+lineTaken text b t out = toldTaken (lineRead text lentOctets) b t out
+
+-- ---- laws: a line by what it asks
+module _ (line : Line) (octets : List ℕ) (b : Bench) (t : List Session) (out : List ℕ) (x : Ran) (a : Ask) (kind size place : ℕ)
+    (e : a ≡ askOf line) (k : kind ≡ a .kind) (s : size ≡ a .size) (p : place ≡ a .place) where
+  pub asks-control : eqb kind 1 ≡ true → x ≡ unitShown (controlTaken (b .node) t (take size octets) lentReply) b out → x ≡ runLine line octets b t out
+  unfolding runLine askRun
+  asks-control h g = rw (← e, rw k at h, ← s) g
+
+  pub asks-user : eqb kind 1 ≡ false → eqb kind 2 ≡ true → x ≡ userRun (take size octets) b t out → x ≡ runLine line octets b t out
+  unfolding runLine askRun
+  asks-user h i g = rw (← e, rw k at h, rw k at i, ← s) g
+
+  pub asks-tick : eqb kind 1 ≡ false → eqb kind 2 ≡ false → eqb kind 3 ≡ true → x ≡ thenSent (unitShown (tickOf (b .node) t) b out)
+      → x ≡ runLine line octets b t out
+  unfolding runLine askRun
+  asks-tick h i j g = rw (← e, rw k at h, rw k at i, rw k at j) g
+
+  pub asks-close : eqb kind 1 ≡ false → eqb kind 2 ≡ false → eqb kind 3 ≡ false → eqb kind 4 ≡ true
+      → x ≡ thenSent (unitShown (closeOf (b .node) t place) b out) → x ≡ runLine line octets b t out
+  unfolding runLine askRun
+  asks-close h i j l g = rw (← e, rw k at h, rw k at i, rw k at j, rw k at l, ← p) g
+
+  pub asks-none : eqb kind 1 ≡ false → eqb kind 2 ≡ false → eqb kind 3 ≡ false → eqb kind 4 ≡ false → x ≡ beside t (endBad b out)
+      → x ≡ runLine line octets b t out
+  unfolding runLine askRun
+  asks-none h i j l g = rw (← e, rw k at h, rw k at i, rw k at j, rw k at l) g
+
+-- ---- the plan is taken
+module _ (line : Line) (octets : List ℕ) (b c : Bench) (t t′ : List Session) (out p : List ℕ) (x : Ran) (phase : ℕ)
+    (e : ran c t′ p ≡ planTaken b t out) (f : phase ≡ c .phase) where
+  pub leave-over : eqb phase 3 ≡ true → ran c t′ p ≡ leavePlan line octets b t out
+  unfolding leavePlan over
+  leave-over h = rw (← e, rw f at h)
+
+  pub leave-run : eqb phase 3 ≡ false → x ≡ runLine line octets c t′ p → x ≡ leavePlan line octets b t out
+  unfolding leavePlan over
+  leave-run h g = rw (← e, rw f at h) g
+
+-- ---- a line by where the run stands
+module _ (text octets : List ℕ) (b c : Bench) (t : List Session) (out : List ℕ) (x : Ran) (line : Line) (phase : ℕ)
+    (e : told line octets ≡ lineRead text (replicate 2048 0)) (f : c ≡ withLine b) (g : phase ≡ b .phase) where
+  pub line-runs : eqb phase 2 ≡ true → x ≡ runLine line octets c t out → x ≡ lineTaken text b t out
+  unfolding lineTaken toldTaken lentOctets runs
+  line-runs h k = rw (← e, rw g at h, ← f) k
+
+  pub line-leaves : (v : Bool) → v ≡ (eqb (b .phase) plans && not (isPoint line)) → eqb phase 2 ≡ false → v ≡ true → x ≡ leavePlan line octets c t out
+      → x ≡ lineTaken text b t out
+  unfolding lineTaken toldTaken lentOctets runs
+  line-leaves v w h i k = rw (← e, rw g at h, ← w, i, ← f) k
+
+  pub line-early : (v : Bool) (r : Bench) (o : List ℕ) → v ≡ (eqb (b .phase) plans && not (isPoint line)) → eqb phase 2 ≡ false → v ≡ false
+      → shown r o ≡ earlyLine line octets b out → ran r t o ≡ lineTaken text b t out
+  unfolding lineTaken toldTaken lentOctets runs
+  line-early v r o w h i k = rw (← e, rw g at h, ← w, i) (ap (beside t) k)

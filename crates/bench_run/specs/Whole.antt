@@ -1,0 +1,356 @@
+-- Nothing that the bench prints for a line of input is cut. What a line prints is told as a text without a buffer (`linePrints`); every line lays that
+-- text behind what was printed before (`line-adds`), it has at most 4,400 characters (`line-most`), and so it is laid whole wherever 8,192 octets are
+-- left (`line-whole`). The same of the lines at the end (`end-whole`). The program `bench` keeps that room.
+-- Assumes nothing.
+use Prim.Native.Nat.{ℕ, zero, suc, _+_, _*_, _≤_}
+use mathlib.Core.Bool.{true, false, not, _&&_}
+use mathlib.Core.List.{List, [], _++_}
+use mathlib.Core.Path.{_≡_, refl, _∙_}
+use native.Mathlib.Omega.{arith}
+use lib.ListN.{length, take, drop, replicate, length-append, length-take, length-drop, length-replicate}
+use lib.Dec.{eqb, leb}
+use Rattle.base_octets.specs.Choice.{pick, split}
+use Rattle.unit_session.specs.declared.Session.{Session}
+use Rattle.unit_table.specs.declared.Node.{Node}
+use Rattle.call_own.specs.Outcome.{Outcome, leastReply}
+use Rattle.call_own.specs.Calls.{freshOf, tickOf, closeOf, sendOf}
+use Rattle.call_control.specs.Control.{controlTaken}
+use Rattle.call_user.specs.User.{Took, userTaken}
+use Rattle.bench_text.specs.declared.Line.{Line}
+use Rattle.bench_text.specs.declared.Line.the-variants as L
+use Rattle.bench_text.specs.Lines.{Told, lineRead}
+use Rattle.bench_text.specs.Prints.{answerText, dueText, badText}
+use Rattle.bench_text.specs.Sizes.{answer-most, packet-most, due-most, bad-most, line-read-length}
+use Rattle.bench_unit.specs.declared.Bench.{Bench}
+use Rattle.bench_unit.specs.State.{Ran, firstPhase, plans, runs, over, lentReply, withLine, withMade, keptIn, printed, answeredShown, unitShown}
+use Rattle.bench_unit.specs.Plans.{firstLine, oneMore, planTaken, startLine}
+use Rattle.bench_unit.specs.Ended.{endOfInput}
+use Rattle.bench_unit.specs.Whole.{Adds, adds-none, adds-on, adds-printed, adds-within, adds-whole, planPrints, endPrints, bad-adds, plan-adds, plan-phase, plan-node, plan-table, plan-lines, plan-most, end-adds, end-most}
+use Rattle.bench_run.specs.declared.Ask.{Ask}
+use Rattle.bench_run.specs.Run.{sendTry, hasDue, sentShown, oneSent, sentTimes, allSent, thenSent, userText, userShown, userRun}
+use Rattle.bench_run.specs.Taken.{askOf, askRun, runLine, isPoint, pointLine, leavePlan, earlyLine, lentOctets, toldTaken, lineTaken}
+use Rattle.bench_run.specs.Replies.{control-length, user-length, tick-length, close-length, sent-most}
+use Rattle.unit_tunnel.specs.Numbering.{places}
+
+-- ---- the texts
+-- number and reply
+unfoldable pub unitPrints : Outcome → List ℕ
+unitPrints x = answerText (x .answer .number) (take (x .answer .size) (x .reply))
+
+-- all that is due, so many at most
+unfoldable pub sendsPrint : ℕ → Node → List Session → List ℕ
+sendsPrint zero node t = []
+sendsPrint (suc k) node t =
+    pick (eqb (sendOf node t lentReply .answer .number) 0)
+    (dueText (take (sendOf node t lentReply .answer .size) (sendOf node t lentReply .reply))
+    ++ sendsPrint k (sendOf node t lentReply .answer .node) (sendOf node t lentReply .table))
+    []
+
+unfoldable pub thenPrints : Outcome → List ℕ
+thenPrints x = unitPrints x ++ sendsPrint (places + 1) (x .answer .node) (x .table)
+
+unfoldable pub tookPrints : Took → List ℕ → List ℕ
+tookPrints x d = userText (x .number) (x .size) (x .reply) (drop (x .start) d)
+
+-- once the plan is taken, of a line of this number
+unfoldable pub askPrints : Ask → List ℕ → ℕ → Node → List Session → List ℕ
+askPrints a octets lines node t =
+    pick (eqb (a .kind) 1) (unitPrints (controlTaken node t (take (a .size) octets) lentReply))
+    (pick (eqb (a .kind) 2) (tookPrints (userTaken node t (take (a .size) octets) lentReply) (take (a .size) octets))
+    (pick (eqb (a .kind) 3) (thenPrints (tickOf node t))
+    (pick (eqb (a .kind) 4) (thenPrints (closeOf node t (a .place))) (badText lines))))
+
+-- the plan is taken first
+unfoldable pub leavePrints : Line → List ℕ → Bench → List Session → List ℕ
+leavePrints line octets b t =
+    pick (eqb (planTaken b t [] .bench .phase) over) (planPrints (freshOf (b .node .plan) t .answer))
+    (planPrints (freshOf (b .node .plan) t .answer) ++ askPrints (askOf line) octets (b .lines) (planTaken b t [] .bench .node) (planTaken b t [] .table))
+
+-- the first line
+unfoldable pub startPrints : Line → ℕ → List ℕ
+startPrints (L.Node control user pool recovery resend sends interval) lines = []
+startPrints (L.Point guarantee ceiling size) lines = badText lines
+startPrints (L.Control size) lines = badText lines
+startPrints (L.User size) lines = badText lines
+startPrints L.Tick lines = badText lines
+startPrints (L.Close place) lines = badText lines
+startPrints L.BadPoint lines = badText lines
+startPrints L.Bad lines = badText lines
+
+-- one of an access point, where there are so many
+unfoldable pub pointPrints : Line → ℕ → ℕ → List ℕ
+pointPrints (L.Point guarantee ceiling size) count lines = pick (leb 4 count) (badText lines) []
+pointPrints (L.Node control user pool recovery resend sends interval) count lines = badText lines
+pointPrints (L.Control size) count lines = badText lines
+pointPrints (L.User size) count lines = badText lines
+pointPrints L.Tick count lines = badText lines
+pointPrints (L.Close place) count lines = badText lines
+pointPrints L.BadPoint count lines = badText lines
+pointPrints L.Bad count lines = badText lines
+
+unfoldable pub earlyPrints : Line → Bench → List ℕ
+earlyPrints line b =
+    pick (eqb (b .phase) firstPhase) (startPrints line (withLine b .lines))
+    (pick (eqb (b .phase) plans) (pointPrints line (b .node .plan .count) (withLine b .lines)) [])
+
+unfoldable pub toldPrints : Told → Bench → List Session → List ℕ
+toldPrints x b t =
+    pick (eqb (b .phase) runs) (askPrints (askOf (x .line)) (x .octets) (withLine b .lines) (b .node) t)
+    (pick (eqb (b .phase) plans && not (isPoint (x .line))) (leavePrints (x .line) (x .octets) (withLine b) t) (earlyPrints (x .line) b))
+
+unfoldable pub linePrints : List ℕ → Bench → List Session → List ℕ
+linePrints text b t = toldPrints (lineRead text lentOctets) b t
+
+-- ---- each line prints its text
+unit-adds : (x : Outcome) (b : Bench) (out : List ℕ) → Adds (unitPrints x) (b .made) out (unitShown x b out .bench .made) (unitShown x b out .out)
+unfolding unitPrints unitShown answeredShown keptIn
+unit-adds x b out = adds-printed _ _ (b .made) out (λ k. refl)
+
+module _ (b : Bench) (t : List Session) (out : List ℕ) where
+  sent-due : eqb (sendOf (b .node) t lentReply .answer .number) 0 ≡ true
+      → Adds (dueText (take (sendOf (b .node) t lentReply .answer .size) (sendOf (b .node) t lentReply .reply))) (b .made) out
+      (oneSent b t out .bench .made) (oneSent b t out .out)
+  unfolding oneSent sentShown sendTry keptIn
+  sent-due e = rw e (adds-printed _ _ (b .made) out (λ k. refl))
+
+  sent-node : eqb (sendOf (b .node) t lentReply .answer .number) 0 ≡ true → oneSent b t out .bench .node ≡ sendOf (b .node) t lentReply .answer .node
+  unfolding oneSent sentShown sendTry keptIn printed
+  sent-node e = rw e
+
+  sent-table : oneSent b t out .table ≡ sendOf (b .node) t lentReply .table
+  unfolding oneSent sendTry
+  sent-table = refl
+
+  sent-nothing : b .made ≤ length out → eqb (sendOf (b .node) t lentReply .answer .number) 0 ≡ false
+      → Adds [] (b .made) out (oneSent b t out .bench .made) (oneSent b t out .out)
+  unfolding oneSent sentShown sendTry
+  sent-nothing h e = rw e (adds-none (b .made) out h)
+
+sends-add : (k : ℕ) (x : Ran) → x .bench .made ≤ length (x .out)
+    → Adds (sendsPrint k (x .bench .node) (x .table)) (x .bench .made) (x .out) (sentTimes k x .bench .made) (sentTimes k x .out)
+unfolding sendsPrint sentTimes hasDue sendTry
+sends-add zero x h = adds-none _ _ h
+sends-add (suc k) x h =
+    split (eqb (sendOf (x .bench .node) (x .table) lentReply .answer .number) 0)
+    (λ e.
+    let d = sent-due (x .bench) (x .table) (x .out) e in
+    let r = sends-add k (oneSent (x .bench) (x .table) (x .out)) (adds-within _ _ _ _ _ d) in
+    rw (e, ← sent-node (x .bench) (x .table) (x .out) e, ← sent-table (x .bench) (x .table) (x .out)) (adds-on _ _ _ _ _ _ _ _ d r))
+    (λ e. rw e (sent-nothing (x .bench) (x .table) (x .out) h e))
+
+then-adds : (x : Outcome) (b : Bench) (out : List ℕ)
+    → Adds (thenPrints x) (b .made) out (thenSent (unitShown x b out) .bench .made) (thenSent (unitShown x b out) .out)
+unfolding thenPrints thenSent allSent unitPrints unitShown answeredShown printed keptIn
+then-adds x b out =
+    let u = unit-adds x b out in
+    let s = sends-add (places + 1) (unitShown x b out) (adds-within _ _ _ _ _ u) in
+    adds-on _ _ _ _ _ _ _ _ u s
+
+user-adds : (d : List ℕ) (b : Bench) (t : List Session) (out : List ℕ)
+    → Adds (tookPrints (userTaken (b .node) t d lentReply) d) (b .made) out (userRun d b t out .bench .made) (userRun d b t out .out)
+unfolding tookPrints userRun userShown withMade
+user-adds d b t out = adds-printed _ _ (b .made) out (λ k. refl)
+
+ask-adds : (a : Ask) (octets : List ℕ) (b : Bench) (t : List Session) (out : List ℕ)
+    → Adds (askPrints a octets (b .lines) (b .node) t) (b .made) out (askRun a octets b t out .bench .made) (askRun a octets b t out .out)
+unfolding askPrints askRun
+ask-adds a octets b t out =
+    split (eqb (a .kind) 1) (λ e. rw e (unit-adds _ b out))
+    (λ e. rw e (split (eqb (a .kind) 2) (λ f. rw f (user-adds (take (a .size) octets) b t out))
+    (λ f. rw f (split (eqb (a .kind) 3) (λ g. rw g (then-adds _ b out))
+    (λ g. rw g (split (eqb (a .kind) 4) (λ i. rw i (then-adds _ b out)) (λ i. rw i (bad-adds b out))))))))
+
+ask-lines : (a : Ask) (octets : List ℕ) (lines : ℕ) (b : Bench) (t : List Session) (out : List ℕ) → b .lines ≡ lines
+    → Adds (askPrints a octets lines (b .node) t) (b .made) out (askRun a octets b t out .bench .made) (askRun a octets b t out .out)
+ask-lines a octets lines b t out e = rw (← e) (ask-adds a octets b t out)
+
+leave-adds : (line : Line) (octets : List ℕ) (b : Bench) (t : List Session) (out : List ℕ) → b .made ≤ length out
+    → Adds (leavePrints line octets b t) (b .made) out (leavePlan line octets b t out .bench .made) (leavePlan line octets b t out .out)
+unfolding leavePrints leavePlan runLine
+leave-adds line octets b t out h =
+    rw (plan-phase b t out h) (split (eqb (planTaken b t [] .bench .phase) over)
+    (λ e. rw e (plan-adds b t out h))
+    (λ e. rw (e, ← plan-node b t out h, ← plan-table b t out h)
+    (adds-on _ _ _ _ _ _ _ _ (plan-adds b t out h)
+    (ask-lines (askOf line) octets (b .lines) (planTaken b t out .bench) (planTaken b t out .table) (planTaken b t out .out) (plan-lines b t out h)))))
+
+start-adds : (line : Line) (b : Bench) (out : List ℕ) → b .made ≤ length out
+    → Adds (startPrints line (b .lines)) (b .made) out (startLine line b out .bench .made) (startLine line b out .out)
+unfolding startPrints startLine firstLine
+start-adds (L.Node control user pool recovery resend sends interval) b out h = adds-none (b .made) out h
+start-adds (L.Point guarantee ceiling size) b out h = bad-adds b out
+start-adds (L.Control size) b out h = bad-adds b out
+start-adds (L.User size) b out h = bad-adds b out
+start-adds L.Tick b out h = bad-adds b out
+start-adds (L.Close place) b out h = bad-adds b out
+start-adds L.BadPoint b out h = bad-adds b out
+start-adds L.Bad b out h = bad-adds b out
+
+point-adds : (line : Line) (octets : List ℕ) (b : Bench) (out : List ℕ) → b .made ≤ length out
+    → Adds (pointPrints line (b .node .plan .count) (b .lines)) (b .made) out (pointLine line octets b out .bench .made) (pointLine line octets b out .out)
+unfolding pointPrints pointLine oneMore
+point-adds (L.Point guarantee ceiling size) octets b out h =
+    split (leb 4 (b .node .plan .count)) (λ e. rw e (bad-adds b out)) (λ e. rw e (adds-none (b .made) out h))
+point-adds (L.Node control user pool recovery resend sends interval) octets b out h = bad-adds b out
+point-adds (L.Control size) octets b out h = bad-adds b out
+point-adds (L.User size) octets b out h = bad-adds b out
+point-adds L.Tick octets b out h = bad-adds b out
+point-adds (L.Close place) octets b out h = bad-adds b out
+point-adds L.BadPoint octets b out h = bad-adds b out
+point-adds L.Bad octets b out h = bad-adds b out
+
+early-adds : (line : Line) (octets : List ℕ) (b : Bench) (out : List ℕ) → b .made ≤ length out
+    → Adds (earlyPrints line b) (b .made) out (earlyLine line octets b out .bench .made) (earlyLine line octets b out .out)
+unfolding earlyPrints earlyLine withLine
+early-adds line octets b out h =
+    split (eqb (b .phase) firstPhase) (λ e. rw e (start-adds line (withLine b) out h))
+    (λ e. rw e (split (eqb (b .phase) plans) (λ f. rw f (point-adds line octets (withLine b) out h)) (λ f. rw f (adds-none (b .made) out h))))
+
+pub line-adds : (text : List ℕ) (b : Bench) (t : List Session) (out : List ℕ) → b .made ≤ length out
+    → Adds (linePrints text b t) (b .made) out (lineTaken text b t out .bench .made) (lineTaken text b t out .out)
+unfolding linePrints lineTaken toldPrints toldTaken runLine withLine
+line-adds text b t out h =
+    let line = lineRead text lentOctets .line in
+    let octets = lineRead text lentOctets .octets in
+    split (eqb (b .phase) runs) (λ e. rw e (ask-adds (askOf line) octets (withLine b) t out))
+    (λ e. rw e (split (eqb (b .phase) plans && not (isPoint line)) (λ f. rw f (leave-adds line octets (withLine b) t out h))
+    (λ f. rw f (early-adds line octets b out h))))
+
+-- ---- how long the texts are
+part-most : (n : ℕ) (l : List ℕ) → length (take n l) ≤ length l
+part-most n l = simp length-take (omega arith)
+
+rest-most : (n : ℕ) (l : List ℕ) → length (drop n l) ≤ length l
+rest-most n l = simp length-drop (omega arith)
+
+lent-most : length lentReply ≡ leastReply
+unfolding lentReply leastReply
+lent-most = refl
+
+unit-most : (x : Outcome) (n : ℕ) → length (x .reply) ≡ n → length (unitPrints x) ≤ 2 * n + 23
+unfolding unitPrints
+unit-most x n h =
+    let a = answer-most (x .answer .number) (take (x .answer .size) (x .reply)) in
+    let b = part-most (x .answer .size) (x .reply) in
+    omega arith
+
+-- a datagram that is due is 17 octets at most: 38 characters
+sends-most : (k : ℕ) (node : Node) (t : List Session) → length (sendsPrint k node t) ≤ 38 * k
+unfolding sendsPrint
+sends-most zero node t = omega arith
+sends-most (suc k) node t =
+    let a = due-most (take (sendOf node t lentReply .answer .size) (sendOf node t lentReply .reply)) in
+    let s = sent-most node t lentReply in
+    let r = sends-most k (sendOf node t lentReply .answer .node) (sendOf node t lentReply .table) in
+    split (eqb (sendOf node t lentReply .answer .number) 0) (λ e. rw e (simp length-append (omega arith))) (λ e. rw e (omega arith))
+
+then-most : (x : Outcome) → length (x .reply) ≡ 0 → length (thenPrints x) ≤ 2493
+unfolding thenPrints places
+then-most x h =
+    let a = unit-most x 0 h in
+    let b = sends-most (places + 1) (x .answer .node) (x .table) in
+    simp length-append (omega arith)
+
+took-most : (x : Took) (d : List ℕ) → length (x .reply) ≡ leastReply → length d ≤ 2048 → length (tookPrints x d) ≤ 4377
+unfolding tookPrints userText leastReply
+took-most x d h k =
+    let a = answer-most (x .number) (take (x .size) (x .reply)) in
+    let b = packet-most (x .number) (take (x .size) (x .reply)) (drop (x .start) d) in
+    let p = part-most (x .size) (x .reply) in
+    let q = rest-most (x .start) d in
+    split (eqb (x .number) 0 && eqb (x .size) 0) (λ e. rw e (omega arith)) (λ e. rw e (omega arith))
+
+ask-most : (a : Ask) (octets : List ℕ) (lines : ℕ) (node : Node) (t : List Session) → length octets ≡ 2048 → length (askPrints a octets lines node t) ≤ 4377
+unfolding askPrints leastReply
+ask-most a octets lines node t h =
+    let d = take (a .size) octets in
+    let l = lent-most in
+    let p = part-most (a .size) octets in
+    let c = unit-most (controlTaken node t d lentReply) leastReply (control-length node t lentReply d ∙ lent-most) in
+    let u = took-most (userTaken node t d lentReply) d (user-length node t lentReply d ∙ lent-most) (omega arith) in
+    let k = then-most (tickOf node t) (tick-length node t) in
+    let x = then-most (closeOf node t (a .place)) (close-length node t (a .place)) in
+    let b = bad-most lines in
+    split (eqb (a .kind) 1) (λ e. rw e (omega arith))
+    (λ e. rw e (split (eqb (a .kind) 2) (λ f. rw f (omega arith))
+    (λ f. rw f (split (eqb (a .kind) 3) (λ g. rw g (omega arith))
+    (λ g. rw g (split (eqb (a .kind) 4) (λ i. rw i (omega arith)) (λ i. rw i (omega arith))))))))
+
+leave-most : (line : Line) (octets : List ℕ) (b : Bench) (t : List Session) → length octets ≡ 2048 → length (leavePrints line octets b t) ≤ 4400
+unfolding leavePrints
+leave-most line octets b t h =
+    let p = plan-most (freshOf (b .node .plan) t .answer) in
+    let a = ask-most (askOf line) octets (b .lines) (planTaken b t [] .bench .node) (planTaken b t [] .table) h in
+    split (eqb (planTaken b t [] .bench .phase) over) (λ e. rw e (omega arith)) (λ e. rw e (simp length-append (omega arith)))
+
+start-most : (line : Line) (lines : ℕ) → length (startPrints line lines) ≤ 23
+unfolding startPrints
+start-most (L.Node control user pool recovery resend sends interval) lines = omega arith
+start-most (L.Point guarantee ceiling size) lines = bad-most lines
+start-most (L.Control size) lines = bad-most lines
+start-most (L.User size) lines = bad-most lines
+start-most L.Tick lines = bad-most lines
+start-most (L.Close place) lines = bad-most lines
+start-most L.BadPoint lines = bad-most lines
+start-most L.Bad lines = bad-most lines
+
+point-most : (line : Line) (count lines : ℕ) → length (pointPrints line count lines) ≤ 23
+unfolding pointPrints
+point-most (L.Point guarantee ceiling size) count lines =
+    let b = bad-most lines in
+    split (leb 4 count) (λ e. rw e (omega arith)) (λ e. rw e (omega arith))
+point-most (L.Node control user pool recovery resend sends interval) count lines = bad-most lines
+point-most (L.Control size) count lines = bad-most lines
+point-most (L.User size) count lines = bad-most lines
+point-most L.Tick count lines = bad-most lines
+point-most (L.Close place) count lines = bad-most lines
+point-most L.BadPoint count lines = bad-most lines
+point-most L.Bad count lines = bad-most lines
+
+early-most : (line : Line) (b : Bench) → length (earlyPrints line b) ≤ 23
+unfolding earlyPrints
+early-most line b =
+    let s = start-most line (withLine b .lines) in
+    let p = point-most line (b .node .plan .count) (withLine b .lines) in
+    split (eqb (b .phase) firstPhase) (λ e. rw e (omega arith))
+    (λ e. rw e (split (eqb (b .phase) plans) (λ f. rw f (omega arith)) (λ f. rw f (omega arith))))
+
+octets-length : (text : List ℕ) → length (lineRead text lentOctets .octets) ≡ 2048
+unfolding lentOctets
+octets-length text = line-read-length text (replicate 2048 0) ∙ length-replicate {A = ℕ} 2048 0
+
+pub line-most : (text : List ℕ) (b : Bench) (t : List Session) → length (linePrints text b t) ≤ 4400
+unfolding linePrints toldPrints
+line-most text b t =
+    let line = lineRead text lentOctets .line in
+    let octets = lineRead text lentOctets .octets in
+    let o = octets-length text in
+    let a = ask-most (askOf line) octets (withLine b .lines) (b .node) t o in
+    let l = leave-most line octets (withLine b) t o in
+    let e = early-most line b in
+    split (eqb (b .phase) runs) (λ f. rw f (omega arith))
+    (λ f. rw f (split (eqb (b .phase) plans && not (isPoint line)) (λ g. rw g (omega arith)) (λ g. rw g (omega arith))))
+
+-- the first line of a run
+pub first-most : (text : List ℕ) (b : Bench) (t : List Session) → b .phase ≡ firstPhase → length (linePrints text b t) ≤ 23
+unfolding linePrints toldPrints firstPhase plans runs
+first-most text b t h =
+    let e = early-most (lineRead text lentOctets .line) b in
+    let r : eqb (b .phase) 2 ≡ false = rw h in
+    let p : eqb (b .phase) 1 ≡ false = rw h in
+    rw (r, p) e
+
+-- ---- with 8,192 octets left nothing is cut: the text stands whole behind what was printed before, and the rest of the buffer is as it was
+pub line-whole : (text : List ℕ) (b : Bench) (t : List Session) (out : List ℕ) → b .made + 8192 ≤ length out
+    → (lineTaken text b t out .bench .made ≡ b .made + length (linePrints text b t))
+    × (lineTaken text b t out .out ≡ take (b .made) out ++ (linePrints text b t ++ drop (b .made + length (linePrints text b t)) out))
+line-whole text b t out h =
+    let m = line-most text b t in
+    adds-whole _ _ _ _ _ (line-adds text b t out (omega arith)) (omega arith)
+
+pub end-whole : (b : Bench) (t : List Session) (out : List ℕ) → b .made + 8192 ≤ length out
+    → (endOfInput b t out .bench .made ≡ b .made + length (endPrints b t))
+    × (endOfInput b t out .out ≡ take (b .made) out ++ (endPrints b t ++ drop (b .made + length (endPrints b t)) out))
+end-whole b t out h =
+    let m = end-most b t in
+    adds-whole _ _ _ _ _ (end-adds b t out (omega arith)) (omega arith)

@@ -1,0 +1,5 @@
+pub mod Outcome
+pub mod Calls
+pub mod OnSession
+pub mod Kept
+pub mod Others

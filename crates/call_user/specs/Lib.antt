@@ -1,0 +1,3 @@
+pub mod User
+pub mod OneRecord
+pub mod Parcel

@@ -1,0 +1,26 @@
+-- The line of a place of lent records needs one record, and that all keep the rules.
+-- Assumes nothing.
+use Prim.Native.Nat.{ℕ}
+use mathlib.Core.Bool.{Bool}
+use mathlib.Core.List.{List}
+use mathlib.Core.Path.{_≡_, ap, _∙_}
+use lib.ListN.{length, getD}
+use lib.Dec.{ltb}
+use Rattle.base_octets.specs.Choice.{split}
+use Rattle.unit_tunnel.specs.Numbering.{places}
+use Rattle.unit_session.specs.declared.Session.{Session}
+use Rattle.unit_session.specs.Session.{blankAt}
+use Rattle.unit_table.specs.declared.Node.{Node}
+use Rattle.unit_table.specs.Rules.{keepsRules, rules-of}
+use Rattle.call_own.specs.declared.Answer.{Answer}
+use Rattle.call_own.specs.Outcome.{outcome, Back, back, backWith}
+use Rattle.call_line.specs.Line.{lineBy, lineOf}
+
+-- records that keep the rules are as many as there are places
+pub line-lent : (node : Node) (l : List Session) (place : ℕ) (reply after : List ℕ) (kept : Bool) (s : Session) (r : Answer)
+    → kept ≡ keepsRules node l → s ≡ getD l place (blankAt 0) → back r after ≡ lineBy kept (ltb place places) node place s reply
+    → outcome r l after ≡ lineOf node l place reply
+unfolding lineOf lineBy
+line-lent node l place reply after kept s r k e made =
+    ap (λ (x : Back). backWith l x) made
+    ∙ rw (k, e) (split (keepsRules node l) (λ q. let n = rules-of node l q .size in rw (q, n)) (λ q. rw q))

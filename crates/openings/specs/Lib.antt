@@ -1,2 +1,0 @@
-pub mod Openings
-pub mod Places

@@ -1,0 +1,147 @@
+-- After any run: the table keeps its rules, so that neither 2 nor 11 comes; no access point is over its ceiling and S is at most places; and
+-- no two live sessions share a tunnel number, an address, or IMSI with EBI.
+-- Assumes nothing.
+use Prim.Native.Nat.{ℕ, _<_, _≤_}
+use mathlib.Core.Bool.{true, false}
+use mathlib.Core.List.{List}
+use mathlib.Core.Logic.{_≢_}
+use mathlib.Core.Path.{_≡_, refl}
+use native.Mathlib.Omega.{arith}
+use lib.ListN.{getD}
+use borrow.Author.Tests.{eq-eqb}
+use Rattle.unit_tunnel.specs.Numbering.{places, teids, lastUse, controlOffset, userOffset, control-fits, user-fits}
+use Rattle.unit_tunnel.specs.Tunnel.{controlNumber, userNumber, number-same, number-fits, kinds-apart}
+use Rattle.unit_plan.specs.declared.Plan.{Plan}
+use Rattle.unit_plan.specs.Address.{addressOf, addresses}
+use Rattle.unit_plan.specs.Limits.{parties}
+use Rattle.unit_sharing.specs.Sharing.{shareOf, ceilingAt}
+use Rattle.unit_session.specs.declared.OwnRequest.{OwnRequest}
+use Rattle.unit_session.specs.declared.Session.{Session}
+use Rattle.unit_session.specs.Session.{isFree, hasId}
+use Rattle.unit_session.specs.Keep.{ok-usage}
+use Rattle.unit_table.specs.Rules.{liveOn, live, boundsOf, Rules, rules-of}
+use Rattle.unit_table.specs.Change.{nobody, record-ok}
+use Rattle.unit_table.specs.Find.{found-only}
+use Rattle.promise_demands.specs.Numbers.{among-other, tickNumbers, closeNumbers, sendNumbers, controlNumbers, lineNumbers, TickNumbers, CloseNumbers, SendNumbers, ControlNumbers, LineNumbers, tick-numbers, close-numbers, send-numbers, control-numbers, line-numbers}
+use Rattle.promise_demands.specs.UserNumbers.{userNumbers, UserNumbers, user-numbers}
+use Rattle.call_own.specs.Outcome.{State}
+use Rattle.promise_demands.specs.Run.{Event, control, user, tick, send, close, line, answered, reached, Run, Kept, reached-keeps}
+use Rattle.promise_demands.specs.Stays.{reached-plan}
+
+-- the record of a place
+abbrev pub at : State → ℕ → Session
+at s i = getD (s .table) i nobody
+
+-- u of an access point, counted from the records
+abbrev pub u : State → ℕ → ℕ
+u s a = liveOn a (s .table)
+
+-- ---- the rules by name, under the plan the run was started with
+under-plan : (q p : Plan) (echo : OwnRequest) (next : ℕ) (l : List Session) → q ≡ p → Rules q echo next l → Rules p echo next l
+under-plan q p echo next l e r = rw (← e) r
+
+pub reached-rules : (p : Plan) (es : List Event) → Run p es → Rules p (reached p es .node .echo) (reached p es .node .next) (reached p es .table)
+reached-rules p es r =
+    under-plan (reached p es .node .plan) p (reached p es .node .echo) (reached p es .node .next) (reached p es .table) (reached-plan p es (r .plan))
+    (rules-of (reached p es .node) (reached p es .table) (reached-keeps p es r))
+
+-- ---- 2 and 11
+unfoldable pub RulesHold : Type 0
+RulesHold = (p : Plan) (es : List Event) → Run p es → Kept (reached p es)
+
+unfoldable pub NeitherTwoNorEleven : Type 0
+NeitherTwoNorEleven = (p : Plan) (es : List Event) → Run p es → (e : Event) → (answered e (reached p es) ≢ 2) × (answered e (reached p es) ≢ 11)
+
+pub rules-hold : RulesHold
+unfolding RulesHold
+rules-hold = reached-keeps
+
+kept-neither : (s : State) → Kept s → (e : Event) → (answered e s ≢ 2) × (answered e s ≢ 11)
+unfolding answered tickNumbers closeNumbers sendNumbers controlNumbers lineNumbers userNumbers TickNumbers CloseNumbers SendNumbers ControlNumbers LineNumbers UserNumbers
+kept-neither s k (control d reply) =
+    let m = control-numbers (s .node) (s .table) d reply k in
+    (among-other (answered (control d reply) s) 2 controlNumbers m refl, among-other (answered (control d reply) s) 11 controlNumbers m refl)
+kept-neither s k (user d reply) =
+    let m = user-numbers (s .node) (s .table) d reply k in
+    (among-other (answered (user d reply) s) 2 userNumbers m refl, among-other (answered (user d reply) s) 11 userNumbers m refl)
+kept-neither s k tick =
+    let m = tick-numbers (s .node) (s .table) k in
+    (among-other (answered tick s) 2 tickNumbers m refl, among-other (answered tick s) 11 tickNumbers m refl)
+kept-neither s k (send reply) =
+    let m = send-numbers (s .node) (s .table) reply k in
+    (among-other (answered (send reply) s) 2 sendNumbers m refl, among-other (answered (send reply) s) 11 sendNumbers m refl)
+kept-neither s k (close place) =
+    let m = close-numbers (s .node) (s .table) place k in
+    (among-other (answered (close place) s) 2 closeNumbers m refl, among-other (answered (close place) s) 11 closeNumbers m refl)
+kept-neither s k (line place reply) =
+    let m = line-numbers (s .node) (s .table) place reply k in
+    (among-other (answered (line place reply) s) 2 lineNumbers m refl, among-other (answered (line place reply) s) 11 lineNumbers m refl)
+
+pub neither-two-nor-eleven : NeitherTwoNorEleven
+unfolding NeitherTwoNorEleven
+neither-two-nor-eleven p es r = kept-neither (reached p es) (reached-keeps p es r)
+
+-- ---- u ≤ c and S ≤ places
+unfoldable pub CeilingsKept : Type 0
+CeilingsKept = (p : Plan) (es : List Event) → Run p es
+    → ((a : ℕ) → a < parties p → u (reached p es) a ≤ ceilingAt p a) × (shareOf p (u (reached p es)) ≤ places)
+
+pub ceilings-kept : CeilingsKept
+unfolding CeilingsKept places
+ceilings-kept p es r = let w = reached-rules p es r .within in (w .under, w .room)
+
+-- ---- two places that are live or closing
+pub record Apart (p : Plan) (i j : ℕ) (s d : Session) : Type 0 where
+  pub controls : controlNumber (s .usage) i ≢ controlNumber (d .usage) j
+  pub users : userNumber (s .usage) i ≢ userNumber (d .usage) j
+  pub addresses : addressOf (p .pool) i ≢ addressOf (p .pool) j
+  pub ids : s .imsi ≡ d .imsi → s .ebi ≡ d .ebi → ⊥
+
+-- one place: its two numbers are numbers of 32 bits, and never the same
+pub record Own (i : ℕ) (s : Session) : Type 0 where
+  pub control : controlNumber (s .usage) i < teids
+  pub user : userNumber (s .usage) i < teids
+  pub kinds : (j v : ℕ) → j < places → controlNumber (s .usage) i ≢ userNumber v j
+
+unfoldable pub NoneShared : Type 0
+NoneShared = (p : Plan) (es : List Event) → Run p es → (i : ℕ) → i < places
+    → Own i (at (reached p es) i)
+    × ((j : ℕ) → j < places → i ≢ j → isFree (at (reached p es) i) ≡ false → isFree (at (reached p es) j) ≡ false
+    → Apart p i j (at (reached p es) i) (at (reached p es) j))
+
+addresses-apart : (pool i j : ℕ) → i < places → j < places → i ≢ j → addressOf pool i ≢ addressOf pool j
+unfolding addressOf places addresses
+addresses-apart pool i j h k n e = n (omega arith)
+
+has-id : (s : Session) → isFree s ≡ false → hasId (s .imsi) (s .ebi) s ≡ true
+unfolding hasId
+has-id s n = rw (n, eq-eqb (s .imsi) (s .imsi) refl, eq-eqb (s .ebi) (s .ebi) refl)
+
+pub none-shared : NoneShared
+unfolding NoneShared places teids
+none-shared p es r i h = (
+  own,
+  λ j k n f g. record {
+    controls = λ e. n (number-same controlOffset (at s i .usage) i (at s j .usage) j control-fits h k e .1);
+    users = λ e. n (number-same userOffset (at s i .usage) i (at s j .usage) j user-fits h k e .1);
+    addresses = addresses-apart (p .pool) i j h k n;
+    ids = λ e b. n (found-only (hasId (at s j .imsi) (at s j .ebi)) (s .table) i j (q .once (at s j .imsi) (at s j .ebi)) (let z = q .size in omega arith) (let z = q .size in omega arith)
+        (rw (← e, ← b) (has-id (at s i) f)) (has-id (at s j) g));
+  },
+)
+  where
+    s : State
+    s = reached p es
+
+    q : Rules p (reached p es .node .echo) (reached p es .node .next) (reached p es .table)
+    q = reached-rules p es r
+
+    usage : at (reached p es) i .usage ≤ lastUse
+    usage = ok-usage (boundsOf p) (at (reached p es) i) (record-ok p (reached p es .node .echo) (reached p es .node .next) (reached p es .table) q i)
+
+    own : Own i (at (reached p es) i)
+    own = record {
+      control = number-fits controlOffset (at (reached p es) i .usage) i control-fits h usage;
+      user = number-fits userOffset (at (reached p es) i .usage) i user-fits h usage;
+      kinds = λ j v k. kinds-apart (at (reached p es) i .usage) i v j h k;
+    }

@@ -1,0 +1,128 @@
+-- A host's run is a run. A host holds the node and the records; it lends them to one exported call after another and stores the node that
+-- comes back. Of a call nothing is known but its contract and its types: that is `Called`, and crate hosts shows that each exported function
+-- meets it. So what the demands say of runs (Run.antt) they say of hosts, and a host owes nothing for it.
+-- Assumes nothing.
+use Prim.Native.Nat.{ℕ, suc, _<_}
+use mathlib.Core.Bool.{true}
+use mathlib.Core.List.{List, [], _∷_}
+use mathlib.Core.Path.{_≡_, refl, _∙_, ap}
+use lib.ListN.{length, getD}
+use borrow.Author.Tests.{lt-ltb}
+use Rattle.base_octets.specs.Every.{every}
+use Rattle.base_octets.specs.BigEndian.{isOctet}
+use Rattle.unit_tunnel.specs.Numbering.{places}
+use Rattle.unit_plan.specs.declared.Plan.{Plan}
+use Rattle.unit_plan.specs.Plan.{accepted}
+use Rattle.unit_session.specs.declared.Session.{Session}
+use Rattle.call_own.specs.declared.Answer.{Answer}
+use Rattle.call_own.specs.Outcome.{State, Outcome, outcome}
+use Rattle.call_own.specs.Calls.{freshOf, tickOf, closeOf, sendOf}
+use Rattle.call_control.specs.Control.{controlTaken}
+use Rattle.call_line.specs.Line.{lineOf}
+use Rattle.call_user.specs.User.{userTaken}
+use Rattle.call_user.specs.declared.Handed.{Handed}
+use Rattle.call_user.specs.Parcel.{Parcel, parcel, parcelOf}
+use Rattle.promise_demands.specs.Run.{left, Event, control, user, tick, send, close, line, step, answered, run, start, reached, ofOctets}
+use Rattle.promise_demands.specs.Run.{Run, Kept, fresh-starts, run-keeps}
+
+-- the host takes the number from the answer, and stores its node
+abbrev pub Stores : Answer → State → ℕ → Type 0
+Stores r k n = (k .node ≡ r .node) × (n ≡ r .number)
+
+-- one call, from what the host holds to what it holds then, with the number that came back: word for word the contract of the exported
+-- function, whatever answer r and reply buffer x meet it. A datagram is made of octets, by its type (`octets_by_type` in src/lib.rt); records
+-- that are lent to be read are as before
+unfoldable pub Called : Event → State → State → ℕ → Type 0
+Called (control d reply) h k n =
+    (every isOctet d ≡ true) × (r : Answer) × (x : List ℕ) × (outcome r (k .table) x ≡ controlTaken (h .node) (h .table) d reply) × Stores r k n
+Called (user d reply) h k n =
+    (r : Handed) × (x : List ℕ) × (parcel r x ≡ parcelOf (length d) (userTaken (h .node) (h .table) d reply)) × (k ≡ h) × (n ≡ r .number)
+Called tick h k n = (r : Answer) × (outcome r (k .table) [] ≡ tickOf (h .node) (h .table)) × Stores r k n
+Called (send reply) h k n = (r : Answer) × (x : List ℕ) × (outcome r (k .table) x ≡ sendOf (h .node) (h .table) reply) × Stores r k n
+Called (close place) h k n = (r : Answer) × (outcome r (k .table) [] ≡ closeOf (h .node) (h .table) place) × Stores r k n
+Called (line place reply) h k n =
+    (r : Answer) × (x : List ℕ) × (outcome r (h .table) x ≡ lineOf (h .node) (h .table) place reply) × (k .table ≡ h .table) × Stores r k n
+
+-- one after another, each from what the one before left
+unfoldable pub Hosted : List Event → State → State → Type 0
+Hosted [] h k = k ≡ h
+Hosted (e ∷ es) h k = (m : State) × (n : ℕ) × Called e h m n × Hosted es m k
+
+-- fresh, by its contract, on as many records as there are places, whatever they held
+unfoldable pub Started : Plan → State → Type 0
+Started p h = (l : List Session) × (length l ≡ places) × (r : Answer) × (outcome r (h .table) [] ≡ freshOf p l) × (h .node ≡ r .node)
+
+pub record HostsRun : Type 0 where
+  -- from whatever a host holds: what it holds then, and which number it gets
+  pub holds : (es : List Event) (h k : State) → Hosted es h k → k ≡ run es h
+  pub number : (e : Event) (h k : State) (n : ℕ) → Called e h k n → n ≡ answered e h
+  -- from a table that keeps its rules
+  pub keeps : (es : List Event) (h k : State) → Kept h → Hosted es h k → Kept k
+  -- from fresh, under an accepted plan
+  pub runs : (p : Plan) (es : List Event) (h k : State) → accepted p ≡ true → Started p h → Hosted es h k → Run p es × (k ≡ reached p es)
+
+-- ---- the type of a datagram: each of its octets is one, hence all
+pub all-octets : (l : List ℕ) → ((i : ℕ) → getD l i 0 < 256) → every isOctet l ≡ true
+unfolding every isOctet
+all-octets [] h = refl
+all-octets (x ∷ l) h = rw (lt-ltb x 256 (h 0), all-octets l (λ i. h (suc i)))
+
+-- ---- proofs
+module _ (k : State) (r : Answer) (x : List ℕ) (o : Outcome) (e : outcome r (k .table) x ≡ o) (s : k .node ≡ r .node) where
+  stored : k ≡ left o
+  unfolding left
+  stored = rw (← e, ← s)
+
+called-step : (e : Event) (h k : State) (n : ℕ) → Called e h k n → k ≡ step e h
+unfolding Called step
+called-step (control d reply) h k n c = stored k (c .1) (c .2) (controlTaken (h .node) (h .table) d reply) (c .3) (c .4 .0)
+called-step (user d reply) h k n c = c .3
+called-step tick h k n c = stored k (c .0) [] (tickOf (h .node) (h .table)) (c .1) (c .2 .0)
+called-step (send reply) h k n c = stored k (c .0) (c .1) (sendOf (h .node) (h .table) reply) (c .2) (c .3 .0)
+called-step (close place) h k n c = stored k (c .0) [] (closeOf (h .node) (h .table) place) (c .1) (c .2 .0)
+called-step (line place reply) h k n c =
+    stored k (c .0) (c .1) (lineOf (h .node) (h .table) place reply) (rw (c .3) (c .2)) (c .4 .0)
+
+called-number : (e : Event) (h k : State) (n : ℕ) → Called e h k n → n ≡ answered e h
+unfolding Called answered parcelOf
+called-number (control d reply) h k n c = c .4 .1 ∙ ap (λ (o : Outcome). o .answer .number) (c .3)
+called-number (user d reply) h k n c = c .4 ∙ ap (λ (o : Parcel). o .handed .number) (c .2)
+called-number tick h k n c = c .2 .1 ∙ ap (λ (o : Outcome). o .answer .number) (c .1)
+called-number (send reply) h k n c = c .3 .1 ∙ ap (λ (o : Outcome). o .answer .number) (c .2)
+called-number (close place) h k n c = c .2 .1 ∙ ap (λ (o : Outcome). o .answer .number) (c .1)
+called-number (line place reply) h k n c = c .4 .1 ∙ ap (λ (o : Outcome). o .answer .number) (c .2)
+
+hosted-run : (es : List Event) (h k : State) → Hosted es h k → k ≡ run es h
+unfolding Hosted run
+hosted-run [] h k c = c
+hosted-run (e ∷ es) h k c = hosted-run es (c .0) k (c .3) ∙ ap (λ (s : State). run es s) (called-step e h (c .0) (c .1) (c .2))
+
+called-octets : (e : Event) (h k : State) (n : ℕ) → Called e h k n → ofOctets e ≡ true
+unfolding Called ofOctets
+called-octets (control d reply) h k n c = c .0
+called-octets (user d reply) h k n c = refl
+called-octets tick h k n c = refl
+called-octets (send reply) h k n c = refl
+called-octets (close place) h k n c = refl
+called-octets (line place reply) h k n c = refl
+
+hosted-octets : (es : List Event) (h k : State) → Hosted es h k → every ofOctets es ≡ true
+unfolding Hosted every
+hosted-octets [] h k c = refl
+hosted-octets (e ∷ es) h k c = rw (called-octets e h (c .0) (c .1) (c .2), hosted-octets es (c .0) k (c .3))
+
+started-is : (p : Plan) (h : State) → Started p h → h ≡ start p
+unfolding Started
+started-is p h s = stored h (s .2) [] (freshOf p (s .0)) (s .3) (s .4) ∙ fresh-starts p (s .0) (s .1)
+
+pub hosts-run : HostsRun
+unfolding reached
+hosts-run = record {
+  holds = hosted-run;
+  number = called-number;
+  keeps = λ es h k q c. rw (hosted-run es h k c) (run-keeps es h (hosted-octets es h k c) q);
+  runs = λ p es h k a s c. (
+    record { plan = a; octets = hosted-octets es h k c },
+    hosted-run es h k c ∙ ap (λ (x : State). run es x) (started-is p h s),
+  );
+}

@@ -1,0 +1,171 @@
+-- A repeated Create after any run: the accepted reply is written from the record, and nothing else changes but what Recovery does.
+-- Assumes nothing.
+use Prim.Native.Nat.{ℕ, _%_, _<_, _≤_}
+use mathlib.Core.Bool.{Bool, true}
+use mathlib.Core.List.{List}
+use mathlib.Core.Path.{_≡_, refl, sym, _∙_, ap}
+use native.Mathlib.Omega.{arith}
+use lib.ListN.{length, getD, drop}
+use borrow.Author.Tests.{le-ltb, lt-ltb, eq-eqb}
+use Rattle.base_octets.specs.Choice.{and-left, and-right}
+use Rattle.base_octets.specs.Search.{firstOf, first-passes, first-before}
+use Rattle.base_octets.specs.Sums.{countOf}
+use Rattle.unit_tunnel.specs.Numbering.{places}
+use Rattle.unit_plan.specs.declared.Plan.{Plan}
+use Rattle.wire_fields.specs.declared.Recovery.{Recovery}
+use Rattle.wire_fields.specs.declared.Recovery.the-variants as R
+use Rattle.unit_sharing.specs.Sharing.{admits}
+use Rattle.unit_plan.specs.Plan.{accepted, parties-four}
+use Rattle.base_octets.specs.Every.{every}
+use Rattle.base_octets.specs.BigEndian.{isOctet}
+use Rattle.unit_session.specs.Session.{hasId, isFree, opened}
+use Rattle.unit_table.specs.Change.{nobody, changedAt, changed-here, length-changed}
+use Rattle.unit_table.specs.Own.{hearing, keptAfter, restarted}
+use Rattle.unit_table.specs.Room.{freePlace}
+use Rattle.wire_header.specs.Types.{kindBy}
+use Rattle.call_asked.specs.Asked.{kindAsked, requestAsked, soundAsked, askedOf}
+use Rattle.call_control.specs.Creates.{openingOf, acceptedTaken, isRepeat, settledAt, heardCreate, createTaken}
+use Rattle.call_own.specs.Outcome.{State, leastReply, noReply}
+use Rattle.unit_session.specs.declared.Session.{Session}
+use Rattle.unit_table.specs.declared.Node.{Node}
+use Rattle.unit_table.specs.declared.Owner.the-variants as F
+use Rattle.unit_table.specs.Rules.{Rules, rules-of}
+use Rattle.unit_table.specs.Find.{foundIn, found-only}
+use Rattle.wire_header.specs.Header.{headerOf}
+use Rattle.wire_requests.specs.declared.Create as C
+use Rattle.wire_requests.specs.declared.Decoded.the-variants as D
+use Rattle.wire_requests.specs.declared.Request.the-variants as Q
+use Rattle.wire_requests.specs.Create.{createOf}
+use Rattle.call_control.specs.Echoes.{heardBy, heard-keeps}
+use Rattle.call_control.specs.Control.{askedTaken, controlTaken}
+use Rattle.promise_demands.specs.Run.{left, Event, control, step, reached, ofOctets, Run, Kept, step-keeps, reached-keeps}
+use Rattle.call_control.specs.CreatesKept.{heard-plan}
+use Rattle.promise_demands.specs.Stays.{reached-plan}
+use Rattle.promise_demands.specs.Creates.{SoundCreate, NewCreate, heard, repeats, tableAsked, askedU, acceptedOf, create-accepted, create-point, place-in}
+
+-- place i, as it is after Recovery, has the session that the Create repeats
+unfoldable pub RepeatsAnswered : Type 0
+RepeatsAnswered = (p : Plan) (es : List Event) → Run p es → (d : List ℕ) (c : C.Create) → SoundCreate p d c
+    → (i : ℕ) → i < places → repeats c (headerOf d .sequence) (getD (heard c (reached p es) .table) i nobody) ≡ true
+    → (reply : List ℕ) → leastReply ≤ length reply
+    → controlTaken (reached p es .node) (reached p es .table) d reply
+    ≡ acceptedTaken (headerOf d .sequence) i (getD (heard c (reached p es) .table) i nobody) (heard c (reached p es) .node) (heard c (reached p es) .table) reply
+
+-- so a Create that was accepted, sent again with the same buffer lent, has the very same outcome: number, reply, and table
+unfoldable pub AgainTheSame : Type 0
+AgainTheSame = (p : Plan) (es : List Event) → Run p es → (d : List ℕ) (c : C.Create) → every isOctet d ≡ true → NewCreate p (reached p es) d c
+    → admits p (askedU c (reached p es)) (c .point) ≡ true → (reply : List ℕ) → leastReply ≤ length reply
+    → controlTaken (step (control d reply) (reached p es) .node) (step (control d reply) (reached p es) .table) d reply
+    ≡ controlTaken (reached p es .node) (reached p es .table) d reply
+
+-- where one has it at most, who has it is found
+found-it : (p : Session → Bool) (l : List Session) (i : ℕ) → countOf p l ≤ 1 → i < length l → p (getD l i nobody) ≡ true → foundIn p l ≡ F.At i
+unfolding foundIn
+found-it p l i once h e =
+    let b = first-before p l i nobody h e in
+    let k : firstOf p l < length l = omega arith in
+    let s = found-only p l (firstOf p l) i once k h (first-passes p l nobody k) e in
+    rw (lt-ltb (firstOf p l) (length l) k, s)
+
+module _ (p : Plan) (s : State) (kept : Kept s) (plan : s .node .plan ≡ p) (d : List ℕ) (c : C.Create) (n : SoundCreate p d c) (reply : List ℕ) (room : leastReply ≤ length reply) where
+  decoded : createOf (s .node .plan) (drop (headerOf d .fields) d) ≡ D.Sound (Q.Create c)
+  decoded = rw plan (n .fields)
+
+  rules : Rules (heard c s .node .plan) (heard c s .node .echo) (heard c s .node .next) (heard c s .table)
+  rules = rules-of (heard c s .node) (heard c s .table) (heard-keeps (s .node) (s .table) kept (c .recovery))
+
+  repeated : (i : ℕ) → i < places → repeats c (headerOf d .sequence) (getD (heard c s .table) i nobody) ≡ true
+      → controlTaken (s .node) (s .table) d reply ≡ acceptedTaken (headerOf d .sequence) i (getD (heard c s .table) i nobody) (heard c s .node) (heard c s .table) reply
+  unfolding controlTaken askedTaken askedOf kindAsked kindBy requestAsked soundAsked createTaken heardCreate settledAt leastReply repeats places
+  repeated i h e =
+      let a = and-left (hasId (c .imsi) (c .ebi) (getD (heard c s .table) i nobody)) (isRepeat c (headerOf d .sequence) (getD (heard c s .table) i nobody)) e in
+      let b = and-right (hasId (c .imsi) (c .ebi) (getD (heard c s .table) i nobody)) (isRepeat c (headerOf d .sequence) (getD (heard c s .table) i nobody)) e in
+      let z = rules .size in
+      let f = found-it (hasId (c .imsi) (c .ebi)) (heard c s .table) i (rules .once (c .imsi) (c .ebi)) (omega arith) a in
+      rw (le-ltb (length reply) leastReply room, kept, n .header, n .kind, decoded, f, b)
+
+pub repeats-answered : RepeatsAnswered
+unfolding RepeatsAnswered
+repeats-answered p es r d c n i h e reply room = repeated p (reached p es) (reached-keeps p es r) (reached-plan p es (r .plan)) d c n reply room i h e
+
+kept-same : (a b : State) → a ≡ b → Kept a → Kept b
+kept-same a b e k = rw (← e) k
+
+-- ---- a Recovery value that is stored already does nothing
+heard-again : (r : Recovery) (node : Node) (t t₁ : List Session)
+    → (heardBy r (heardBy r node t .node) t₁ .node ≡ heardBy r node t .node) × (heardBy r (heardBy r node t .node) t₁ .table ≡ t₁)
+unfolding heardBy noReply hearing keptAfter restarted
+heard-again R.None node t t₁ = (refl, refl)
+heard-again (R.Value v) node t t₁ = rw (eq-eqb v v refl) (refl, refl)
+
+module _ (p : Plan) (s : State) (kept : Kept s) (plan : s .node .plan ≡ p) (good : accepted p ≡ true) (d : List ℕ) (octets : every isOctet d ≡ true) (c : C.Create)
+    (n : NewCreate p s d c) (reply : List ℕ) (room : leastReply ≤ length reply) (e : admits p (askedU c s) (c .point) ≡ true) where
+  abbrev number : ℕ
+  number = headerOf d .sequence
+
+  abbrev place : ℕ
+  place = freePlace (tableAsked c s)
+
+  abbrev recs : List Session
+  recs = changedAt (opened (openingOf c number)) place (tableAsked c s)
+
+  abbrev then : State
+  then = record { node = heard c s .node; table = recs }
+
+  taken : controlTaken (s .node) (s .table) d reply ≡ acceptedOf number c s reply
+  taken = create-accepted p s kept plan d c n reply room e
+
+  after : step (control d reply) s ≡ then
+  unfolding step left acceptedOf acceptedTaken
+  after = ap left taken
+
+  then-kept : Kept then
+  unfolding ofOctets
+  then-kept = kept-same (step (control d reply) s) then after (step-keeps (control d reply) s octets kept)
+
+  in-there : place < length (tableAsked c s)
+  in-there = place-in p s kept plan d c n reply room e
+
+  opened-there : getD recs place nobody ≡ opened (openingOf c number) (getD (tableAsked c s) place nobody)
+  opened-there = changed-here (opened (openingOf c number)) place (tableAsked c s) nobody in-there
+
+  is-it : (x : Session) → repeats c number (opened (openingOf c number) x) ≡ true
+  unfolding repeats hasId isFree isRepeat opened openingOf
+  is-it x =
+      let f = parties-four p good in
+      let q = create-point p s kept plan d c n reply room in
+      let m : c .point % 256 ≡ c .point = omega arith in
+      rw (m, eq-eqb (c .imsi) (c .imsi) refl, eq-eqb (c .ebi) (c .ebi) refl, eq-eqb (c .point) (c .point) refl, eq-eqb number number refl)
+
+  then-plan : heard c s .node .plan ≡ p
+  then-plan = heard-plan (c .recovery) (s .node) (s .table) ∙ plan
+
+  few : place < places
+  unfolding places
+  few =
+      let z = rules-of (then .node) (then .table) then-kept .size in
+      let l = length-changed (opened (openingOf c number)) place (tableAsked c s) in
+      let h = in-there in
+      omega arith
+
+  again-table : heard c then .table ≡ recs
+  again-table = heard-again (c .recovery) (s .node) (s .table) recs .1
+
+  again-node : heard c then .node ≡ heard c s .node
+  again-node = heard-again (c .recovery) (s .node) (s .table) recs .0
+
+  again-there : getD (heard c then .table) place nobody ≡ opened (openingOf c number) (getD (tableAsked c s) place nobody)
+  again-there = ap (λ (t : List Session). getD t place nobody) again-table ∙ opened-there
+
+  again : controlTaken (then .node) (then .table) d reply ≡ acceptedOf number c s reply
+  unfolding acceptedOf
+  again =
+      repeated p then then-kept then-plan d c (n .sound) reply room place few (rw again-there (is-it (getD (tableAsked c s) place nobody)))
+      ∙ rw (again-there, again-node, again-table)
+
+  pub same-again : controlTaken (step (control d reply) s .node) (step (control d reply) s .table) d reply ≡ controlTaken (s .node) (s .table) d reply
+  same-again = ap (λ (x : State). controlTaken (x .node) (x .table) d reply) after ∙ (again ∙ sym taken)
+
+pub again-the-same : AgainTheSame
+unfolding AgainTheSame
+again-the-same p es r d c o n e reply room = same-again p (reached p es) (reached-keeps p es r) (reached-plan p es (r .plan)) (r .plan) d o c n reply room e

@@ -1,0 +1,83 @@
+-- Octets past a reply's length stay as lent: in every call that has a reply buffer, for any datagram, table and buffer, whatever the number.
+-- Assumes nothing.
+use Prim.Native.Nat.{ℕ, zero, suc, _+_, _≤_, min}
+use mathlib.Core.List.{List, [], _∷_}
+use mathlib.Core.Path.{_≡_, refl}
+use native.Mathlib.Omega.{arith}
+use lib.ListN.{length, drop, getD}
+use lib.Dec.{eqb, ltb}
+use Rattle.base_octets.specs.Choice.{split}
+use Rattle.base_octets.specs.Overlay.{overlay}
+use Rattle.base_numerals.specs.Laid.{layAt, laid}
+use Rattle.unit_session.specs.declared.Session.{Session}
+use Rattle.unit_session.specs.OwnRequest.{sentOnce}
+use Rattle.unit_table.specs.declared.Node.{Node}
+use Rattle.unit_table.specs.Rules.{keepsRules}
+use Rattle.unit_table.specs.Change.{nobody}
+use Rattle.unit_table.specs.Number.{takenNumber}
+use Rattle.unit_table.specs.Own.{duePlace}
+use Rattle.wire_messages.specs.Types.{echoType}
+use Rattle.wire_messages.specs.Messages.{echoOf, deleteBearer}
+use Rattle.call_own.specs.Outcome.{Outcome, leastReply, noReply}
+use Rattle.call_own.specs.Calls.{echoSent, placeSent, dueSent, sendOf}
+use Rattle.call_control.specs.Control.{controlTaken}
+use Rattle.call_user.specs.User.{userTaken}
+use Rattle.call_line.specs.Line.{lineText, lineBy, lineOf}
+use Rattle.promise_demands.specs.Leaves.{control-comes, user-takes}
+
+-- the octets from the reply's length on
+abbrev pub Rest : ℕ → List ℕ → List ℕ → Type 0
+Rest size after before = drop size after ≡ drop size before
+
+abbrev pub RestOf : Outcome → List ℕ → Type 0
+RestOf o reply = Rest (o .answer .size) (o .reply) reply
+
+pub record RestsStay : Type 0 where
+  pub control : (node : Node) (t : List Session) (d reply : List ℕ) → RestOf (controlTaken node t d reply) reply
+  pub user : (node : Node) (t : List Session) (d reply : List ℕ) → Rest (userTaken node t d reply .size) (userTaken node t d reply .reply) reply
+  pub send : (node : Node) (t : List Session) (reply : List ℕ) → RestOf (sendOf node t reply) reply
+  pub line : (node : Node) (t : List Session) (place : ℕ) (reply : List ℕ) → RestOf (lineOf node t place reply) reply
+
+-- ---- laws
+-- past the end of a message, or of the buffer where that is shorter
+past : (k : ℕ) (m d : List ℕ) → min (length m) (length d) ≤ k → drop k (overlay m d) ≡ drop k d
+unfolding overlay
+past k [] d h = refl
+past k (x ∷ m) [] h = refl
+past zero (x ∷ m) (y ∷ d) h = absurd (omega arith)
+past (suc k) (x ∷ m) (y ∷ d) h = past k m d (omega arith)
+
+over-rest : (m reply : List ℕ) → Rest (length m) (overlay m reply) reply
+over-rest m reply = past (length m) m reply (omega arith)
+
+control-rest : (node : Node) (t : List Session) (d reply : List ℕ) → RestOf (controlTaken node t d reply) reply
+control-rest node t d reply = let c = control-comes node t d reply in rw (c .over) (over-rest (c .message) reply)
+
+user-rest : (node : Node) (t : List Session) (d reply : List ℕ) → Rest (userTaken node t d reply .size) (userTaken node t d reply .reply) reply
+user-rest node t d reply = let c = user-takes node t d reply in rw (c .over) (over-rest (c .message) reply)
+
+send-rest : (node : Node) (t : List Session) (reply : List ℕ) → RestOf (sendOf node t reply) reply
+unfolding sendOf dueSent echoSent placeSent noReply
+send-rest node t reply =
+    let k = takenNumber (node .next) (node .echo) t in
+    let s = getD t (duePlace t) nobody in
+    let echo = echoOf echoType (sentOnce (node .plan .resend) k (node .echo) .number) (node .plan .recovery) in
+    let bearer = deleteBearer (s .control) (sentOnce (node .plan .resend) k (s .own) .number) (s .ebi) in
+    split (ltb (length reply) leastReply) (λ a. rw a)
+    (λ a. split (keepsRules node t)
+    (λ e. split (eqb (node .echo .timer) 0) (λ z. rw (a, e, z) (over-rest echo reply))
+    (λ z. split (ltb (duePlace t) (length t)) (λ d. rw (a, e, z, d) (over-rest bearer reply)) (λ d. rw (a, e, z, d))))
+    (λ e. rw (a, e)))
+
+line-rest : (node : Node) (t : List Session) (place : ℕ) (reply : List ℕ) → RestOf (lineOf node t place reply) reply
+unfolding lineOf lineBy laid layAt
+line-rest node t place reply =
+    split (ltb (length reply) leastReply) (λ a. rw a)
+    (λ a. split (keepsRules node t)
+    (λ e. split (ltb place (length t))
+    (λ h. let m = lineText place (getD t place nobody) in rw (a, e, h) (past (min (0 + length m) (length reply)) m reply (omega arith)))
+    (λ h. rw (a, e, h)))
+    (λ e. rw (a, e)))
+
+pub rests-stay : RestsStay
+rests-stay = record { control = control-rest; user = user-rest; send = send-rest; line = line-rest }

@@ -1,0 +1,172 @@
+// The exported calls, as a host sees them: by their contracts and types alone. Each call made twice on equal arguments comes to the same, in the
+// answer, the lent records and the reply buffer; and each meets what the demands say of a call in a run (`Called`, in promise_demands).
+use call_own::Answer;
+use call_user::Handed;
+use unit_plan::Plan;
+use unit_session::Session;
+use unit_table::Node;
+ghost use mathlib.Core.List.{[]};
+ghost use mathlib.Core.Path.{_≡_};
+ghost use Rattle.promise_hosts.specs.Agreement.{two, twins, Agreed, AgreedHanded};
+ghost use Rattle.promise_demands.specs.Run.{control, user, tick, send, close, line};
+ghost use Rattle.promise_demands.specs.Hosts.{Called};
+ghost use Rattle.promise_hosts.specs.Known.{holding, storing, StartedFrom};
+
+pub struct Two {
+    pub first: Answer,
+    pub second: Answer,
+}
+
+pub struct Twins {
+    pub first: Handed,
+    pub second: Handed,
+}
+
+fn both(a: Answer, b: Answer) -> Two
+    ensures { λ r. ⌜ r ≡ two a b ⌝ }
+{
+    Two {
+        first: a,
+        second: b,
+    }
+}
+
+fn both_handed(a: Handed, b: Handed) -> Twins
+    ensures { λ r. ⌜ r ≡ twins a b ⌝ }
+{
+    Twins {
+        first: a,
+        second: b,
+    }
+}
+
+pub fn fresh_agrees(plan: Plan, recs: &mut [Session], other: &mut [Session]) -> Two
+    ensures { λ r. ⌜ Agreed (now (recs .entry)) (now (other .entry)) [] [] r (now (recs .exit)) (now (other .exit)) [] [] ⌝ }
+{
+    let a = lent_own::grugavorn_fresh(plan, recs);
+    let b = lent_own::grugavorn_fresh(plan, other);
+    both(a, b)
+}
+
+pub fn tick_agrees(node: Node, recs: &mut [Session], other: &mut [Session]) -> Two
+    ensures { λ r. ⌜ Agreed (now (recs .entry)) (now (other .entry)) [] [] r (now (recs .exit)) (now (other .exit)) [] [] ⌝ }
+{
+    let a = lent_own::grugavorn_tick(node, recs);
+    let b = lent_own::grugavorn_tick(node, other);
+    both(a, b)
+}
+
+pub fn close_agrees(node: Node, recs: &mut [Session], other: &mut [Session], place: usize) -> Two
+    ensures { λ r. ⌜ Agreed (now (recs .entry)) (now (other .entry)) [] [] r (now (recs .exit)) (now (other .exit)) [] [] ⌝ }
+{
+    let a = lent_own::grugavorn_close(node, recs, place);
+    let b = lent_own::grugavorn_close(node, other, place);
+    both(a, b)
+}
+
+pub fn send_agrees(
+    node: Node,
+    recs: &mut [Session],
+    other: &mut [Session],
+    reply: &mut [u8],
+    buffer: &mut [u8],
+) -> Two
+    ensures { λ r. ⌜ Agreed (now (recs .entry)) (now (other .entry)) (now (reply .entry)) (now (buffer .entry)) r (now (recs .exit)) (now (other .exit)) (now (reply .exit)) (now (buffer .exit)) ⌝ }
+{
+    let a = lent_own::grugavorn_send(node, recs, reply);
+    let b = lent_own::grugavorn_send(node, other, buffer);
+    both(a, b)
+}
+
+pub fn control_agrees(
+    node: Node,
+    recs: &mut [Session],
+    other: &mut [Session],
+    d: &[u8],
+    reply: &mut [u8],
+    buffer: &mut [u8],
+) -> Two
+    ensures { λ r. ⌜ Agreed (now (recs .entry)) (now (other .entry)) (now (reply .entry)) (now (buffer .entry)) r (now (recs .exit)) (now (other .exit)) (now (reply .exit)) (now (buffer .exit)) ⌝ }
+{
+    let a = lent_control::grugavorn_control(node, recs, d, reply);
+    let b = lent_control::grugavorn_control(node, other, d, buffer);
+    both(a, b)
+}
+
+pub fn line_agrees(
+    node: Node,
+    recs: &[Session],
+    place: usize,
+    reply: &mut [u8],
+    buffer: &mut [u8],
+) -> Two
+    ensures { λ r. ⌜ Agreed (now (recs .entry)) (now (recs .entry)) (now (reply .entry)) (now (buffer .entry)) r (now (recs .entry)) (now (recs .entry)) (now (reply .exit)) (now (buffer .exit)) ⌝ }
+{
+    let a = lent_user::grugavorn_line(node, recs, place, reply);
+    let b = lent_user::grugavorn_line(node, recs, place, buffer);
+    both(a, b)
+}
+
+pub fn user_agrees(
+    node: Node,
+    recs: &[Session],
+    d: &[u8],
+    reply: &mut [u8],
+    buffer: &mut [u8],
+) -> Twins
+    ensures { λ r. ⌜ AgreedHanded (now (reply .entry)) (now (buffer .entry)) r (now (reply .exit)) (now (buffer .exit)) ⌝ }
+{
+    let a = lent_user::grugavorn_user(node, recs, d, reply);
+    let b = lent_user::grugavorn_user(node, recs, d, buffer);
+    both_handed(a, b)
+}
+
+// Fresh state from a plan.
+pub fn starts(plan: Plan, recs: &mut [Session]) -> Answer
+    ensures { λ r. ⌜ StartedFrom (now (recs .entry)) plan (storing r (now (recs .exit))) ⌝ }
+{
+    lent_own::grugavorn_fresh(plan, recs)
+}
+
+// Take control datagram. That the datagram is made of octets, its type says.
+pub fn takes_control(node: Node, recs: &mut [Session], d: &[u8], reply: &mut [u8]) -> Answer
+    ensures { λ r. ⌜ Called (control (now (d .entry)) (now (reply .entry))) (holding node (now (recs .entry))) (storing r (now (recs .exit))) (r .number) ⌝ }
+{
+    promise_demands::octets_by_type(d);
+    lent_control::grugavorn_control(node, recs, d, reply)
+}
+
+// Take user datagram.
+pub fn takes_user(node: Node, recs: &[Session], d: &[u8], reply: &mut [u8]) -> Handed
+    ensures { λ r. ⌜ Called (user (now (d .entry)) (now (reply .entry))) (holding node (now (recs .entry))) (holding node (now (recs .entry))) (r .number) ⌝ }
+{
+    lent_user::grugavorn_user(node, recs, d, reply)
+}
+
+// Tick.
+pub fn ticks(node: Node, recs: &mut [Session]) -> Answer
+    ensures { λ r. ⌜ Called tick (holding node (now (recs .entry))) (storing r (now (recs .exit))) (r .number) ⌝ }
+{
+    lent_own::grugavorn_tick(node, recs)
+}
+
+// Send next due.
+pub fn sends(node: Node, recs: &mut [Session], reply: &mut [u8]) -> Answer
+    ensures { λ r. ⌜ Called (send (now (reply .entry))) (holding node (now (recs .entry))) (storing r (now (recs .exit))) (r .number) ⌝ }
+{
+    lent_own::grugavorn_send(node, recs, reply)
+}
+
+// Close a place.
+pub fn closes(node: Node, recs: &mut [Session], place: usize) -> Answer
+    ensures { λ r. ⌜ Called (close place) (holding node (now (recs .entry))) (storing r (now (recs .exit))) (r .number) ⌝ }
+{
+    lent_own::grugavorn_close(node, recs, place)
+}
+
+// Line of a place.
+pub fn prints(node: Node, recs: &[Session], place: usize, reply: &mut [u8]) -> Answer
+    ensures { λ r. ⌜ Called (line place (now (reply .entry))) (holding node (now (recs .entry))) (storing r (now (recs .entry))) (r .number) ⌝ }
+{
+    lent_user::grugavorn_line(node, recs, place, reply)
+}

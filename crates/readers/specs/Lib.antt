@@ -1,3 +1,0 @@
-pub mod Kinds
-pub mod Refusal
-pub mod Readers

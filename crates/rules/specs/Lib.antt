@@ -1,2 +1,0 @@
-pub mod Survey
-pub mod Check

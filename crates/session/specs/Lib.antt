@@ -1,5 +1,0 @@
-pub mod Request
-pub mod Session
-pub mod Keep
-pub mod Phase
-pub mod Wide

@@ -1,0 +1,15 @@
+use borrow.Author.Tests.{lt-ltb, le-ltb}
+use Rattle.step_control.specs.Step.{lower}
+use Rattle.step_control.proofs.lower.Statement.{statement}
+use Rattle.step_control.proofs.lower.Tie as tie
+
+returns : tie.Need-returns
+unfolding lower
+returns c = rw (lt-ltb _ _ (c .if1 .taken))
+
+returns-2 : tie.Need-returns-2
+unfolding lower
+returns-2 c = rw (le-ltb _ _ (c .if1 .left))
+
+pub lower-spec : {M : Type 1} → statement M
+lower-spec = tie.close (tie.spec returns returns-2)

@@ -1,0 +1,3 @@
+pub mod Survey
+pub mod Check
+pub mod Unclaimed

@@ -1,0 +1,5 @@
+pub mod Amended
+pub mod Create
+pub mod Restart
+pub mod Basis
+pub mod Whole

@@ -1,4 +1,0 @@
-pub mod Outcome
-pub mod Timing
-pub mod OnSession
-pub mod Kept

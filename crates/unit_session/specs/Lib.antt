@@ -1,0 +1,5 @@
+pub mod OwnRequest
+pub mod Session
+pub mod Keep
+pub mod Phase
+pub mod Wide

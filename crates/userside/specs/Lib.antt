@@ -1,3 +1,0 @@
-pub mod UserSide
-pub mod OneRecord
-pub mod Parcel

@@ -1,2 +1,0 @@
-pub mod Imsi
-pub mod Tunnel

@@ -1,0 +1,62 @@
+use Rattle.wire_fields.specs.Refusal.{imsiRefusal}
+use mathlib.Core.Path.{sym, _∙_}
+use borrow.Author.Needs.{needs}
+use Rattle.wire_fields.proofs.imsi_refusal.Statement.{statement}
+use Rattle.wire_fields.proofs.imsi_refusal.Tie as tie
+
+enum-told : tie.Need-enum-told
+enum-told c = search needs
+
+bare-requires : tie.Need-bare-requires
+bare-requires c κs = search needs
+
+enum-told-2 : tie.Need-enum-told-2
+enum-told-2 c = search needs
+
+missing-requires : tie.Need-missing-requires
+missing-requires c κs = search needs
+
+enum-told-3 : tie.Need-enum-told-3
+enum-told-3 c = search needs
+
+short-requires : tie.Need-short-requires
+short-requires c κs = search needs
+
+enum-told-4 : tie.Need-enum-told-4
+enum-told-4 c = search needs
+
+wrong-requires : tie.Need-wrong-requires
+wrong-requires c κs = search needs
+
+returns : tie.Need-returns
+unfolding imsiRefusal
+returns c = rw (c .before .enum-told .given .1, c .bare .ensures)
+
+returns-2 : tie.Need-returns-2
+unfolding imsiRefusal
+returns-2 c = rw (c .before .enum-told2 .given .1, c .missing .ensures)
+
+returns-3 : tie.Need-returns-3
+unfolding imsiRefusal
+returns-3 c = rw (c .before .enum-told3 .given .1, c .short .ensures)
+
+returns-4 : tie.Need-returns-4
+unfolding imsiRefusal
+returns-4 c = rw (c .before .enum-told4 .given .1, c .wrong .ensures)
+
+pub imsi-refusal-spec : {M : Type 1} → statement M
+imsi-refusal-spec =
+    tie.close
+    (tie.spec
+    enum-told
+    bare-requires
+    enum-told-2
+    missing-requires
+    enum-told-3
+    short-requires
+    enum-told-4
+    wrong-requires
+    returns
+    returns-2
+    returns-3
+    returns-4)

@@ -1,0 +1,4 @@
+pub mod Chain
+pub mod Create
+pub mod Change
+pub mod Carried
