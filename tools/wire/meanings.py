@@ -76,7 +76,8 @@ FIELDS = {
 }
 RAT_TYPES = {1: "UTRAN", 2: "GERAN", 3: "WLAN", 4: "GAN", 5: "HSPA Evolution", 6: "EUTRAN", 7: "Virtual"}
 PAA_TYPES = {1: "IPv4", 2: "IPv6", 3: "IPv4v6"}
-INTERFACES = {4: "S5/S8 SGW GTP-U", 5: "S5/S8 PGW GTP-U", 6: "S5/S8 SGW GTP-C", 7: "S5/S8 PGW GTP-C"}
+# S5/S8: the exchange is the SGW (4, 6), the unit the PGW (5, 7)
+INTERFACES = {4: "user", 5: "user", 6: "control", 7: "control"}
 PROTOCOLS = {1: "ICMP", 6: "TCP", 17: "UDP"}
 ACCEPTED = 16
 
