@@ -8,7 +8,7 @@ import os
 import sys
 
 from .datagrams import number
-from .meanings import CONTROL_TYPES
+from .meanings import CONTROL_TYPES, number_words
 
 sys.path.insert(0, os.path.join(os.path.dirname(os.path.abspath(__file__)), "..", "..", "tests", "bench"))
 import gtp  # noqa: E402
@@ -75,6 +75,8 @@ class Run:
             except model.Bad:
                 self.stop = f"line {at} is no line of a bench input, and the output does not say so"
             if self.stop:
+                if self.unit is None:
+                    self.steps.pop()  # the plan was refused before this line was read
                 return
         if self.unit is None and self.plan is not None:
             self._start()
@@ -82,12 +84,13 @@ class Run:
             if self._peek("L"):
                 self.ends = self.out[self.taken:]
             else:
-                self.stop = "the input is empty: E 1" if self._peek("E") else "the output ends before the places' lines"
+                empty = "the input is empty: E 1"
+                self.stop = empty if self._peek("E") else "the output ends before the places' lines"
 
     def _start(self):
         """The plan is taken when the A lines end."""
         if self._peek() == ["16", "-"] and self.taken == 0:
-            self.stop = "the plan is refused, and the run ends: 16"
+            self.stop = f"the plan is refused, number {number_words(16)}"
         elif not self.plan.holds():
             self.stop = "the plan breaks a limit, and the output does not say so"
         else:
@@ -227,6 +230,16 @@ def ranges(places):
             runs.append([place, place])
     text = ", ".join(str(low) if low == high else f"{low} to {high}" for low, high in runs)
     return f"place {text} is" if len(places) == 1 else f"places {text} are"
+
+
+def plan_lines(source):
+    """The N line and the A lines at the head of a bench input, as (lines, plan); ValueError says what is wrong."""
+    lines = source.split(b"\n")
+    count = next((k for k, line in enumerate(lines[1:], 1) if line[:2] != b"A\t"), len(lines))
+    run = Run(b"\n".join(lines[:count]) + b"\n", b"L\t0\n")
+    if run.stop or not lines[0]:
+        raise ValueError(run.stop.split(",")[0] if run.stop else "it is empty")
+    return lines[:count], run.plan
 
 
 def octets_of(text):

@@ -157,14 +157,19 @@ def fields(octets, sent, names):
 
 # ---- datagrams
 
+def cut_header(kind, d):
+    return [f"{counted(len(d))}, no {kind} header ({hexed(d) or 'none'})", f"{ENDS}a header has at least 8 octets"]
+
+
 def control(d, sent=False, names=None):
     """A control datagram in phrases."""
     if len(d) < 8:
-        return [f"{counted(len(d))}, no control header ({hexed(d) or 'none'})", f"{ENDS}a header has at least 8 octets"]
+        return cut_header("control", d)
     version, piggyback, tunnel, kind = d[0] >> 5, d[0] & 0x10, d[0] & 8, d[1]
     head = f"{CONTROL_TYPES.get(kind, 'unknown type')} ({kind}), {counted(len(d))}"
     if version != 2:
-        return [f"version {version}, type {kind}, {counted(len(d))} ({hexed(d)})", f"{ENDS}no version 2 of GTP control"]
+        return [f"version {version}, type {kind}, {counted(len(d))} ({hexed(d)})",
+                f"{ENDS}only version 2 is GTP for control"]
     notes = ["P flag set"] if piggyback else []
     if bool(tunnel) != (kind in TUNNEL_TYPES) and kind in CONTROL_TYPES:
         notes.append(f"T flag {'set' if tunnel else 'not set'}")
@@ -203,7 +208,7 @@ def payload_words(payload):
 def user(d, sent=False, names=None):
     """A user datagram in phrases."""
     if len(d) < 8:
-        return [f"{counted(len(d))}, no user header ({hexed(d) or 'none'})", f"{ENDS}a header has at least 8 octets"]
+        return cut_header("user", d)
     kind, teid = d[1], number(d[4:8])
     head = f"{USER_TYPES.get(kind, 'unknown type')} ({kind}), {counted(len(d))}"
     if d[0] >> 5 != 1 or not d[0] & 0x10:

@@ -121,9 +121,11 @@ def enumerated(text):
 
 def differences(document, header):
     """What docs/NUMBERS.md and the header say otherwise than the table: a line each."""
+    words_of = {number: words for number, (_, words) in NUMBERS.items()}
+    name_of = {number: name for number, (name, _) in NUMBERS.items()}
     for title, found, own in (
-            ("docs/NUMBERS.md, heading", headings(document), {n: words for n, (_, words) in NUMBERS.items()}),
-            ("include/grugavorn.h, enum grugavorn_number", enumerated(header), {n: c for n, (c, _) in NUMBERS.items()}),
+            ("docs/NUMBERS.md, heading", headings(document), words_of),
+            ("include/grugavorn.h, enum grugavorn_number", enumerated(header), name_of),
             ("docs/NUMBERS.md, field", [(key, name) for key, name, _ in named_faults(document)], FAULTS)):
         for key, words in found:
             if own.get(key) != words:
