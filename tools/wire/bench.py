@@ -212,6 +212,9 @@ class Seen:
             found.insert(len(found) if step.letter == "T" else found_before(found), f"{ranges(freed)} freed"
                          + (f", after {unit.plan.sends} sends without an answer" if step.letter == "T" and
                             not found else ""))
+        taken = step.letter == "C" and step.number == 0 and step.datagram[1:2] == bytes([CREATE])
+        if taken and not any("is taken" in text for text in found):
+            found.append("a repeat of a Create: no place is taken")
         return found
 
 

@@ -12,8 +12,9 @@ PLACES, USER_BIT = 64, 128
 ENDS = "it ends here: "
 # the interface types of the unit's own tunnel numbers
 OWN_USER, OWN_CONTROL = 5, 7
-BEARER = 93
-TUNNEL_TYPES = (32, 33, 34, 35, 36, 37, 99, 100)
+BEARER, SHORT = 93, 67
+# the types without a TEID in their header
+BARE_TYPES = (1, 2, 3)
 
 
 def number(octets):
@@ -70,7 +71,9 @@ def imsi(value, instance, sent, names):
 
 def cause(value, instance, sent, names):
     text = cause_words(value[0])
-    return text + (f", at fault: {fault_words(value[2], value[5] & 15)}" if len(value) >= 6 else "")
+    if len(value) >= 6:
+        return f"{text}, at fault: {fault_words(value[2], value[5] & 15)}"
+    return text + (", no field named: an overrun" if sent and value[0] == SHORT else "")
 
 
 def recovery(value, instance, sent, names):
@@ -171,17 +174,17 @@ def control(d, sent=False, names=None):
         return [f"version {version}, type {kind}, {counted(len(d))} ({hexed(d)})",
                 f"{ENDS}only version 2 is GTP for control"]
     notes = ["P flag set"] if piggyback else []
-    if bool(tunnel) != (kind in TUNNEL_TYPES) and kind in CONTROL_TYPES:
+    if bool(tunnel) == (kind in BARE_TYPES) and kind in CONTROL_TYPES:
         notes.append(f"T flag {'set' if tunnel else 'not set'}")
     if number(d[2:4]) != len(d) - 4:
         notes.append(f"length says {counted(number(d[2:4]))} behind the first 4, there are {len(d) - 4}")
     start = 12 if tunnel else 8
     if tunnel:
         teid = number(d[4:8])
-        if sent:
-            notes.append(f"to TEID {teid:08X} of the peer")
-        elif teid == 0:
+        if teid == 0:
             notes.append("header TEID 0")
+        elif sent:
+            notes.append(f"to TEID {teid:08X} of the peer")
         else:
             notes.append(f"header {own_teid(teid)}")
     if len(d) < start:
