@@ -95,6 +95,7 @@ def left_out(one, line):
         "a later fragment": ip(letter, octets, more=0x00B9), "TCP": ip(letter, octets, protocol=6),
         "IPv6": b"\x60" + bytes(47), "nothing": b"", "a cut header": whole[:15], "a cut UDP header": whole[:24],
         "over 2,048 octets": ip(letter, bytes(2049)),
+        "a UDP length over the packet's": whole[:2] + struct.pack(">H", len(whole) - 1) + whole[4:],
     }
     for name, frame in others.items():
         frames = [(START, 0, frame, len(frame)), (START, 0, good, len(good))]
