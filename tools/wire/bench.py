@@ -7,7 +7,7 @@ prints something else for a line than the bench did, the step says so.
 import os
 import sys
 
-from .datagrams import number
+from .datagrams import PLACES, USER_BIT, number
 from .meanings import CONTROL_TYPES, number_words
 
 sys.path.insert(0, os.path.join(os.path.dirname(os.path.abspath(__file__)), "..", "..", "tests", "bench"))
@@ -128,8 +128,9 @@ class Run:
         """What was printed for the line, and what the model makes of it."""
         unit, before = self.unit, Seen(self.unit)
         said = self._peek()
-        if said is None or not said[0].isdecimal() or len(said) not in (2, 3):
-            self.stop = f"the output ends before line {step.at} is answered"
+        fits = said is not None and said[0].isdecimal() and len(said[0]) <= 3
+        if not fits or len(said) not in ((2, 3) if step.letter == "U" else (2,)):
+            self.stop = f"the output has no answer to line {step.at}"
             return
         self.taken += 1
         call = {"C": unit.control, "U": unit.user, "X": unit.close, "T": unit.tick}[step.letter]
@@ -139,7 +140,7 @@ class Run:
         step.payload = octets_of(said[2]) if len(said) == 3 else None
         self._compare(step, "\t".join(said), printed_line(*call(*given)))
         if step.payload is not None:
-            step.handed = (number(step.datagram[4:8]) & 255) - 128
+            step.handed = (number(step.datagram[4:8]) & 255) % USER_BIT % PLACES
         while step.letter in "TX":
             due, told = unit.send_next(), self._peek("D")
             if told is None:

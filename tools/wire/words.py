@@ -3,7 +3,7 @@
 Each function answers phrases; tools/explain lays them out, tools/annotate makes packet comments of them.
 """
 from . import datagrams
-from .datagrams import counted, dotted, name_text, own_teid
+from .datagrams import counted, dotted, name_text
 from .meanings import number_words
 
 STATES = {"F": "free", "L": "live", "X": "closing"}
@@ -74,28 +74,30 @@ def own_address(plan, place):
 
 
 def place_words(run, parts):
-    """The line of a place at the end."""
-    if len(parts) == 2 and parts[0] == "L" and parts[1].isdecimal():
-        return [f"{counted(int(parts[1]), 'place')} live or closing"]
-    if len(parts) != 11 or not (parts[0].isdecimal() and parts[1].isdecimal()) or parts[2] not in STATES:
-        return [f"no line of a place: {' '.join(parts)[:80]}"]
-    place, use = int(parts[0]), int(parts[1])
-    found = [f"place {place}, use {use}: {STATES[parts[2]]}"]
-    if parts[2] == "F":
-        return found
+    """A line at the end of an output: the live count, or a place."""
     try:
-        point, names = int(parts[3]), run.names or []
-        named = name_text(names[point]) if point < len(names) else "not in the plan"
-        control, user = int(parts[6]), int(parts[8])
-        return found + [
-            f"access point {point} ({named})", f"IMSI {parts[4]}", f"EBI {parts[5]}",
-            f"address {own_address(run.plan, place)}",
-            f"own {own_teid(use * 256 + place)}".split(":")[0],
-            f"own {own_teid(use * 256 + 128 + place, False)}".split(":")[0],
-            f"peer control TEID {control:08X} at {dotted(bytes.fromhex(parts[7]))}",
-            f"peer user TEID {user:08X} at {dotted(bytes.fromhex(parts[9]))}", f"creating sequence number {parts[10]}"]
-    except ValueError:
-        return found + [f"its fields cannot be read: {' '.join(parts[3:])[:80]}"]
+        if len(parts) == 2 and parts[0] == "L":
+            return [f"{counted(int(parts[1]), 'place')} live or closing"]
+        return line_of_place(run, parts)
+    except (ValueError, IndexError, KeyError, OverflowError):
+        return [f"no line of a place: {' '.join(parts)[:80]}"]
+
+
+def line_of_place(run, parts):
+    """The line of a place; an exception where it is none."""
+    place, use, state = int(parts[0]), int(parts[1]), STATES[parts[2]]
+    if len(parts) != 11 or not 0 <= place < datagrams.PLACES:
+        raise ValueError
+    found = [f"place {place}, use {use}: {state}"]
+    if state == "free":
+        return found
+    point, control, user = int(parts[3]), int(parts[6]), int(parts[8])
+    return found + [
+        f"access point {point} ({name_text(run.names[point])})", f"IMSI {parts[4]}", f"EBI {parts[5]}",
+        f"address {own_address(run.plan, place)}", f"own control TEID {use * 256 + place:08X}",
+        f"own user TEID {use * 256 + datagrams.USER_BIT + place:08X}",
+        f"peer control TEID {control:08X} at {dotted(int(parts[7], 16))}",
+        f"peer user TEID {user:08X} at {dotted(int(parts[9], 16))}", f"creating sequence number {parts[10]}"]
 
 
 def answer_words(step):
