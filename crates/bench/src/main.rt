@@ -12,7 +12,8 @@ ghost use Rattle.bench.specs.Room.{goesOn, anewOf, startAnew, runPrints,
 ghost use Rattle.bench_unit.specs.State.{ran};
 ghost use Rattle.bench_unit.specs.Whole.{endPrints};
 
-// What was printed goes out. Where it cannot be written the run ends.
+// What was printed goes out. Where it cannot be written the run ends, and standard error has a word on it: a program of this language has no
+// exit status of its own, so that `./run` goes by that word.
 fn emit(mut b: Bench, out: &[u8]) -> Bench
     ensures { λ r. ⌜ r .made ≡ 0 ⌝ }
 {
@@ -23,6 +24,7 @@ fn emit(mut b: Bench, out: &[u8]) -> Bench
         if done {
             return b;
         }
+        io::write_all(2, b"bench: the output could not be written\n");
     }
     b.phase = Bench::OVER;
     b
