@@ -156,43 +156,45 @@ class Unit:
 
 
 class Peer:
-    """An exchange with both ports. It answers echoes on its own, if it is to, and Delete Bearers; all else waits in
-    `control` and `user`."""
+    """An exchange with both ports. It answers echoes on its own, if it is to, and Delete Bearers for tunnels that it
+    knows; all else waits in `control` and `user`. Its answers go to `answers`, or to where the request came from."""
 
-    def __init__(self, own, echoes=True, deletes=True):
-        self.own, self.echoes, self.deletes, self.recovery = own, echoes, deletes, None
+    def __init__(self, own, answers=None):
+        self.own, self.answers, self.echoes, self.deletes, self.recovery = own, answers, True, True, None
         self.control, self.user = queue.Queue(), queue.Queue()
         self.came = {CONTROL: [], USER: []}  # all datagrams, in order
-        self.sockets = {}
+        self.tunnels = {}  # the other side's control TEIDs by the own ones
+        self.sockets, self.readers, self.ending = {}, [], False
         for port, waiting in ((CONTROL, self.control), (USER, self.user)):
             s = socket.socket(socket.AF_INET, socket.SOCK_DGRAM)
             s.setsockopt(socket.SOL_SOCKET, socket.SO_RCVBUF, 4 << 20)
             s.bind((own, port))
+            s.settimeout(0.1)
             self.sockets[port] = s
-            threading.Thread(target=self._read, args=(s, port, waiting), daemon=True).start()
+            self.readers.append(threading.Thread(target=self._read, args=(s, port, waiting), daemon=True))
+            self.readers[-1].start()
 
     def _read(self, s, port, waiting):
-        while True:
+        while not self.ending:
             try:
                 datagram, source = s.recvfrom(4096)
-            except OSError:
-                return
+            except socket.timeout:
+                continue
             self.came[port].append(datagram)
-            kind = datagram[1] if len(datagram) > 1 else 0
-            if port == CONTROL and kind == 1 and self.echoes:
+            kind = datagram[1] if port == CONTROL and len(datagram) > 1 else 0
+            if kind == 1 and self.echoes:
                 fields = [] if self.recovery is None else [build.recovery(self.recovery)]
-                s.sendto(build.echo_reply(number_of(datagram), *fields), source)
-            elif port == CONTROL and kind == 99 and self.deletes:
-                s.sendto(self.deleted(datagram), source)
+                s.sendto(build.echo_reply(number_of(datagram), *fields), self.answers or source)
+            elif kind == 99 and self.deletes and int.from_bytes(datagram[4:8], "big") in self.tunnels:
+                s.sendto(self.deleted(datagram), self.answers or source)
             else:
                 waiting.put(datagram)
 
-    # own control TEIDs by the peer's, for the answers to Delete Bearers
-    tunnels = {}
-
     def deleted(self, request):
-        teid = self.tunnels.get(int.from_bytes(request[4:8], "big"), 0)
-        return build.bearer_deleted(teid, number_of(request), build.cause(16))
+        """The answer to a Delete Bearer."""
+        teid = self.tunnels[int.from_bytes(request[4:8], "big")]
+        return build.bearer_deleted(teid, number_of(request), build.cause(16), build.ebi(5),
+                                    build.bearer(build.ebi(5), build.cause(16)))
 
     def send(self, datagram, to, port=CONTROL):
         self.sockets[port].sendto(datagram, (to, port))
@@ -218,10 +220,13 @@ class Peer:
         if reply is None or len(reply) != 78 or cause_of(reply) != 16:
             return reply
         own = int.from_bytes(reply[23:27], "big")
-        self.tunnels = {**self.tunnels, teid: own}
+        self.tunnels[teid] = own
         return own, int.from_bytes(reply[65:69], "big"), socket.inet_ntoa(reply[36:40])
 
     def end(self):
+        self.ending = True
+        for reader in self.readers:
+            reader.join()
         for s in self.sockets.values():
             s.close()
 
