@@ -326,10 +326,10 @@ int main(int count, char **words) {
   for (size_t i = 0; i < GRUGAVORN_PLACES; i++)
     unit.records[i].usage = first_use;
   exchange = with.peers[0];
-  note_plan(&plan);
-  flush();
   int clock = clock_of(with.tick), signals = signals_of();
   fprintf(stderr, "unit: restart counter %u, uses from %" PRIu32 "\n", plan.recovery, first_use);
+  note_plan(&plan);
+  flush();
   serve(clock, signals);
   print_places();
   flush();

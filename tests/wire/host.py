@@ -73,6 +73,7 @@ class Unit:
         line = self.process.stderr.readline()
         start = re.match(r"unit: restart counter (\d+), uses from (\d+)$", line)
         if start is None:
+            self.kill()
             raise RuntimeError("the unit did not start: %s" % (line.strip() or "no word"))
         self.counter, self.first_use = int(start.group(1)), int(start.group(2))
         threading.Thread(target=self._read, daemon=True).start()
