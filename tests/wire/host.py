@@ -68,15 +68,15 @@ class Unit:
         command = [*before, X86, program, *words, plan]
         self.process = subprocess.Popen(command, stdin=subprocess.PIPE, stdout=subprocess.PIPE,
                                         stderr=subprocess.PIPE, text=True, bufsize=1)
-        self.lines = queue.Queue()
-        self.packets = []
-        line = self.process.stderr.readline()
+        self.lines, self.words, self.packets = queue.Queue(), queue.Queue(), []
+        threading.Thread(target=self._read, daemon=True).start()
+        threading.Thread(target=self._read_words, daemon=True).start()
+        line = self.word()
         start = re.match(r"unit: restart counter (\d+), uses from (\d+)$", line)
         if start is None:
             self.kill()
-            raise RuntimeError("the unit did not start: %s" % (line.strip() or "no word"))
+            raise RuntimeError("the unit did not start: %s" % (line or "no word"))
         self.counter, self.first_use = int(start.group(1)), int(start.group(2))
-        threading.Thread(target=self._read, daemon=True).start()
 
     def _read(self):
         for line in self.process.stdout:
@@ -85,6 +85,18 @@ class Unit:
                 self.packets.append(line)
             else:
                 self.lines.put(line)
+
+    def _read_words(self):
+        for line in self.process.stderr:
+            self.words.put(line.rstrip("\n"))
+        self.words.put("")
+
+    def word(self):
+        """The next line on standard error; empty if none comes."""
+        try:
+            return self.words.get(timeout=WAIT)
+        except queue.Empty:
+            return ""
 
     def order(self, text):
         self.process.stdin.write(text + "\n")
@@ -164,6 +176,7 @@ class Peer:
         self.own, self.answers, self.echoes, self.deletes, self.recovery = own, answers, True, True, None
         self.control, self.user = queue.Queue(), queue.Queue()
         self.came = {CONTROL: [], USER: []}  # all datagrams, in order
+        self.elsewhere = []  # those that came from another port than they came to
         self.tunnels = {}  # the other side's control TEIDs by the own ones
         self.sockets, self.readers, self.ending = {}, [], False
         for port, waiting in ((CONTROL, self.control), (USER, self.user)):
@@ -182,6 +195,8 @@ class Peer:
             except socket.timeout:
                 continue
             self.came[port].append(datagram)
+            if source[1] != port:
+                self.elsewhere.append(datagram)
             kind = datagram[1] if port == CONTROL and len(datagram) > 1 else 0
             if kind == 1 and self.echoes:
                 fields = [] if self.recovery is None else [build.recovery(self.recovery)]
@@ -201,7 +216,10 @@ class Peer:
         self.sockets[port].sendto(datagram, (to, port))
 
     def ask(self, datagram, to, port=CONTROL, seconds=WAIT):
-        """Sends, and answers what comes next on that port; None if nothing does."""
+        """Sends, and answers what comes then on that port, not what waits there from before; None if nothing does."""
+        waiting = self.control if port == CONTROL else self.user
+        while not waiting.empty():
+            waiting.get()
         self.send(datagram, to, port)
         return self.next(port, seconds)
 
