@@ -243,14 +243,17 @@ def through_the_sgw(c, runs, sgw):
     c.same("restart of the unit: it ends with 0, one session live", (status, report[0][0]), (0, "L\t1"))
     unit = runs.start("sgw", *words)
     c.same("restart of the unit: the counter is 8", unit.counter, 8)
-    c.same("restart of the unit: another handset gets place 0", sgw.create(21), "100.64.0.1")
+    # the session of before had place 0 in its third use: without -u the third handset's tunnels would be the same
+    c.same("restart of the unit: three handsets, one after another, get place 0",
+           [(sgw.create(21 + k), k < 2 and sgw.delete(21 + k)) for k in range(3)],
+           [("100.64.0.1", 16), ("100.64.0.1", 16), ("100.64.0.1", False)])
     sgw.packet(20, b"of before")
     time.sleep(0.3)
     c.same("restart of the unit: a packet of before is 15", unit.places()[1].get(15), 1)
     c.same("restart of the unit: and is not handed up as the new session's", unit.packets, [])
-    sgw.packet(21, b"of now")
+    sgw.packet(23, b"of now")
     c.same("restart of the unit: the new session's is", unit.packet(1), (0, b"of now"))
-    c.same("restart of the unit: Delete", sgw.delete(21), 16)
+    c.same("restart of the unit: Delete", sgw.delete(23), 16)
 
     # the handset of before is in the SGW still; a fresh one serves the crowd
     sgw.restart()
