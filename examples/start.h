@@ -28,7 +28,7 @@ typedef struct {
 options options_of(int count, char **words);
 
 /* says what is wrong, and ends the program */
-void fail(const char *what);
+_Noreturn void fail(const char *what);
 
 /* Reads a plan from the lines N and A of a bench input; a file that has anything else is refused. */
 grugavorn_plan plan_of(const char *path);

@@ -18,6 +18,7 @@ import build  # noqa: E402
 
 CONTROL, USER = 2123, 2152
 WAIT = 5  # seconds for what has to come
+USER_ECHO, USER_ECHOED = bytes.fromhex("320100040000000000070000"), bytes.fromhex("3202000600000000000700000E00")
 
 
 def address(text):
