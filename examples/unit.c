@@ -20,15 +20,7 @@
 /* LONGEST: octets of a datagram, at most, as on the bench. BATCH: datagrams that a port may bring before the
  * clock is looked at again. CLOSES: of a tick, at the end, since an exchange may not bear 64 at once. USES:
  * the use numbers that each start has for itself; 256 times this is one more than the last of them. */
-enum {
-  CONTROL_PORT = 2123,
-  USER_PORT = 2152,
-  LONGEST = 2048,
-
-  BATCH = 64,
-  CLOSES = 4,
-  USES = 65536
-};
+enum { CONTROL_PORT = 2123, USER_PORT = 2152, LONGEST = 2048, BATCH = 64, CLOSES = 4, USES = 65536 };
 
 /* the message types that the host looks at */
 enum { ECHO_RESPONSE = 2, CREATE = 32, PACKET = 255 };

@@ -2,6 +2,7 @@
 second one, behind one link; everything that it sends is captured there. FOLDER has the program, `unit`, and gets plans,
 journals and the capture."""
 import os
+import signal
 import struct
 import subprocess
 import sys
@@ -204,4 +205,6 @@ def main(folder, which, seed):
 
 
 if __name__ == "__main__":
+    # so that what was started ends too when the time is over
+    signal.signal(signal.SIGTERM, lambda *_: sys.exit(1))
     sys.exit(main(sys.argv[1], sys.argv[2], int(sys.argv[3])))
