@@ -70,7 +70,7 @@ pub record Demand2 : Type 0 where
   pub lines : LinesWhole
   pub notOneReply : NotOneReply
 
--- 3. A rented place stays rented: from a fresh table under an accepted plan, after any run of calls
+-- 3. A rented place stays rented: from any table that keeps its rules under an accepted plan, of which a fresh one is one, after any run of calls
 pub record Demand3 : Type 0 where
   pub hosts : HostsRun
   pub keep : CallsKeep
