@@ -1,6 +1,6 @@
 -- A host's run is a run. A host holds the node and the records; it lends them to one exported call after another and stores the node that
--- comes back. Of a call nothing is known but its contract and its types: that is `Called`, and crate hosts shows that each exported function
--- meets it. So what the demands say of runs (Run.antt) they say of hosts, and a host owes nothing for it.
+-- comes back. Of a call nothing is known but its contract and its types: that is `Called`, and crate promise_hosts shows that each exported
+-- function meets it. So what the demands say of runs (Run.antt) they say of hosts, and a host owes nothing for it.
 -- Assumes nothing.
 use Prim.Native.Nat.{ℕ, suc, _<_}
 use mathlib.Core.Bool.{true}

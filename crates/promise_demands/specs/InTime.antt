@@ -270,4 +270,4 @@ closed-gone p i h s g c later o f m =
 
 pub freed-in-time : FreedInTime
 unfolding FreedInTime
-freed-in-time p s es r i h = closed-gone p i h (run es s) (run-start p s es r)
+freed-in-time p s es r i h c later o f m = closed-gone p i h (run es s) (run-start p s es r) c later o f (omega arith)
