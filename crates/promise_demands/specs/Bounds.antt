@@ -19,14 +19,14 @@ use Rattle.unit_session.specs.declared.OwnRequest.{OwnRequest}
 use Rattle.unit_session.specs.declared.Session.{Session}
 use Rattle.unit_session.specs.Session.{isFree, hasId}
 use Rattle.unit_session.specs.Keep.{ok-usage}
-use Rattle.unit_table.specs.Rules.{liveOn, live, boundsOf, Rules, rules-of}
+use Rattle.unit_table.specs.Rules.{liveOn, boundsOf, Rules, rules-of}
 use Rattle.unit_table.specs.Change.{nobody, record-ok}
 use Rattle.unit_table.specs.Find.{found-only}
 use Rattle.promise_demands.specs.Numbers.{among-other, tickNumbers, closeNumbers, sendNumbers, controlNumbers, lineNumbers, TickNumbers, CloseNumbers, SendNumbers, ControlNumbers, LineNumbers, tick-numbers, close-numbers, send-numbers, control-numbers, line-numbers}
 use Rattle.promise_demands.specs.UserNumbers.{userNumbers, UserNumbers, user-numbers}
 use Rattle.call_own.specs.Outcome.{State}
-use Rattle.promise_demands.specs.Run.{Event, control, user, tick, send, close, line, answered, reached, Run, Kept, reached-keeps}
-use Rattle.promise_demands.specs.Stays.{reached-plan}
+use Rattle.promise_demands.specs.Run.{Event, control, user, tick, send, close, line, answered, run, Kept, Start, Run}
+use Rattle.promise_demands.specs.Stays.{run-start}
 
 -- the record of a place
 abbrev pub at : State → ℕ → Session
@@ -36,25 +36,23 @@ at s i = getD (s .table) i nobody
 abbrev pub u : State → ℕ → ℕ
 u s a = liveOn a (s .table)
 
--- ---- the rules by name, under the plan the run was started with
+-- ---- the rules by name, under the plan of the start
 under-plan : (q p : Plan) (echo : OwnRequest) (next : ℕ) (l : List Session) → q ≡ p → Rules q echo next l → Rules p echo next l
 under-plan q p echo next l e r = rw (← e) r
 
-pub reached-rules : (p : Plan) (es : List Event) → Run p es → Rules p (reached p es .node .echo) (reached p es .node .next) (reached p es .table)
-reached-rules p es r =
-    under-plan (reached p es .node .plan) p (reached p es .node .echo) (reached p es .node .next) (reached p es .table) (reached-plan p es (r .plan))
-    (rules-of (reached p es .node) (reached p es .table) (reached-keeps p es r))
+pub start-rules : (p : Plan) (s : State) → Start p s → Rules p (s .node .echo) (s .node .next) (s .table)
+start-rules p s g = under-plan (s .node .plan) p (s .node .echo) (s .node .next) (s .table) (g .plan) (rules-of (s .node) (s .table) (g .rules))
 
 -- ---- 2 and 11
 unfoldable pub RulesHold : Type 0
-RulesHold = (p : Plan) (es : List Event) → Run p es → Kept (reached p es)
+RulesHold = (p : Plan) (s : State) (es : List Event) → Run p s es → Start p (run es s)
 
 unfoldable pub NeitherTwoNorEleven : Type 0
-NeitherTwoNorEleven = (p : Plan) (es : List Event) → Run p es → (e : Event) → (answered e (reached p es) ≢ 2) × (answered e (reached p es) ≢ 11)
+NeitherTwoNorEleven = (p : Plan) (s : State) (es : List Event) → Run p s es → (e : Event) → (answered e (run es s) ≢ 2) × (answered e (run es s) ≢ 11)
 
 pub rules-hold : RulesHold
 unfolding RulesHold
-rules-hold = reached-keeps
+rules-hold = run-start
 
 kept-neither : (s : State) → Kept s → (e : Event) → (answered e s ≢ 2) × (answered e s ≢ 11)
 unfolding answered tickNumbers closeNumbers sendNumbers controlNumbers lineNumbers userNumbers TickNumbers CloseNumbers SendNumbers ControlNumbers LineNumbers UserNumbers
@@ -79,16 +77,16 @@ kept-neither s k (line place reply) =
 
 pub neither-two-nor-eleven : NeitherTwoNorEleven
 unfolding NeitherTwoNorEleven
-neither-two-nor-eleven p es r = kept-neither (reached p es) (reached-keeps p es r)
+neither-two-nor-eleven p s es r = kept-neither (run es s) (run-start p s es r .rules)
 
 -- ---- u ≤ c and S ≤ places
 unfoldable pub CeilingsKept : Type 0
-CeilingsKept = (p : Plan) (es : List Event) → Run p es
-    → ((a : ℕ) → a < parties p → u (reached p es) a ≤ ceilingAt p a) × (shareOf p (u (reached p es)) ≤ places)
+CeilingsKept = (p : Plan) (s : State) (es : List Event) → Run p s es
+    → ((a : ℕ) → a < parties p → u (run es s) a ≤ ceilingAt p a) × (shareOf p (u (run es s)) ≤ places)
 
 pub ceilings-kept : CeilingsKept
 unfolding CeilingsKept places
-ceilings-kept p es r = let w = reached-rules p es r .within in (w .under, w .room)
+ceilings-kept p s es r = let w = start-rules p (run es s) (run-start p s es r) .within in (w .under, w .room)
 
 -- ---- two places that are live or closing
 pub record Apart (p : Plan) (i j : ℕ) (s d : Session) : Type 0 where
@@ -104,10 +102,10 @@ pub record Own (i : ℕ) (s : Session) : Type 0 where
   pub kinds : (j v : ℕ) → j < places → controlNumber (s .usage) i ≢ userNumber v j
 
 unfoldable pub NoneShared : Type 0
-NoneShared = (p : Plan) (es : List Event) → Run p es → (i : ℕ) → i < places
-    → Own i (at (reached p es) i)
-    × ((j : ℕ) → j < places → i ≢ j → isFree (at (reached p es) i) ≡ false → isFree (at (reached p es) j) ≡ false
-    → Apart p i j (at (reached p es) i) (at (reached p es) j))
+NoneShared = (p : Plan) (s : State) (es : List Event) → Run p s es → (i : ℕ) → i < places
+    → Own i (at (run es s) i)
+    × ((j : ℕ) → j < places → i ≢ j → isFree (at (run es s) i) ≡ false → isFree (at (run es s) j) ≡ false
+    → Apart p i j (at (run es s) i) (at (run es s) j))
 
 addresses-apart : (pool i j : ℕ) → i < places → j < places → i ≢ j → addressOf pool i ≢ addressOf pool j
 unfolding addressOf places addresses
@@ -117,31 +115,31 @@ has-id : (s : Session) → isFree s ≡ false → hasId (s .imsi) (s .ebi) s ≡
 unfolding hasId
 has-id s n = rw (n, eq-eqb (s .imsi) (s .imsi) refl, eq-eqb (s .ebi) (s .ebi) refl)
 
-pub none-shared : NoneShared
-unfolding NoneShared places teids
-none-shared p es r i h = (
-  own,
-  λ j k n f g. record {
+module _ (p : Plan) (s : State) (g : Start p s) (i : ℕ) (h : i < places) where
+  rules : Rules p (s .node .echo) (s .node .next) (s .table)
+  rules = start-rules p s g
+
+  usage : at s i .usage ≤ lastUse
+  usage = ok-usage (boundsOf p) (at s i) (record-ok p (s .node .echo) (s .node .next) (s .table) rules i)
+
+  own : Own i (at s i)
+  unfolding places teids
+  own = record {
+    control = number-fits controlOffset (at s i .usage) i control-fits h usage;
+    user = number-fits userOffset (at s i .usage) i user-fits h usage;
+    kinds = λ j v k. kinds-apart (at s i .usage) i v j h k;
+  }
+
+  apart : (j : ℕ) → j < places → i ≢ j → isFree (at s i) ≡ false → isFree (at s j) ≡ false → Apart p i j (at s i) (at s j)
+  unfolding places
+  apart j k n a b = record {
     controls = λ e. n (number-same controlOffset (at s i .usage) i (at s j .usage) j control-fits h k e .1);
     users = λ e. n (number-same userOffset (at s i .usage) i (at s j .usage) j user-fits h k e .1);
     addresses = addresses-apart (p .pool) i j h k n;
-    ids = λ e b. n (found-only (hasId (at s j .imsi) (at s j .ebi)) (s .table) i j (q .once (at s j .imsi) (at s j .ebi)) (let z = q .size in omega arith) (let z = q .size in omega arith)
-        (rw (← e, ← b) (has-id (at s i) f)) (has-id (at s j) g));
-  },
-)
-  where
-    s : State
-    s = reached p es
+    ids = λ e o. n (found-only (hasId (at s j .imsi) (at s j .ebi)) (s .table) i j (rules .once (at s j .imsi) (at s j .ebi)) (let z = rules .size in omega arith) (let z = rules .size in omega arith)
+        (rw (← e, ← o) (has-id (at s i) a)) (has-id (at s j) b));
+  }
 
-    q : Rules p (reached p es .node .echo) (reached p es .node .next) (reached p es .table)
-    q = reached-rules p es r
-
-    usage : at (reached p es) i .usage ≤ lastUse
-    usage = ok-usage (boundsOf p) (at (reached p es) i) (record-ok p (reached p es .node .echo) (reached p es .node .next) (reached p es .table) q i)
-
-    own : Own i (at (reached p es) i)
-    own = record {
-      control = number-fits controlOffset (at (reached p es) i .usage) i control-fits h usage;
-      user = number-fits userOffset (at (reached p es) i .usage) i user-fits h usage;
-      kinds = λ j v k. kinds-apart (at (reached p es) i .usage) i v j h k;
-    }
+pub none-shared : NoneShared
+unfolding NoneShared
+none-shared p s es r i h = let g = run-start p s es r in (own p (run es s) g i h, apart p (run es s) g i h)

@@ -26,6 +26,7 @@ use Rattle.promise_demands.specs.Ticks.{EveryTickCounts, every-tick-coun
 use Rattle.promise_demands.specs.Impossible.{NotAllRefused, NotOneReply, CountedFromRecords, not-all-refused, not-one-reply, counted-from-records}
 use Rattle.promise_demands.specs.Bounds.{RulesHold, NeitherTwoNorEleven, CeilingsKept, NoneShared, rules-hold, neither-two-nor-eleven, ceilings-kept, none-shared}
 use Rattle.promise_demands.specs.Hosts.{HostsRun, hosts-run}
+use Rattle.promise_demands.specs.Uses.{AnyUsesStart, any-uses-start}
 use Rattle.promise_demands.specs.Share.{RefusalsJust, GuaranteesKept, FreedIsRoom, refusals-just, guarantees-kept, freed-is-room}
 
 -- 1. Every datagram, table and plan gets an answer, and the call ends; for each refusal it is fixed which number comes, and what buffer and
@@ -70,9 +71,10 @@ pub record Demand2 : Type 0 where
   pub lines : LinesWhole
   pub notOneReply : NotOneReply
 
--- 3. A rented place stays rented: from a fresh table under an accepted plan, after any run of calls
+-- 3. A rented place stays rented: from any table that keeps its rules under an accepted plan, of which a fresh one is one, after any run of calls
 pub record Demand3 : Type 0 where
   pub hosts : HostsRun
+  pub uses : AnyUsesStart
   pub keep : CallsKeep
   pub rules : RulesHold
   pub neither : NeitherTwoNorEleven
@@ -129,6 +131,7 @@ demand-2 = record {
 pub demand-3 : Demand3
 demand-3 = record {
   hosts = hosts-run;
+  uses = any-uses-start;
   keep = calls-keep;
   rules = rules-hold;
   neither = neither-two-nor-eleven;

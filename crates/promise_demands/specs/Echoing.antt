@@ -1,8 +1,8 @@
 -- The unit's own echo, resent: from when it falls due, if no tick comes while it is due, it is sent for the k-th time when (k - 1) × T ticks have
 -- gone by, each time with the same number; nobody answering, the N × T-th tick gives it up, and frees all places.
 -- Assumes nothing.
-use Prim.Native.Nat.{ℕ, _+_, _-_, _*_, _%_, _<_, _≤_}
-use mathlib.Core.Bool.{Bool, true, false, not, _&&_, _||_}
+use Prim.Native.Nat.{ℕ, _+_, _*_, _%_, _<_, _≤_}
+use mathlib.Core.Bool.{Bool, true, false, not, _&&_}
 use mathlib.Core.List.{List, [], _∷_}
 use mathlib.Core.Path.{_≡_, refl, sym, _∙_, ap}
 use native.Mathlib.Omega.{arith}
@@ -16,11 +16,10 @@ use Rattle.base_octets.specs.Sums.{sumOf}
 use Rattle.base_octets.specs.Overlay.{overlay}
 use Rattle.unit_plan.specs.declared.Plan.{Plan}
 use Rattle.unit_plan.specs.Limits.{mostSends}
-use Rattle.unit_plan.specs.Plan.{accepted, accepted-figures}
+use Rattle.unit_plan.specs.Plan.{accepted-figures}
 use Rattle.unit_session.specs.declared.Session.{Session}
 use Rattle.unit_session.specs.declared.OwnRequest.{OwnRequest}
 use Rattle.unit_session.specs.OwnRequest.{spent, sentOnce, countedDown, InRange, range-of}
-use Rattle.unit_session.specs.Session.{isFree}
 use Rattle.unit_table.specs.declared.Node.{Node}
 use Rattle.unit_table.specs.Rules.{keepsRules, rules-of}
 use Rattle.unit_table.specs.Own.{rested, echoTicked, hearing, duePlace}
@@ -36,8 +35,8 @@ use Rattle.call_asked.specs.declared.Asked.the-variants as A
 use Rattle.call_asked.specs.Asked.{askedOf}
 use Rattle.call_control.specs.Control.{askedTaken, controlTaken}
 use Rattle.call_control.specs.CreatesKept.{heard-plan}
-use Rattle.promise_demands.specs.Run.{left, Event, control, user, tick, send, close, line, step, run, line-step, ofOctets, Kept, step-keeps}
-use Rattle.promise_demands.specs.Stays.{asked-part, step-plan}
+use Rattle.promise_demands.specs.Run.{left, Event, control, user, tick, send, close, line, step, run, line-step, ofOctets, Start, start-accepted}
+use Rattle.promise_demands.specs.Stays.{asked-part, step-start}
 use Rattle.promise_demands.specs.Bounds.{at}
 use Rattle.promise_demands.specs.InTime.{isTick, ticksIn}
 
@@ -73,7 +72,7 @@ pub record Echoes (p : Plan) (later : List Event) (s : State) : Type 0 where
 
 -- from any table that keeps its rules under an accepted plan, where the echo has fallen due
 unfoldable pub EchoWhole : Type 0
-EchoWhole = (p : Plan) (s : State) → Kept s → s .node .plan ≡ p → s .node .echo .sends ≡ 0 → s .node .echo .timer ≡ 0
+EchoWhole = (p : Plan) (s : State) → Start p s → s .node .echo .sends ≡ 0 → s .node .echo .timer ≡ 0
     → (later : List Event) → every ofOctets later ≡ true → echoPrompt later s ≡ true → underWay later s ≡ true → Echoes p later (run later s)
 
 -- ---- proofs
@@ -106,65 +105,55 @@ unfolding countedDown
 down-spends t r n = let z = eqb-false (r .timer) 0 n in record { spends = omega arith; number = λ o. refl }
 
 module _ (p : Plan) where
-  record Good (s : State) : Type 0 where
-    kept : Kept s
-    plan : s .node .plan ≡ p
-
-  good-step : (e : Event) (s : State) → ofOctets e ≡ true → Good s → Good (step e s)
-  good-step e s o g = record { kept = step-keeps e s o (g .kept); plan = step-plan e s ∙ g .plan }
-
-  planned : (s : State) → Good s → accepted p ≡ true
-  planned s g = rw (← g .plan) (rules-of (s .node) (s .table) (g .kept) .planned)
-
-  in-range : (s : State) → Good s → InRange (p .interval) (p .resend) (p .sends) (s .node .echo)
+  in-range : (s : State) → Start p s → InRange (p .interval) (p .resend) (p .sends) (s .node .echo)
   in-range s g =
       rw (← g .plan)
-      (range-of (s .node .plan .interval) (s .node .plan .resend) (s .node .plan .sends) (s .node .echo) (rules-of (s .node) (s .table) (g .kept) .echoes))
+      (range-of (s .node .plan .interval) (s .node .plan .resend) (s .node .plan .sends) (s .node .echo) (rules-of (s .node) (s .table) (g .rules) .echoes))
 
-  few : (s : State) → Good s → s .node .echo .sends < 255
+  few : (s : State) → Start p s → s .node .echo .sends < 255
   unfolding mostSends
   few s g =
       let r = in-range s g in
-      let n = accepted-figures p (planned s g) .last in
+      let n = accepted-figures p (start-accepted p s g) .last in
       split (eqb (s .node .echo .sends) 0) (λ z. omega (arith, tests)) (λ z. let m = r .most (omega (arith, tests)) in omega arith)
 
   -- an echo at rest waits E ticks, which are some
-  rests : (s : State) → Good s → (r : OwnRequest) → atRest (rested (p .interval) r) ≡ true
+  rests : (s : State) → Start p s → (r : OwnRequest) → atRest (rested (p .interval) r) ≡ true
   unfolding atRest rested
-  rests s g r = let e = accepted-figures p (planned s g) .echoes in rw (ne-eqb (p .interval) 0 (λ z. omega arith))
+  rests s g r = let e = accepted-figures p (start-accepted p s g) .echoes in rw (ne-eqb (p .interval) 0 (λ z. omega arith))
 
-  reply-rests : (s : State) → Good s → (r : Recovery) (reply : List ℕ) → atRest (askedTaken (s .node) (s .table) (A.EchoReply r) reply .answer .node .echo) ≡ true
+  reply-rests : (s : State) → Start p s → (r : Recovery) (reply : List ℕ) → atRest (askedTaken (s .node) (s .table) (A.EchoReply r) reply .answer .node .echo) ≡ true
   unfolding askedTaken echoReplyTaken echoEnded timed noReply
   reply-rests s g r reply = by (heardBy r (s .node) (s .table) .node .plan .interval) (ap (λ (x : Plan). x .interval) (heard-plan r (s .node) (s .table) ∙ g .plan))
     where
       by : (m : ℕ) → m ≡ p .interval → atRest (rested m (heardBy r (s .node) (s .table) .node .echo)) ≡ true
       by m e = rw e (rests s g (heardBy r (s .node) (s .table) .node .echo))
 
-  control-here : (s : State) → Good s → (d reply : List ℕ) → atRest (step (control d reply) s .node .echo) ≡ false → step (control d reply) s .node .echo ≡ s .node .echo
+  control-here : (s : State) → Start p s → (d reply : List ℕ) → atRest (step (control d reply) s .node .echo) ≡ false → step (control d reply) s .node .echo ≡ s .node .echo
   unfolding step left controlTaken noReply
   control-here s g d reply n =
       split (ltb (length reply) leastReply) (λ a. rw a)
-      (λ a. rw (a, g .kept)
+      (λ a. rw (a, g .rules)
       (asked-part (λ x. x .echo) heard-echo (s .node) (s .table) (askedOf (s .node) d) reply
-      (λ r e. let b = rw (a, g .kept, e) at n in impossible (sym b ∙ reply-rests s g r reply))))
+      (λ r e. let b = rw (a, g .rules, e) at n in impossible (sym b ∙ reply-rests s g r reply))))
 
-  tick-here : (s : State) → Good s → eqb (s .node .echo .timer) 0 ≡ false → atRest (step tick s .node .echo) ≡ false → step tick s .node .echo ≡ countedDown (s .node .echo)
+  tick-here : (s : State) → Start p s → eqb (s .node .echo .timer) 0 ≡ false → atRest (step tick s .node .echo) ≡ false → step tick s .node .echo ≡ countedDown (s .node .echo)
   unfolding step left tickOf noReply timed echoTicked
   tick-here s g z n =
       split (spent (s .node .plan .sends) (s .node .echo))
-      (λ q. let b = rw (g .kept, q) at n in impossible (sym b ∙ given-up))
-      (λ q. rw (g .kept, q))
+      (λ q. let b = rw (g .rules, q) at n in impossible (sym b ∙ given-up))
+      (λ q. rw (g .rules, q))
     where
       given-up : atRest (rested (s .node .plan .interval) (s .node .echo)) ≡ true
       given-up = rw (g .plan) (rests s g (s .node .echo))
 
-  send-here : (s : State) → Good s → (reply : List ℕ) → Spends (p .resend) 0 (s .node .echo) (step (send reply) s .node .echo)
+  send-here : (s : State) → Start p s → (reply : List ℕ) → Spends (p .resend) 0 (s .node .echo) (step (send reply) s .node .echo)
   unfolding step left sendOf dueSent echoSent placeSent noReply timed
   send-here s g reply =
       split (ltb (length reply) leastReply) (λ x. rw x same)
       (λ x. split (eqb (s .node .echo .timer) 0)
-      (λ z. rw (x, g .kept, z) (rw (g .plan) (sent-spends (p .resend) (takenNumber (s .node .next) (s .node .echo) (s .table)) (s .node .echo) (eqb-true (s .node .echo .timer) 0 z) (few s g))))
-      (λ z. split (ltb (duePlace (s .table)) (length (s .table))) (λ d. rw (x, g .kept, z, d) same) (λ d. rw (x, g .kept, z, d) same)))
+      (λ z. rw (x, g .rules, z) (rw (g .plan) (sent-spends (p .resend) (takenNumber (s .node .next) (s .node .echo) (s .table)) (s .node .echo) (eqb-true (s .node .echo .timer) 0 z) (few s g))))
+      (λ z. split (ltb (duePlace (s .table)) (length (s .table))) (λ d. rw (x, g .rules, z, d) same) (λ d. rw (x, g .rules, z, d) same)))
     where
       same : Spends (p .resend) 0 (s .node .echo) (s .node .echo)
       same = same-spends (p .resend) (s .node .echo) (s .node .echo) refl
@@ -177,7 +166,7 @@ module _ (p : Plan) where
   unfolding step left closeOf onSession noReply
   close-here s i = split (keepsRules (s .node) (s .table)) (λ e. rw e) (λ e. rw e)
 
-  step-spends : (e : Event) (s : State) → Good s → not (isTick e && eqb (s .node .echo .timer) 0) ≡ true → atRest (step e s .node .echo) ≡ false
+  step-spends : (e : Event) (s : State) → Start p s → not (isTick e && eqb (s .node .echo .timer) 0) ≡ true → atRest (step e s .node .echo) ≡ false
       → Spends (p .resend) (boolByte (isTick e)) (s .node .echo) (step e s .node .echo)
   unfolding isTick
   step-spends (control d reply) s g n f = same-spends (p .resend) (s .node .echo) _ (control-here s g d reply f)
@@ -189,7 +178,7 @@ module _ (p : Plan) where
 
   -- ---- from call to call
   record There (m : ℕ) (s : State) : Type 0 where
-    good : Good s
+    good : Start p s
     spaced : s .node .echo .sends * p .resend ≡ m + s .node .echo .timer
     busy : atRest (s .node .echo) ≡ false
 
@@ -214,7 +203,7 @@ module _ (p : Plan) where
       stepped =
           let k = step-spends e s (t .good) (and-left prompts (echoPrompt es (step e s)) f) busy .spends in
           let l = t .spaced in
-          record { good = good-step e s (and-left (ofOctets e) (every ofOctets es) o) (t .good); spaced = omega arith; busy = busy }
+          record { good = step-start p e s (and-left (ofOctets e) (every ofOctets es) o) (t .good); spaced = omega arith; busy = busy }
 
       more : m + boolByte (isTick e) + ticksIn es ≡ m + (boolByte (isTick e) + ticksIn es)
       more = omega arith
@@ -245,12 +234,12 @@ module _ (p : Plan) where
 
         no : (eqb (s .node .echo .timer) 1 && leb (p .sends) (s .node .echo .sends)) ≡ false → ticksIn later + 1 ≡ p .sends * p .resend
         no q =
-            let a = rw (t .good .kept, t .good .plan, q) at n in
+            let a = rw (t .good .rules, t .good .plan, q) at n in
             impossible (sym (still (s .node .echo) (t .busy) z) ∙ a)
 
     octets : (reply : List ℕ) → leastReply ≤ length reply → s .node .echo .timer ≡ 0 → SendsEcho s reply
     unfolding SendsEcho sendOf dueSent echoSent step left leastReply timed
-    octets reply room z = rw (le-ltb (length reply) leastReply room, t .good .kept, eq-eqb (s .node .echo .timer) 0 z) (refl, refl)
+    octets reply room z = rw (le-ltb (length reply) leastReply room, t .good .rules, eq-eqb (s .node .echo .timer) 0 z) (refl, refl)
 
     echoes : Echoes p later s
     echoes = record {
@@ -264,9 +253,9 @@ module _ (p : Plan) where
 
 pub echo-whole : EchoWhole
 unfolding EchoWhole atRest
-echo-whole p s k q none due later o f w =
+echo-whole p s g none due later o f w =
     echoes p later (run later s) (rw zero at (there-run p 0 later s o f w (record {
-      good = record { kept = k; plan = q };
+      good = g;
       spaced = rw (none, due) (omega arith);
       busy = rw (none, due);
     })))

@@ -1,6 +1,6 @@
 -- A host's run is a run. A host holds the node and the records; it lends them to one exported call after another and stores the node that
--- comes back. Of a call nothing is known but its contract and its types: that is `Called`, and crate hosts shows that each exported function
--- meets it. So what the demands say of runs (Run.antt) they say of hosts, and a host owes nothing for it.
+-- comes back. Of a call nothing is known but its contract and its types: that is `Called`, and crate promise_hosts shows that each exported
+-- function meets it. So what the demands say of runs (Run.antt) they say of hosts, and a host owes nothing for it.
 -- Assumes nothing.
 use Prim.Native.Nat.{ℕ, suc, _<_}
 use mathlib.Core.Bool.{true}
@@ -16,14 +16,15 @@ use Rattle.unit_plan.specs.Plan.{accepted}
 use Rattle.unit_session.specs.declared.Session.{Session}
 use Rattle.call_own.specs.declared.Answer.{Answer}
 use Rattle.call_own.specs.Outcome.{State, Outcome, outcome}
-use Rattle.call_own.specs.Calls.{freshOf, tickOf, closeOf, sendOf}
+use Rattle.call_own.specs.Calls.{freshState, freshOf, tickOf, closeOf, sendOf}
 use Rattle.call_control.specs.Control.{controlTaken}
 use Rattle.call_line.specs.Line.{lineOf}
 use Rattle.call_user.specs.User.{userTaken}
 use Rattle.call_user.specs.declared.Handed.{Handed}
 use Rattle.call_user.specs.Parcel.{Parcel, parcel, parcelOf}
-use Rattle.promise_demands.specs.Run.{left, Event, control, user, tick, send, close, line, step, answered, run, start, reached, ofOctets}
-use Rattle.promise_demands.specs.Run.{Run, Kept, fresh-starts, run-keeps}
+use Rattle.promise_demands.specs.Run.{left, Event, control, user, tick, send, close, line, step, answered, run, ofOctets}
+use Rattle.promise_demands.specs.Run.{Start, Run, fresh-start, fresh-left}
+use Rattle.promise_demands.specs.Stays.{run-start}
 
 -- the host takes the number from the answer, and stores its node
 abbrev pub Stores : Answer → State → ℕ → Type 0
@@ -56,10 +57,10 @@ pub record HostsRun : Type 0 where
   -- from whatever a host holds: what it holds then, and which number it gets
   pub holds : (es : List Event) (h k : State) → Hosted es h k → k ≡ run es h
   pub number : (e : Event) (h k : State) (n : ℕ) → Called e h k n → n ≡ answered e h
-  -- from a table that keeps its rules
-  pub keeps : (es : List Event) (h k : State) → Kept h → Hosted es h k → Kept k
-  -- from fresh, under an accepted plan
-  pub runs : (p : Plan) (es : List Event) (h k : State) → accepted p ≡ true → Started p h → Hosted es h k → Run p es × (k ≡ reached p es)
+  -- from where a run may start: a run it is, and from what the host holds then another may start
+  pub runs : (p : Plan) (es : List Event) (h k : State) → Start p h → Hosted es h k → Run p h es × Start p k
+  -- fresh under an accepted plan is one such start
+  pub starts : (p : Plan) (h : State) → accepted p ≡ true → Started p h → (h ≡ freshState p) × Start p h
 
 -- ---- the type of a datagram: each of its octets is one, hence all
 pub all-octets : (l : List ℕ) → ((i : ℕ) → getD l i 0 < 256) → every isOctet l ≡ true
@@ -111,18 +112,20 @@ unfolding Hosted every
 hosted-octets [] h k c = refl
 hosted-octets (e ∷ es) h k c = rw (called-octets e h (c .0) (c .1) (c .2), hosted-octets es (c .0) k (c .3))
 
-started-is : (p : Plan) (h : State) → Started p h → h ≡ start p
+started-is : (p : Plan) (h : State) → Started p h → h ≡ freshState p
 unfolding Started
-started-is p h s = stored h (s .2) [] (freshOf p (s .0)) (s .3) (s .4) ∙ fresh-starts p (s .0) (s .1)
+started-is p h s = stored h (s .2) [] (freshOf p (s .0)) (s .3) (s .4) ∙ fresh-left p (s .0) (s .1)
+
+hosted-start : (p : Plan) (es : List Event) (h k : State) → Start p h → Hosted es h k → Run p h es × Start p k
+hosted-start p es h k g c = (r, rw (hosted-run es h k c) (run-start p h es r))
+  where
+    r : Run p h es
+    r = record { start = g; octets = hosted-octets es h k c }
 
 pub hosts-run : HostsRun
-unfolding reached
 hosts-run = record {
   holds = hosted-run;
   number = called-number;
-  keeps = λ es h k q c. rw (hosted-run es h k c) (run-keeps es h (hosted-octets es h k c) q);
-  runs = λ p es h k a s c. (
-    record { plan = a; octets = hosted-octets es h k c },
-    hosted-run es h k c ∙ ap (λ (x : State). run es x) (started-is p h s),
-  );
+  runs = hosted-start;
+  starts = λ p h a s. let e = started-is p h s in (e, rw e (fresh-start p a));
 }

@@ -1,14 +1,13 @@
 -- What document 01 wants shown impossible: refusing all, one fixed reply or silence, a live count that is not taken from the records. Each is a
 -- theorem that no such unit could meet. A tick that counts only in the first call is shut out in the file on ticks.
 -- Assumes nothing.
-use Prim.Native.Nat.{ℕ, zero, suc, _-_, _<_, _≤_}
-use mathlib.Core.Bool.{true, false, not}
+use Prim.Native.Nat.{ℕ, zero, suc, _<_, _≤_}
+use mathlib.Core.Bool.{true, false}
 use mathlib.Core.List.{List, [], _∷_}
 use mathlib.Core.Path.{_≡_, refl, _∙_, ap}
 use native.Mathlib.Omega.{arith}
 use lib.ListN.{length, getD, drop, replicate}
 use borrow.Author.Tests.{le-ltb}
-use Rattle.base_octets.specs.Choice.{impossible}
 use Rattle.base_octets.specs.Every.{every}
 use Rattle.base_octets.specs.Below.{sumTo}
 use Rattle.base_octets.specs.Sums.{sumOf}
@@ -20,7 +19,6 @@ use Rattle.unit_plan.specs.declared.Plan.{Plan}
 use Rattle.unit_plan.specs.Limits.{used}
 use Rattle.unit_plan.specs.Plan.{accepted}
 use Rattle.unit_sharing.specs.Sharing.{admits, admitted, sharable, share, guaranteeAt, ceilingAt}
-use Rattle.unit_session.specs.declared.OwnRequest.{OwnRequest}
 use Rattle.unit_session.specs.declared.Session.{Session}
 use Rattle.unit_session.specs.Session.{isFree, isOn, hasId, freed, opened, blankAt}
 use Rattle.unit_table.specs.Rules.{liveOn}
@@ -39,25 +37,26 @@ use Rattle.call_asked.specs.Asked.{kindAsked, askedOf}
 use Rattle.call_control.specs.Echoes.{heardBy, echoTaken}
 use Rattle.call_control.specs.Creates.{openingOf, acceptedTaken}
 use Rattle.call_control.specs.Control.{askedTaken, controlTaken}
-use Rattle.promise_demands.specs.Run.{left, Event, control, tick, step, answered, run, start, reached, ofOctets, Run, Kept, start-keeps, step-keeps, reached-keeps}
-use Rattle.promise_demands.specs.Stays.{start-plan, step-plan}
+use Rattle.promise_demands.specs.Run.{left, Event, control, step, answered, run, ofOctets, Kept, Start, Run, fresh-start}
+use Rattle.promise_demands.specs.Stays.{step-start, run-start}
 use Rattle.promise_demands.specs.Bounds.{at}
 use Rattle.promise_demands.specs.Creates.{NewCreate, repeats, tableAsked, askedU, acceptedOf, create-accepted}
 use Rattle.promise_demands.specs.Share.{number-yes, number-no}
 use Rattle.promise_demands.specs.Examples.{oneParty, one-party-accepted, createOfImsi, first, firstImsi, second, secondImsi, create-sequence, first-sound, second-sound, first-octets, echo}
 
--- ---- refusing all: this Create is accepted by a fresh unit under this plan
+-- ---- refusing all: this Create is accepted by a fresh unit under this plan. A table that keeps its rules may have no room for it, so that from
+-- any other start it is not so
 pub record NotAllRefused : Type 0 where
   pub plan : accepted oneParty ≡ true
   pub octets : every isOctet first ≡ true
-  pub taken : (reply : List ℕ) → leastReply ≤ length reply → answered (control first reply) (start oneParty) ≡ 0
+  pub taken : (reply : List ℕ) → leastReply ≤ length reply → answered (control first reply) (freshState oneParty) ≡ 0
 
 -- ---- a live count that is not taken from the records: one Create, one plan, all that goes with the records the same; only the records differ,
--- and so does the answer
+-- and so does the answer. Two tables are named, a fresh one and the one behind it: an example, and it needs no more
 pub record CountedFromRecords : Type 0 where
-  pub same : (r : List ℕ) → leastReply ≤ length r → step (control first r) (start oneParty) .node ≡ start oneParty .node
-  pub admitted : (reply : List ℕ) → leastReply ≤ length reply → answered (control second reply) (start oneParty) ≡ 0
-  pub noReply : (r reply : List ℕ) → leastReply ≤ length r → leastReply ≤ length reply → answered (control second reply) (step (control first r) (start oneParty)) ≡ 73
+  pub same : (r : List ℕ) → leastReply ≤ length r → step (control first r) (freshState oneParty) .node ≡ freshState oneParty .node
+  pub admitted : (reply : List ℕ) → leastReply ≤ length reply → answered (control second reply) (freshState oneParty) ≡ 0
+  pub noReply : (r reply : List ℕ) → leastReply ≤ length r → leastReply ≤ length reply → answered (control second reply) (step (control first r) (freshState oneParty)) ≡ 73
 
 -- the records of a fresh unit, and those with the first session
 abbrev freshRecs : List Session
@@ -66,15 +65,12 @@ freshRecs = replicate places nobody
 abbrev oneRecs : List Session
 oneRecs = changedAt (opened (openingOf (createOfImsi firstImsi) 3)) (freePlace (replaced firstImsi 5 freshRecs)) (replaced firstImsi 5 freshRecs)
 
-start-recs : start oneParty .table ≡ freshRecs
-unfolding start freshState places
-start-recs = refl
+fresh-recs : freshState oneParty .table ≡ freshRecs
+unfolding freshState places
+fresh-recs = refl
 
-start-kept : Kept (start oneParty)
-start-kept = start-keeps oneParty one-party-accepted
-
-planned : start oneParty .node .plan ≡ oneParty
-planned = start-plan oneParty one-party-accepted
+begun : Start oneParty (freshState oneParty)
+begun = fresh-start oneParty one-party-accepted
 
 new-first : (s : State) → s .table ≡ freshRecs → NewCreate oneParty s first (createOfImsi firstImsi)
 unfolding createOfImsi heardBy noReply repeats hasId isFree blankAt every places
@@ -96,37 +92,34 @@ pub not-all-refused : NotAllRefused
 not-all-refused = record {
   plan = one-party-accepted;
   octets = first-octets;
-  taken = λ reply room. number-yes oneParty (start oneParty) start-kept planned first (createOfImsi firstImsi) (new-first (start oneParty) start-recs) reply room (first-admitted (start oneParty) start-recs);
+  taken = λ reply room. number-yes oneParty (freshState oneParty) (begun .rules) (begun .plan) first (createOfImsi firstImsi) (new-first (freshState oneParty) fresh-recs) reply room (first-admitted (freshState oneParty) fresh-recs);
 }
 
 -- the unit after the first Create
 module _ (r : List ℕ) (room : leastReply ≤ length r) where
   abbrev one : State
-  one = step (control first r) (start oneParty)
+  one = step (control first r) (freshState oneParty)
 
-  first-taken : controlTaken (start oneParty .node) (start oneParty .table) first r ≡ acceptedOf 3 (createOfImsi firstImsi) (start oneParty) r
+  first-taken : controlTaken (freshState oneParty .node) (freshState oneParty .table) first r ≡ acceptedOf 3 (createOfImsi firstImsi) (freshState oneParty) r
   first-taken =
       rw (create-sequence 0x98)
-      at (create-accepted oneParty (start oneParty) start-kept planned first (createOfImsi firstImsi) (new-first (start oneParty) start-recs) r room (first-admitted (start oneParty) start-recs))
+      at (create-accepted oneParty (freshState oneParty) (begun .rules) (begun .plan) first (createOfImsi firstImsi) (new-first (freshState oneParty) fresh-recs) r room (first-admitted (freshState oneParty) fresh-recs))
 
-  one-node : one .node ≡ start oneParty .node
+  one-node : one .node ≡ freshState oneParty .node
   unfolding step left acceptedOf acceptedTaken createOfImsi heardBy noReply
   one-node = ap (λ (o : Outcome). o .answer .node) first-taken
 
-  accepted-recs : acceptedOf 3 (createOfImsi firstImsi) (start oneParty) r .table ≡ oneRecs
+  accepted-recs : acceptedOf 3 (createOfImsi firstImsi) (freshState oneParty) r .table ≡ oneRecs
   unfolding acceptedOf acceptedTaken tableAsked createOfImsi heardBy noReply
-  accepted-recs = rw start-recs refl
+  accepted-recs = rw fresh-recs refl
 
   one-recs : one .table ≡ oneRecs
   unfolding step left
   one-recs = ap (λ (o : Outcome). o .table) first-taken ∙ accepted-recs
 
-  one-kept : Kept one
+  one-begun : Start oneParty one
   unfolding ofOctets
-  one-kept = step-keeps (control first r) (start oneParty) first-octets start-kept
-
-  one-planned : one .node .plan ≡ oneParty
-  one-planned = step-plan (control first r) (start oneParty) ∙ planned
+  one-begun = step-start oneParty (control first r) (freshState oneParty) first-octets begun
 
 -- the second has another IMSI, and finds the access point at its ceiling
 new-after : (s : State) → s .table ≡ oneRecs → NewCreate oneParty s second (createOfImsi secondImsi)
@@ -140,9 +133,9 @@ second-refused s e = rw e refl
 pub counted-from-records : CountedFromRecords
 counted-from-records = record {
   same = one-node;
-  admitted = λ reply room. number-yes oneParty (start oneParty) start-kept planned second (createOfImsi secondImsi) (new-second (start oneParty) start-recs) reply room (second-admitted (start oneParty) start-recs);
+  admitted = λ reply room. number-yes oneParty (freshState oneParty) (begun .rules) (begun .plan) second (createOfImsi secondImsi) (new-second (freshState oneParty) fresh-recs) reply room (second-admitted (freshState oneParty) fresh-recs);
   noReply = λ r reply h room.
-      number-no oneParty (one r h) (one-kept r h) (one-planned r h) second (createOfImsi secondImsi) (new-after (one r h) (one-recs r h)) reply room (second-refused (one r h) (one-recs r h));
+      number-no oneParty (one r h) (one-begun r h .rules) (one-begun r h .plan) second (createOfImsi secondImsi) (new-after (one r h) (one-recs r h)) reply room (second-refused (one r h) (one-recs r h));
 }
 
 -- ---- one fixed reply, or silence: after any run an Echo Request is answered with 13 octets, and its own sequence number is in them
@@ -152,7 +145,7 @@ pub record EchoAnswered (s : State) (n : ℕ) (reply : List ℕ) : Type 0 where
   pub octet : getD (controlTaken (s .node) (s .table) (echo n) reply .reply) 6 0 ≡ n
 
 unfoldable pub NotOneReply : Type 0
-NotOneReply = (p : Plan) (es : List Event) → Run p es → (reply : List ℕ) → leastReply ≤ length reply → (n : ℕ) → n < 256 → EchoAnswered (reached p es) n reply
+NotOneReply = (p : Plan) (s : State) (es : List Event) → Run p s es → (reply : List ℕ) → leastReply ≤ length reply → (n : ℕ) → n < 256 → EchoAnswered (run es s) n reply
 
 echo-gate : (n : ℕ) → gateOf (echo n) ≡ 0
 unfolding echo gateOf bareTypes tunnelTypes notTaken flagOf versionOf flagP flagT kindOf lengthOf withTeid teidOf headerSize controlVersion numberOf numberFrom
@@ -184,12 +177,12 @@ echo-answer s k reply room n = rw (le-ltb (length reply) leastReply room, k, ech
 
 pub not-one-reply : NotOneReply
 unfolding NotOneReply answered echoTaken
-not-one-reply p es r reply room n h = record {
+not-one-reply p s es r reply room n h = record {
   number = ap (λ (o : Outcome). o .answer .number) e;
-  size = ap (λ (o : Outcome). o .answer .size) e ∙ messages.size-echo 2 n (reached p es .node .plan .recovery);
-  octet = ap (λ (o : Outcome). getD (o .reply) 6 0) e ∙ echo-octet n (reached p es .node .plan .recovery) reply h room;
+  size = ap (λ (o : Outcome). o .answer .size) e ∙ messages.size-echo 2 n (run es s .node .plan .recovery);
+  octet = ap (λ (o : Outcome). getD (o .reply) 6 0) e ∙ echo-octet n (run es s .node .plan .recovery) reply h room;
 }
   where
-    e : controlTaken (reached p es .node) (reached p es .table) (echo n) reply
-        ≡ echoTaken (reached p es .node) (reached p es .table) n (carried.echoRead (drop (headerOf (echo n) .fields) (echo n))) reply
-    e = echo-answer (reached p es) (reached-keeps p es r) reply room n
+    e : controlTaken (run es s .node) (run es s .table) (echo n) reply
+        ≡ echoTaken (run es s .node) (run es s .table) n (carried.echoRead (drop (headerOf (echo n) .fields) (echo n))) reply
+    e = echo-answer (run es s) (run-start p s es r .rules) reply room n

@@ -31,8 +31,8 @@ use Rattle.unit_table.specs.Own.{duePlace}
 use Rattle.call_own.specs.OnSession.{on-at}
 use Rattle.call_own.specs.Outcome.{State, bareOn, onSession, leastReply, noReply}
 use Rattle.call_own.specs.Calls.{closeOn, closeOf, echoSent, placeSent, dueSent, sendOf}
-use Rattle.promise_demands.specs.Run.{left, Event, control, user, tick, send, close, line, step, line-step, reached, ofOctets, Run, Kept, step-keeps, reached-keeps}
-use Rattle.promise_demands.specs.Stays.{step-plan, reached-plan}
+use Rattle.promise_demands.specs.Run.{left, Event, control, user, tick, send, close, line, step, run, line-step, ofOctets, Start, Run, start-accepted}
+use Rattle.promise_demands.specs.Stays.{step-start, run-start}
 use Rattle.promise_demands.specs.Bounds.{at}
 use Rattle.promise_demands.specs.Ticks.{place-ticked, all-freed}
 use Rattle.promise_demands.specs.Place.{gone, Same, After, freed-gone, control-at}
@@ -61,10 +61,10 @@ everGone i usage (e ∷ es) s = gone usage (at s i) || everGone i usage es (step
 
 -- a place is live and is closed; after it any calls, N × T ticks among them
 unfoldable pub FreedInTime : Type 0
-FreedInTime = (p : Plan) (es : List Event) → Run p es → (i : ℕ) → i < places → at (reached p es) i .state ≡ 1
-    → (later : List Event) → every ofOctets later ≡ true → prompt i later (step (close i) (reached p es)) ≡ true
+FreedInTime = (p : Plan) (s : State) (es : List Event) → Run p s es → (i : ℕ) → i < places → at (run es s) i .state ≡ 1
+    → (later : List Event) → every ofOctets later ≡ true → prompt i later (step (close i) (run es s)) ≡ true
     → p .sends * p .resend ≤ ticksIn later
-    → everGone i (at (reached p es) i .usage) later (step (close i) (reached p es)) ≡ true
+    → everGone i (at (run es s) i .usage) later (step (close i) (run es s)) ≡ true
 
 -- ---- a closing place through one call: closing still; its timer and sends spend just the ticks; and a number that was sent stays
 pub record Spends (t ticks : ℕ) (s x : Session) : Type 0 where
@@ -99,23 +99,15 @@ ticked-spends t n s c d g =
     less = split (eqb (s .own .timer) 0) (λ z. absurd (runs (eqb-true (s .own .timer) 0 z))) (λ z. let y = eqb-false (s .own .timer) 0 z in omega arith)
 
 module _ (p : Plan) (i : ℕ) (h : i < places) where
-  -- a state of a run under the plan
-  pub record Good (s : State) : Type 0 where
-    pub kept : Kept s
-    pub plan : s .node .plan ≡ p
+  pub rules : (s : State) → Start p s → Rules (s .node .plan) (s .node .echo) (s .node .next) (s .table)
+  rules s g = rules-of (s .node) (s .table) (g .rules)
 
-  pub good-step : (e : Event) (s : State) → ofOctets e ≡ true → Good s → Good (step e s)
-  good-step e s o g = record { kept = step-keeps e s o (g .kept); plan = step-plan e s ∙ g .plan }
-
-  pub rules : (s : State) → Good s → Rules (s .node .plan) (s .node .echo) (s .node .next) (s .table)
-  rules s g = rules-of (s .node) (s .table) (g .kept)
-
-  pub there : (s : State) → Good s → i < length (s .table)
+  pub there : (s : State) → Start p s → i < length (s .table)
   unfolding places
   there s g = let z = rules s g .size in omega arith
 
   -- the own request of a place that is not free is in range
-  pub in-range : (s : State) → Good s → (j : ℕ) → isFree (at s j) ≡ false → InRange 0 (p .resend) (p .sends) (at s j .own)
+  pub in-range : (s : State) → Start p s → (j : ℕ) → isFree (at s j) ≡ false → InRange 0 (p .resend) (p .sends) (at s j .own)
   unfolding boundsOf
   in-range s g j f =
       rw (← g .plan)
@@ -127,7 +119,7 @@ module _ (p : Plan) (i : ℕ) (h : i < places) where
   closing-taken x c = ne-eqb (x .state) 0 (λ z. omega arith)
 
   -- no more sends than N, which is 10 at most
-  few : (s : State) → Good s → accepted p ≡ true → at s i .state ≡ 2 → at s i .own .sends < 255
+  few : (s : State) → Start p s → accepted p ≡ true → at s i .state ≡ 2 → at s i .own .sends < 255
   unfolding mostSends
   few s g a c =
       let r = in-range s g i (closing-taken (at s i) c) in
@@ -141,16 +133,16 @@ module _ (p : Plan) (i : ℕ) (h : i < places) where
   same-here : (s : State) → at s i .state ≡ 2 → Spends (p .resend) 0 (at s i) (at s i)
   same-here s c = record { closing = c; spends = omega arith; number = λ o. refl }
 
-  send-here : (s : State) → Good s → accepted p ≡ true → (reply : List ℕ) → at s i .state ≡ 2 → Spends (s .node .plan .resend) 0 (at s i) (at (step (send reply) s) i)
+  send-here : (s : State) → Start p s → accepted p ≡ true → (reply : List ℕ) → at s i .state ≡ 2 → Spends (s .node .plan .resend) 0 (at s i) (at (step (send reply) s) i)
   unfolding step left sendOf dueSent echoSent placeSent noReply duePlace
   send-here s g a reply c =
       split (ltb (length reply) leastReply) (λ x. rw x same)
-      (λ x. split (eqb (s .node .echo .timer) 0) (λ z. rw (x, g .kept, z) same)
+      (λ x. split (eqb (s .node .echo .timer) 0) (λ z. rw (x, g .rules, z) same)
       (λ z. split (ltb (firstOf isDue (s .table)) (length (s .table)))
-      (λ d. rw (x, g .kept, z, d)
+      (λ d. rw (x, g .rules, z, d)
       (at-changed (Spends (s .node .plan .resend) 0 (at s i)) (sent (s .node .plan .resend) (takenNumber (s .node .next) (s .node .echo) (s .table))) (s .table) i (firstOf isDue (s .table)) (there s g) same
       (λ e. sent-spends (s .node .plan .resend) (takenNumber (s .node .next) (s .node .echo) (s .table)) (at s i) c (due e d) (few s g a c))))
-      (λ d. rw (x, g .kept, z, d) same)))
+      (λ d. rw (x, g .rules, z, d) same)))
     where
       same : Spends (s .node .plan .resend) 0 (at s i) (at s i)
       same = record { closing = c; spends = omega arith; number = λ o. refl }
@@ -158,22 +150,22 @@ module _ (p : Plan) (i : ℕ) (h : i < places) where
       due : i ≡ firstOf isDue (s .table) → ltb (firstOf isDue (s .table)) (length (s .table)) ≡ true → at s i .own .timer ≡ 0
       due e d = due-timer (at s i) (rw e (first-passes isDue (s .table) nobody (ltb-true (firstOf isDue (s .table)) (length (s .table)) d)))
 
-  close-here : (s : State) → Good s → (j : ℕ) → at s i .state ≡ 2 → Spends (p .resend) 0 (at s i) (at (step (close j) s) i)
+  close-here : (s : State) → Start p s → (j : ℕ) → at s i .state ≡ 2 → Spends (p .resend) 0 (at s i) (at (step (close j) s) i)
   unfolding step left closeOf closeOn bareOn
   close-here s g j c =
-      rw (g .kept)
+      rw (g .rules)
       (on-at (s .node) (s .table) j closeOn [] (Spends (p .resend) 0 (at s i)) i (there s g) (same-here s c)
       (λ e. rw (closing-taken (at s i) c) (closed-spends (p .resend) (at s i) c)))
 
-  tick-here : (s : State) → Good s → at s i .state ≡ 2 → isDue (at s i) ≡ false → gone (at s i .usage) (at (step tick s) i) ≡ false
+  tick-here : (s : State) → Start p s → at s i .state ≡ 2 → isDue (at s i) ≡ false → gone (at s i .usage) (at (step tick s) i) ≡ false
       → Spends (p .resend) 1 (at s i) (at (step tick s) i)
   unfolding places
   tick-here s g c d f =
       split (spent (p .sends) (s .node .echo))
-      (λ q. let e = all-freed p s (g .kept) (g .plan) (rules s g .size) i h q in impossible (sym (rw e at f) ∙ freed-gone (at s i .usage) (at s i)))
-      (λ q. let e = place-ticked p s (g .kept) (g .plan) (rules s g .size) i h q in rw e (ticked-spends (p .resend) (p .sends) (at s i) c d (rw e at f)))
+      (λ q. let e = all-freed p s (g .rules) (g .plan) (rules s g .size) i h q in impossible (sym (rw e at f) ∙ freed-gone (at s i .usage) (at s i)))
+      (λ q. let e = place-ticked p s (g .rules) (g .plan) (rules s g .size) i h q in rw e (ticked-spends (p .resend) (p .sends) (at s i) c d (rw e at f)))
 
-  control-here : (s : State) → Good s → (d reply : List ℕ) → After (at s i) (at (step (control d reply) s) i)
+  control-here : (s : State) → Start p s → (d reply : List ℕ) → After (at s i) (at (step (control d reply) s) i)
   unfolding step left
   control-here s g d reply = control-at i (s .node) (s .table) (there s g) d reply
 
@@ -181,7 +173,7 @@ module _ (p : Plan) (i : ℕ) (h : i < places) where
   unfolding step
   user-here s d reply c = same-here s c
 
-  pub step-spends : (e : Event) (s : State) → Good s → accepted p ≡ true → at s i .state ≡ 2 → not (isTick e && isDue (at s i)) ≡ true
+  pub step-spends : (e : Event) (s : State) → Start p s → accepted p ≡ true → at s i .state ≡ 2 → not (isTick e && isDue (at s i)) ≡ true
       → gone (at s i .usage) (at (step e s) i) ≡ false → Spends (p .resend) (boolByte (isTick e)) (at s i) (at (step e s) i)
   unfolding isTick
   step-spends (control d reply) s g a c n f = same-spends (p .resend) (at s i) (at (step (control d reply) s) i) c (control-here s g d reply f)
@@ -204,7 +196,7 @@ module _ (p : Plan) (i : ℕ) (h : i < places) where
       (λ q. impossible (sym (rw q at e) ∙ or-true (isFree x)))
 
   -- it cannot have used up all its sends and still be there
-  in-time : (s : State) → Good s → accepted p ≡ true → at s i .state ≡ 2 → p .sends * p .resend + at s i .own .timer ≤ at s i .own .sends * p .resend → ⊥
+  in-time : (s : State) → Start p s → accepted p ≡ true → at s i .state ≡ 2 → p .sends * p .resend + at s i .own .timer ≤ at s i .own .sends * p .resend → ⊥
   in-time s g a c m =
       let f = accepted-figures p a in
       let one = f .first in
@@ -219,7 +211,7 @@ module _ (p : Plan) (i : ℕ) (h : i < places) where
       let y = mul-le-mul-right (p .resend) n in
       omega arith)
 
-  gone-by : (usage : ℕ) (es : List Event) (s : State) → Good s → accepted p ≡ true → every ofOctets es ≡ true → at s i .state ≡ 2 → prompt i es s ≡ true
+  gone-by : (usage : ℕ) (es : List Event) (s : State) → Start p s → accepted p ≡ true → every ofOctets es ≡ true → at s i .state ≡ 2 → prompt i es s ≡ true
       → p .sends * p .resend + at s i .own .timer ≤ ticksIn es + at s i .own .sends * p .resend → everGone i usage es s ≡ true
   unfolding everGone prompt ticksIn sumOf every
   gone-by usage [] s g a o c f m = absurd (in-time s g a c (omega arith))
@@ -231,16 +223,16 @@ module _ (p : Plan) (i : ℕ) (h : i < places) where
       (λ y. let w = use-is usage (at s i) x in
       let k = step-spends e s g a c (and-left (not (isTick e && isDue (at s i))) (prompt i es (step e s)) f) (rw w y) in
       let l = k .spends in
-      gone-by usage es (step e s) (good-step e s (and-left (ofOctets e) (every ofOctets es) o) g) a (and-right (ofOctets e) (every ofOctets es) o) (k .closing)
+      gone-by usage es (step e s) (step-start p e s (and-left (ofOctets e) (every ofOctets es) o) g) a (and-right (ofOctets e) (every ofOctets es) o) (k .closing)
       (and-right (not (isTick e && isDue (at s i))) (prompt i es (step e s)) f) (omega arith))))
 
   -- the close: a live place is closing then, and nothing has been sent
-  pub close-is : (s : State) → Good s → at s i .state ≡ 1 → at (step (close i) s) i ≡ closed (at s i)
+  pub close-is : (s : State) → Start p s → at s i .state ≡ 1 → at (step (close i) s) i ≡ closed (at s i)
   unfolding step left closeOf onSession closeOn bareOn isFree
   close-is s g c =
-      rw (g .kept, changed-here (λ x. closeOn x .session) i (s .table) nobody (there s g), ne-eqb (at s i .state) 0 (λ z. omega arith))
+      rw (g .rules, changed-here (λ x. closeOn x .session) i (s .table) nobody (there s g), ne-eqb (at s i .state) 0 (λ z. omega arith))
 
-  pub live-idle : (s : State) → Good s → at s i .state ≡ 1 → (at s i .own .sends ≡ 0) × (at s i .own .timer ≡ 0)
+  pub live-idle : (s : State) → Start p s → at s i .state ≡ 1 → (at s i .own .sends ≡ 0) × (at s i .own .timer ≡ 0)
   unfolding phaseOk isClosing isFree boundsOf
   live-idle s g c =
       let f : isFree (at s i) ≡ false = ne-eqb (at s i .state) 0 (λ z. omega arith) in
@@ -255,24 +247,27 @@ pub closed-now : (s : Session) → s .state ≡ 1 → (closed s .state ≡ 2) ×
 unfolding closed turned
 closed-now s c = rw (eq-eqb (s .state) 1 c) (refl, refl)
 
-pub freed-in-time : FreedInTime
-unfolding FreedInTime ofOctets
-freed-in-time p es r i h c later o f m =
-    gone-by p i h (at (reached p es) i .usage) later (step (close i) (reached p es)) (good-step p i h (close i) (reached p es) refl good) (r .plan) o
+-- closed where it is live, and N × T ticks later
+closed-gone : (p : Plan) (i : ℕ) (h : i < places) (s : State) → Start p s → at s i .state ≡ 1 → (later : List Event) → every ofOctets later ≡ true
+    → prompt i later (step (close i) s) ≡ true → p .sends * p .resend ≤ ticksIn later → everGone i (at s i .usage) later (step (close i) s) ≡ true
+unfolding ofOctets
+closed-gone p i h s g c later o f m =
+    gone-by p i h (at s i .usage) later (step (close i) s) (step-start p (close i) s refl g) (start-accepted p s g) o
     (ap (λ (x : Session). x .state) e ∙ n .0) f
     (rw (ap (λ (x : OwnRequest). x .sends) own ∙ q .0, ap (λ (x : OwnRequest). x .timer) own ∙ q .1) (omega arith))
   where
-    good : Good p i h (reached p es)
-    good = record { kept = reached-keeps p es r; plan = reached-plan p es (r .plan) }
+    e : at (step (close i) s) i ≡ closed (at s i)
+    e = close-is p i h s g c
 
-    e : at (step (close i) (reached p es)) i ≡ closed (at (reached p es) i)
-    e = close-is p i h (reached p es) good c
+    n : (closed (at s i) .state ≡ 2) × (closed (at s i) .own ≡ at s i .own)
+    n = closed-now (at s i) c
 
-    n : (closed (at (reached p es) i) .state ≡ 2) × (closed (at (reached p es) i) .own ≡ at (reached p es) i .own)
-    n = closed-now (at (reached p es) i) c
-
-    own : at (step (close i) (reached p es)) i .own ≡ at (reached p es) i .own
+    own : at (step (close i) s) i .own ≡ at s i .own
     own = ap (λ (x : Session). x .own) e ∙ n .1
 
-    q : (at (reached p es) i .own .sends ≡ 0) × (at (reached p es) i .own .timer ≡ 0)
-    q = live-idle p i h (reached p es) good c
+    q : (at s i .own .sends ≡ 0) × (at s i .own .timer ≡ 0)
+    q = live-idle p i h s g c
+
+pub freed-in-time : FreedInTime
+unfolding FreedInTime
+freed-in-time p s es r i h c later o f m = closed-gone p i h (run es s) (run-start p s es r) c later o f (omega arith)

@@ -31,6 +31,7 @@ pub mod Sixteen
 pub mod Stays
 pub mod Ticks
 pub mod UserNumbers
+pub mod Uses
 pub mod Values
 pub mod Wellformed
 pub mod Written

@@ -38,25 +38,25 @@ use Rattle.wire_requests.specs.declared.Request.the-variants as Q
 use Rattle.wire_requests.specs.Create.{createOf}
 use Rattle.call_control.specs.Echoes.{heardBy, heard-keeps}
 use Rattle.call_control.specs.Control.{askedTaken, controlTaken}
-use Rattle.promise_demands.specs.Run.{left, Event, control, step, reached, ofOctets, Run, Kept, step-keeps, reached-keeps}
+use Rattle.promise_demands.specs.Run.{left, Event, control, step, run, ofOctets, Kept, Run, start-accepted, step-keeps}
 use Rattle.call_control.specs.CreatesKept.{heard-plan}
-use Rattle.promise_demands.specs.Stays.{reached-plan}
+use Rattle.promise_demands.specs.Stays.{run-start}
 use Rattle.promise_demands.specs.Creates.{SoundCreate, NewCreate, heard, repeats, tableAsked, askedU, acceptedOf, create-accepted, create-point, place-in}
 
 -- place i, as it is after Recovery, has the session that the Create repeats
 unfoldable pub RepeatsAnswered : Type 0
-RepeatsAnswered = (p : Plan) (es : List Event) → Run p es → (d : List ℕ) (c : C.Create) → SoundCreate p d c
-    → (i : ℕ) → i < places → repeats c (headerOf d .sequence) (getD (heard c (reached p es) .table) i nobody) ≡ true
+RepeatsAnswered = (p : Plan) (s : State) (es : List Event) → Run p s es → (d : List ℕ) (c : C.Create) → SoundCreate p d c
+    → (i : ℕ) → i < places → repeats c (headerOf d .sequence) (getD (heard c (run es s) .table) i nobody) ≡ true
     → (reply : List ℕ) → leastReply ≤ length reply
-    → controlTaken (reached p es .node) (reached p es .table) d reply
-    ≡ acceptedTaken (headerOf d .sequence) i (getD (heard c (reached p es) .table) i nobody) (heard c (reached p es) .node) (heard c (reached p es) .table) reply
+    → controlTaken (run es s .node) (run es s .table) d reply
+    ≡ acceptedTaken (headerOf d .sequence) i (getD (heard c (run es s) .table) i nobody) (heard c (run es s) .node) (heard c (run es s) .table) reply
 
 -- so a Create that was accepted, sent again with the same buffer lent, has the very same outcome: number, reply, and table
 unfoldable pub AgainTheSame : Type 0
-AgainTheSame = (p : Plan) (es : List Event) → Run p es → (d : List ℕ) (c : C.Create) → every isOctet d ≡ true → NewCreate p (reached p es) d c
-    → admits p (askedU c (reached p es)) (c .point) ≡ true → (reply : List ℕ) → leastReply ≤ length reply
-    → controlTaken (step (control d reply) (reached p es) .node) (step (control d reply) (reached p es) .table) d reply
-    ≡ controlTaken (reached p es .node) (reached p es .table) d reply
+AgainTheSame = (p : Plan) (s : State) (es : List Event) → Run p s es → (d : List ℕ) (c : C.Create) → every isOctet d ≡ true → NewCreate p (run es s) d c
+    → admits p (askedU c (run es s)) (c .point) ≡ true → (reply : List ℕ) → leastReply ≤ length reply
+    → controlTaken (step (control d reply) (run es s) .node) (step (control d reply) (run es s) .table) d reply
+    ≡ controlTaken (run es s .node) (run es s .table) d reply
 
 -- where one has it at most, who has it is found
 found-it : (p : Session → Bool) (l : List Session) (i : ℕ) → countOf p l ≤ 1 → i < length l → p (getD l i nobody) ≡ true → foundIn p l ≡ F.At i
@@ -86,7 +86,7 @@ module _ (p : Plan) (s : State) (kept : Kept s) (plan : s .node .plan ≡ p) (d 
 
 pub repeats-answered : RepeatsAnswered
 unfolding RepeatsAnswered
-repeats-answered p es r d c n i h e reply room = repeated p (reached p es) (reached-keeps p es r) (reached-plan p es (r .plan)) d c n reply room i h e
+repeats-answered p s es r d c n i h e reply room = let g = run-start p s es r in repeated p (run es s) (g .rules) (g .plan) d c n reply room i h e
 
 kept-same : (a b : State) → a ≡ b → Kept a → Kept b
 kept-same a b e k = rw (← e) k
@@ -168,4 +168,6 @@ module _ (p : Plan) (s : State) (kept : Kept s) (plan : s .node .plan ≡ p) (go
 
 pub again-the-same : AgainTheSame
 unfolding AgainTheSame
-again-the-same p es r d c o n e reply room = same-again p (reached p es) (reached-keeps p es r) (reached-plan p es (r .plan)) (r .plan) d o c n reply room e
+again-the-same p s es r d c o n e reply room =
+    let g = run-start p s es r in
+    same-again p (run es s) (g .rules) (g .plan) (start-accepted p s (r .start)) d o c n reply room e

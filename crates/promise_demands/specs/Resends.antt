@@ -7,10 +7,10 @@ use mathlib.Core.List.{List, [], _∷_}
 use mathlib.Core.Path.{_≡_, refl, sym, _∙_, ap}
 use native.Mathlib.Omega.{arith}
 use lib.ListN.{length}
-use lib.Dec.{eqb, leb, ltb}
+use lib.Dec.{eqb, leb}
 use borrow.Author.Tests.{eqb-true, eqb-false, ne-eqb, eq-eqb, lt-ltb, le-ltb, leb-true}
 use mir.Val.{boolByte}
-use Rattle.base_octets.specs.Choice.{split, impossible, and-left, and-right, or-true, tests}
+use Rattle.base_octets.specs.Choice.{split, impossible, and-left, and-right, tests}
 use Rattle.base_octets.specs.Every.{every}
 use Rattle.base_octets.specs.Sums.{sumOf}
 use Rattle.base_octets.specs.Overlay.{overlay}
@@ -18,8 +18,7 @@ use Rattle.unit_tunnel.specs.Numbering.{places}
 use Rattle.unit_plan.specs.declared.Plan.{Plan}
 use Rattle.unit_plan.specs.Plan.{accepted}
 use Rattle.unit_session.specs.declared.Session.{Session}
-use Rattle.unit_session.specs.declared.OwnRequest.{OwnRequest}
-use Rattle.unit_session.specs.OwnRequest.{spent, sentOnce}
+use Rattle.unit_session.specs.OwnRequest.{spent}
 use Rattle.unit_session.specs.Session.{isFree, isDue, closed, sent, ticked, turned}
 use Rattle.unit_table.specs.Change.{nobody, changed-here}
 use Rattle.unit_table.specs.Own.{duePlace}
@@ -27,12 +26,12 @@ use Rattle.unit_table.specs.Number.{takenNumber}
 use Rattle.wire_messages.specs.Messages.{deleteBearer}
 use Rattle.call_own.specs.Outcome.{State, leastReply}
 use Rattle.call_own.specs.Calls.{placeSent, dueSent, sendOf}
-use Rattle.promise_demands.specs.Run.{left, Event, tick, send, close, step, run, reached, ofOctets, Run, reached-keeps}
-use Rattle.promise_demands.specs.Stays.{reached-plan}
+use Rattle.promise_demands.specs.Run.{left, Event, tick, send, close, step, run, ofOctets, Start, Run, start-accepted}
+use Rattle.promise_demands.specs.Stays.{step-start, run-start}
 use Rattle.promise_demands.specs.Bounds.{at}
 use Rattle.promise_demands.specs.Ticks.{place-ticked}
 use Rattle.promise_demands.specs.Place.{gone}
-use Rattle.promise_demands.specs.InTime.{isTick, ticksIn, prompt, everGone, Spends, Good, good-step, in-range, closing-taken, step-spends, use-is, close-is, live-idle, closed-now, rules, there}
+use Rattle.promise_demands.specs.InTime.{isTick, ticksIn, prompt, everGone, in-range, closing-taken, step-spends, use-is, close-is, live-idle, closed-now, rules, there}
 
 -- a send for the place: the Delete Bearer to its peer, with the number that its record has then
 unfoldable pub Sends : ℕ → State → List ℕ → Type 0
@@ -57,10 +56,10 @@ pub record Resends (p : Plan) (i usage : ℕ) (later : List Event) (s : State) :
   pub octets : (reply : List ℕ) → leastReply ≤ length reply → (s .node .echo .timer ≡ 0 → ⊥) → duePlace (s .table) ≡ i → Sends i s reply
 
 unfoldable pub ResendsWhole : Type 0
-ResendsWhole = (p : Plan) (es : List Event) → Run p es → (i : ℕ) → i < places → at (reached p es) i .state ≡ 1
-    → (later : List Event) → every ofOctets later ≡ true → prompt i later (step (close i) (reached p es)) ≡ true
-    → everGone i (at (reached p es) i .usage) later (step (close i) (reached p es)) ≡ false
-    → Resends p i (at (reached p es) i .usage) later (run later (step (close i) (reached p es)))
+ResendsWhole = (p : Plan) (s : State) (es : List Event) → Run p s es → (i : ℕ) → i < places → at (run es s) i .state ≡ 1
+    → (later : List Event) → every ofOctets later ≡ true → prompt i later (step (close i) (run es s)) ≡ true
+    → everGone i (at (run es s) i .usage) later (step (close i) (run es s)) ≡ false
+    → Resends p i (at (run es s) i .usage) later (run later (step (close i) (run es s)))
 
 -- ---- proofs
 or-no : (a b : Bool) → (a || b) ≡ false → (a ≡ false) × (b ≡ false)
@@ -70,7 +69,7 @@ or-no false b e = (refl, e)
 module _ (p : Plan) (i : ℕ) (h : i < places) (a : accepted p ≡ true) (usage : ℕ) where
   -- what holds of the place from call to call
   record There (m : ℕ) (s : State) : Type 0 where
-    good : Good p i h s
+    good : Start p s
     closing : at s i .state ≡ 2
     same-use : at s i .usage ≡ usage
     spaced : at s i .own .sends * p .resend ≡ m + at s i .own .timer
@@ -82,7 +81,7 @@ module _ (p : Plan) (i : ℕ) (h : i < places) (a : accepted p ≡ true) (usage 
       let l = k .spends in
       let q = t .spaced in
       record {
-        good = good-step p i h e s o (t .good);
+        good = step-start p e s o (t .good);
         closing = k .closing;
         same-use = use-is p i h usage (at (step e s) i) f;
         spaced = omega arith;
@@ -117,7 +116,7 @@ module _ (p : Plan) (i : ℕ) (h : i < places) (a : accepted p ≡ true) (usage 
     last d q g = split (eqb (at s i .own .timer) 1 && leb (p .sends) (at s i .own .sends)) yes no
       where
         e : at (step tick s) i ≡ ticked (p .sends) (at s i)
-        e = place-ticked p s (t .good .kept) (t .good .plan) (rules p i h s (t .good) .size) i h q
+        e = place-ticked p s (t .good .rules) (t .good .plan) (rules p i h s (t .good) .size) i h q
 
         yes : (eqb (at s i .own .timer) 1 && leb (p .sends) (at s i .own .sends)) ≡ true → ticksIn later + 1 ≡ p .sends * p .resend
         yes z =
@@ -145,7 +144,7 @@ module _ (p : Plan) (i : ℕ) (h : i < places) (a : accepted p ≡ true) (usage 
     unfolding Sends sendOf dueSent placeSent step left leastReply sent turned
     octets reply room n e =
         let k = takenNumber (s .node .next) (s .node .echo) (s .table) in
-        rw (le-ltb (length reply) leastReply room, t .good .kept, ne-eqb (s .node .echo .timer) 0 n, e, lt-ltb i (length (s .table)) (there p i h s (t .good)), changed-here (sent (s .node .plan .resend) k) i (s .table) nobody (there p i h s (t .good)))
+        rw (le-ltb (length reply) leastReply room, t .good .rules, ne-eqb (s .node .echo .timer) 0 n, e, lt-ltb i (length (s .table)) (there p i h s (t .good)), changed-here (sent (s .node .plan .resend) k) i (s .table) nobody (there p i h s (t .good)))
         (refl, refl)
 
     resends : Resends p i usage later s
@@ -158,33 +157,36 @@ module _ (p : Plan) (i : ℕ) (h : i < places) (a : accepted p ≡ true) (usage 
       octets = octets;
     }
 
+-- closed where it is live: nothing has been sent
+closed-there : (p : Plan) (i : ℕ) (h : i < places) (a : accepted p ≡ true) (s : State) → Start p s → at s i .state ≡ 1
+    → There p i h a (at s i .usage) 0 (step (close i) s)
+unfolding ofOctets closed turned
+closed-there p i h a s g c =
+    let n = closed-now (at s i) c in
+    let q = live-idle p i h s g c in
+    record {
+      good = step-start p (close i) s refl g;
+      closing = ap (λ (x : Session). x .state) e ∙ n .0;
+      same-use = rw (e, eq-eqb (at s i .state) 1 c);
+      spaced = rw (e, n .1, q .0, q .1) (omega arith);
+    }
+  where
+    e : at (step (close i) s) i ≡ closed (at s i)
+    e = close-is p i h s g c
+
 pub resends-whole : ResendsWhole
-unfolding ResendsWhole ofOctets closed turned
-resends-whole p es r i h c later o f g =
-    resends p i h (r .plan) usage later (run later s) (rw none at (there-run p i h (r .plan) usage 0 later s o f g begun))
+unfolding ResendsWhole
+resends-whole p s es r i h c later o f g =
+    resends p i h a usage later (run later then) (rw none at (there-run p i h a usage 0 later then o f g (closed-there p i h a (run es s) (run-start p s es r) c)))
   where
     none : 0 + ticksIn later ≡ ticksIn later
     none = omega arith
 
-    s : State
-    s = step (close i) (reached p es)
+    a : accepted p ≡ true
+    a = start-accepted p s (r .start)
+
+    then : State
+    then = step (close i) (run es s)
 
     usage : ℕ
-    usage = at (reached p es) i .usage
-
-    good : Good p i h (reached p es)
-    good = record { kept = reached-keeps p es r; plan = reached-plan p es (r .plan) }
-
-    e : at s i ≡ closed (at (reached p es) i)
-    e = close-is p i h (reached p es) good c
-
-    begun : There p i h (r .plan) usage 0 s
-    begun =
-        let n = closed-now (at (reached p es) i) c in
-        let q = live-idle p i h (reached p es) good c in
-        record {
-          good = good-step p i h (close i) (reached p es) refl good;
-          closing = ap (λ (x : Session). x .state) e ∙ n .0;
-          same-use = rw (e, eq-eqb (at (reached p es) i .state) 1 c);
-          spaced = rw (e, n .1, q .0, q .1) (omega arith);
-        }
+    usage = at (run es s) i .usage

@@ -1,5 +1,6 @@
--- Runs: what may be asked of the unit, one call after another from a fresh table. The caller hands the table from call to call untouched and
--- chooses everything else: which call, which datagram, which place, how long a reply buffer.
+-- Runs: what may be asked of the unit, one call after another, from any table that keeps its rules under an accepted plan, of which a fresh one
+-- is one. The caller hands the table from call to call untouched and chooses everything else: which call, which datagram, which place, how
+-- long a reply buffer.
 -- Assumes nothing.
 use Prim.Native.Nat.{ℕ}
 use mathlib.Core.Bool.{Bool, true}
@@ -13,10 +14,10 @@ use Rattle.unit_tunnel.specs.Numbering.{places}
 use Rattle.unit_plan.specs.declared.Plan.{Plan}
 use Rattle.unit_session.specs.declared.Session.{Session}
 use Rattle.unit_plan.specs.Plan.{accepted}
-use Rattle.unit_table.specs.declared.Node.{Node}
-use Rattle.unit_table.specs.Rules.{keepsRules}
+use Rattle.unit_table.specs.Rules.{keepsRules, rules-of}
+use Rattle.unit_table.specs.Own.{freshNode}
 use Rattle.call_own.specs.Outcome.{State, Outcome}
-use Rattle.call_own.specs.Calls.{freshState, freshOf, tickOf, closeOf, sendOf}
+use Rattle.call_own.specs.Calls.{freshAnswer, freshState, freshOf, tickOf, closeOf, sendOf}
 use Rattle.call_own.specs.Kept.{fresh-leaves, fresh-keeps, tick-keeps, close-keeps, send-keeps}
 use Rattle.call_control.specs.Control.{controlTaken}
 use Rattle.call_control.specs.Kept.{control-keeps}
@@ -60,18 +61,6 @@ unfoldable pub run : List Event → State → State
 run [] s = s
 run (e ∷ es) s = run es (step e s)
 
--- fresh under a plan, and what it comes to after some calls
-unfoldable pub start : Plan → State
-start p = freshState p
-
--- that is what fresh leaves, on as many records as there are places, whatever they hold
-pub fresh-starts : (p : Plan) (t : List Session) → length t ≡ places → left (freshOf p t) ≡ start p
-unfolding left start freshState
-fresh-starts p t n = rw (fresh-leaves p t n)
-
-unfoldable pub reached : Plan → List Event → State
-reached p es = run es (start p)
-
 -- a control datagram is made of octets: any octets
 unfoldable pub ofOctets : Event → Bool
 ofOctets (control d reply) = every isOctet d
@@ -81,15 +70,38 @@ ofOctets (send reply) = true
 ofOctets (close place) = true
 ofOctets (line place reply) = true
 
--- a run as a caller can have it: under an accepted plan, every datagram of octets
-pub record Run (p : Plan) (es : List Event) : Type 0 where
-  pub plan : accepted p ≡ true
-  pub octets : every ofOctets es ≡ true
-
--- ---- every call of a run keeps the table rules
+-- the rules are kept; that the plan is accepted, and that there are as many records as places, is among them
 abbrev pub Kept : State → Type 0
 Kept s = keepsRules (s .node) (s .table) ≡ true
 
+-- what a run under the plan may start from
+pub record Start (p : Plan) (s : State) : Type 0 where
+  pub plan : s .node .plan ≡ p
+  pub rules : Kept s
+
+-- a run as a caller can have it: from there, every datagram of octets
+pub record Run (p : Plan) (s : State) (es : List Event) : Type 0 where
+  pub start : Start p s
+  pub octets : every ofOctets es ≡ true
+
+-- ---- fresh under an accepted plan is such a start
+pub fresh-plan : (p : Plan) → accepted p ≡ true → freshState p .node .plan ≡ p
+unfolding freshState freshAnswer freshNode
+fresh-plan p a = rw a
+
+pub fresh-start : (p : Plan) → accepted p ≡ true → Start p (freshState p)
+fresh-start p a = record { plan = fresh-plan p a; rules = fresh-keeps p a }
+
+-- and it is what the call leaves, on as many records as there are places, whatever they hold
+pub fresh-left : (p : Plan) (t : List Session) → length t ≡ places → left (freshOf p t) ≡ freshState p
+unfolding left freshState
+fresh-left p t n = rw (fresh-leaves p t n)
+
+-- ---- the plan of a start is an accepted one
+pub start-accepted : (p : Plan) (s : State) → Start p s → accepted p ≡ true
+start-accepted p s g = rw (← g .plan) (rules-of (s .node) (s .table) (g .rules) .planned)
+
+-- ---- every call of a run keeps the table rules
 -- the line of a place changes nothing
 pub line-step : (place : ℕ) (reply : List ℕ) (s : State) → step (line place reply) s ≡ s
 unfolding step left LineLeaves
@@ -109,11 +121,3 @@ unfolding run every
 run-keeps [] s o k = k
 run-keeps (e ∷ es) s o k =
     run-keeps es (step e s) (and-right (ofOctets e) (every ofOctets es) o) (step-keeps e s (and-left (ofOctets e) (every ofOctets es) o) k)
-
-pub start-keeps : (p : Plan) → accepted p ≡ true → Kept (start p)
-unfolding start
-start-keeps p a = fresh-keeps p a
-
-pub reached-keeps : (p : Plan) (es : List Event) → Run p es → Kept (reached p es)
-unfolding reached
-reached-keeps p es r = run-keeps es (start p) (r .octets) (start-keeps p (r .plan))

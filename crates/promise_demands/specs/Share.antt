@@ -28,9 +28,9 @@ use Rattle.call_own.specs.Outcome.{State, Outcome, leastReply}
 use Rattle.call_control.specs.Amends.{causeTaken}
 use Rattle.call_control.specs.Creates.{acceptedTaken, noRoom}
 use Rattle.call_control.specs.Control.{controlTaken}
-use Rattle.promise_demands.specs.Run.{Event, control, step, answered, reached, ofOctets, Run, Kept, reached-keeps, step-keeps}
-use Rattle.promise_demands.specs.Stays.{reached-plan, step-plan}
-use Rattle.promise_demands.specs.Bounds.{at, u, reached-rules}
+use Rattle.promise_demands.specs.Run.{Event, control, step, answered, run, ofOctets, Kept, Start, Run, start-accepted}
+use Rattle.promise_demands.specs.Stays.{step-start, run-start}
+use Rattle.promise_demands.specs.Bounds.{at, u, start-rules}
 use Rattle.promise_demands.specs.Creates.{NewCreate, askedU, acceptedOf, refusedOf, create-accepted, create-refused, create-point, asked-less}
 
 -- ---- 73 exactly when the sharing rule says so, accepted otherwise; and what each leaves
@@ -41,8 +41,8 @@ pub record Judged (p : Plan) (s : State) (d : List ℕ) (c : C.Create) (reply : 
   pub tells : admits p (askedU c s) (c .point) ≡ false → controlTaken (s .node) (s .table) d reply ≡ refusedOf (headerOf d .sequence) c s reply
 
 unfoldable pub RefusalsJust : Type 0
-RefusalsJust = (p : Plan) (es : List Event) → Run p es → (d : List ℕ) (c : C.Create) → NewCreate p (reached p es) d c
-    → (reply : List ℕ) → leastReply ≤ length reply → Judged p (reached p es) d c reply
+RefusalsJust = (p : Plan) (s : State) (es : List Event) → Run p s es → (d : List ℕ) (c : C.Create) → NewCreate p (run es s) d c
+    → (reply : List ℕ) → leastReply ≤ length reply → Judged p (run es s) d c reply
 
 module _ (p : Plan) (s : State) (kept : Kept s) (plan : s .node .plan ≡ p) (d : List ℕ) (c : C.Create) (n : NewCreate p s d c) (reply : List ℕ) (room : leastReply ≤ length reply) where
   pub number-yes : admits p (askedU c s) (c .point) ≡ true → answered (control d reply) s ≡ 0
@@ -63,29 +63,24 @@ module _ (p : Plan) (s : State) (kept : Kept s) (plan : s .node .plan ≡ p) (d 
 
 pub refusals-just : RefusalsJust
 unfolding RefusalsJust
-refusals-just p es r d c n reply room = judged p (reached p es) (reached-keeps p es r) (reached-plan p es (r .plan)) d c n reply room
+refusals-just p s es r d c n reply room = let g = run-start p s es r in judged p (run es s) (g .rules) (g .plan) d c n reply room
 
 -- ---- under its guarantee: u as it is before the call
 unfoldable pub GuaranteesKept : Type 0
-GuaranteesKept = (p : Plan) (es : List Event) → Run p es → (d : List ℕ) (c : C.Create) → NewCreate p (reached p es) d c
-    → u (reached p es) (c .point) < guaranteeAt p (c .point)
-    → (reply : List ℕ) → leastReply ≤ length reply → answered (control d reply) (reached p es) ≡ 0
+GuaranteesKept = (p : Plan) (s : State) (es : List Event) → Run p s es → (d : List ℕ) (c : C.Create) → NewCreate p (run es s) d c
+    → u (run es s) (c .point) < guaranteeAt p (c .point)
+    → (reply : List ℕ) → leastReply ≤ length reply → answered (control d reply) (run es s) ≡ 0
 
 pub guarantees-kept : GuaranteesKept
 unfolding GuaranteesKept
-guarantees-kept p es r d c n h reply room =
-    number-yes p s k q d c n reply room
-    (guarantee-admits (parties p) (guaranteeAt p) (ceilingAt p) (askedU c s) (c .point)
-    (accepted-fair p (r .plan) .capped (c .point) (create-point p s k q d c n reply room)) (let l = asked-less c s (c .point) in omega arith))
+guarantees-kept p s es r d c n h reply room =
+    number-yes p (run es s) (g .rules) (g .plan) d c n reply room
+    (guarantee-admits (parties p) (guaranteeAt p) (ceilingAt p) (askedU c (run es s)) (c .point)
+    (accepted-fair p (start-accepted p s (r .start)) .capped (c .point) (create-point p (run es s) (g .rules) (g .plan) d c n reply room))
+    (let l = asked-less c (run es s) (c .point) in omega arith))
   where
-    s : State
-    s = reached p es
-
-    k : Kept (reached p es)
-    k = reached-keeps p es r
-
-    q : reached p es .node .plan ≡ p
-    q = reached-plan p es (r .plan)
+    g : Start p (run es s)
+    g = run-start p s es r
 
 -- ---- a freed place is room at once
 -- an access point has fewer sessions than before, and none has more
@@ -101,19 +96,19 @@ pub record OneLess (a i : ℕ) (l : List Session) : Type 0 where
 pub record FreedIsRoom : Type 0 where
   pub counts : (a i : ℕ) (l : List Session) → isOn a (getD l i nobody) ≡ true → OneLess a i l
   -- after the very call that left the access point fewer sessions, a sound new Create for it is accepted
-  pub room : (p : Plan) (es : List Event) → Run p es → (e : Event) → ofOctets e ≡ true
-      → (d : List ℕ) (c : C.Create) → Fewer (c .point) (reached p es) (step e (reached p es)) → NewCreate p (step e (reached p es)) d c
-      → (reply : List ℕ) → leastReply ≤ length reply → answered (control d reply) (step e (reached p es)) ≡ 0
+  pub room : (p : Plan) (s : State) (es : List Event) → Run p s es → (e : Event) → ofOctets e ≡ true
+      → (d : List ℕ) (c : C.Create) → Fewer (c .point) (run es s) (step e (run es s)) → NewCreate p (step e (run es s)) d c
+      → (reply : List ℕ) → leastReply ≤ length reply → answered (control d reply) (step e (run es s)) ≡ 0
   -- so it is where the call freed a place of the access point and left every other record as it was
-  pub place : (p : Plan) (es : List Event) → Run p es → (e : Event) → ofOctets e ≡ true
-      → (d : List ℕ) (c : C.Create) (i : ℕ) → isOn (c .point) (at (reached p es) i) ≡ true
-      → step e (reached p es) .table ≡ changedAt freed i (reached p es .table) → NewCreate p (step e (reached p es)) d c
-      → (reply : List ℕ) → leastReply ≤ length reply → answered (control d reply) (step e (reached p es)) ≡ 0
+  pub place : (p : Plan) (s : State) (es : List Event) → Run p s es → (e : Event) → ofOctets e ≡ true
+      → (d : List ℕ) (c : C.Create) (i : ℕ) → isOn (c .point) (at (run es s) i) ≡ true
+      → step e (run es s) .table ≡ changedAt freed i (run es s .table) → NewCreate p (step e (run es s)) d c
+      → (reply : List ℕ) → leastReply ≤ length reply → answered (control d reply) (step e (run es s)) ≡ 0
   -- a place that any access point gave up is room at once, where the rule says so: u under the ceiling, and S under places after the call
-  pub others : (p : Plan) (es : List Event) → Run p es → (e : Event) → ofOctets e ≡ true
-      → (d : List ℕ) (c : C.Create) → NewCreate p (step e (reached p es)) d c
-      → u (step e (reached p es)) (c .point) < ceilingAt p (c .point) → shareOf p (u (step e (reached p es))) < places
-      → (reply : List ℕ) → leastReply ≤ length reply → answered (control d reply) (step e (reached p es)) ≡ 0
+  pub others : (p : Plan) (s : State) (es : List Event) → Run p s es → (e : Event) → ofOctets e ≡ true
+      → (d : List ℕ) (c : C.Create) → NewCreate p (step e (run es s)) d c
+      → u (step e (run es s)) (c .point) < ceilingAt p (c .point) → shareOf p (u (step e (run es s))) < places
+      → (reply : List ℕ) → leastReply ≤ length reply → answered (control d reply) (step e (run es s)) ≡ 0
   -- and freeing a place of one that has more than its guarantee makes S one less
   pub shares : (p : Plan) (a i : ℕ) (l : List Session) → a < parties p → isOn a (getD l i nobody) ≡ true → guaranteeAt p a < liveOn a l
       → shareOf p (λ b. liveOn b (changedAt freed i l)) + 1 ≡ shareOf p (λ b. liveOn b l)
@@ -161,39 +156,28 @@ one-less a i l e =
       others = λ b n. let x = rw (on-one a b (getD l i nobody) e n, freed-off b (getD l i nobody)) at (sum-set (λ s. boolByte (isOn b s)) l i (freed (getD l i nobody)) nobody h) in omega arith;
     }
 
-freed-room : (p : Plan) (es : List Event) → Run p es → (e : Event) → ofOctets e ≡ true
-    → (d : List ℕ) (c : C.Create) → Fewer (c .point) (reached p es) (step e (reached p es)) → NewCreate p (step e (reached p es)) d c
-    → (reply : List ℕ) → leastReply ≤ length reply → answered (control d reply) (step e (reached p es)) ≡ 0
-freed-room p es r e o d c f n reply room =
-    number-yes p s k q d c n reply room
-    (fewer-admitted (parties p) (guaranteeAt p) (ceilingAt p) (u (reached p es)) (askedU c s) (c .point) h
-    (accepted-fair p (r .plan) .capped (c .point) h) (reached-rules p es r .within)
-    (let l = asked-less c s (c .point) in let m = f .less in omega arith) (λ b. let l = asked-less c s b in let m = f .others b in omega arith))
-  where
-    s : State
-    s = step e (reached p es)
+-- after one more call
+module _ (p : Plan) (s : State) (g : Start p s) (e : Event) (o : ofOctets e ≡ true) (d : List ℕ) (c : C.Create) (n : NewCreate p (step e s) d c) (reply : List ℕ)
+    (room : leastReply ≤ length reply) where
+  then : Start p (step e s)
+  then = step-start p e s o g
 
-    k : Kept (step e (reached p es))
-    k = step-keeps e (reached p es) o (reached-keeps p es r)
+  freed-room : Fewer (c .point) s (step e s) → answered (control d reply) (step e s) ≡ 0
+  freed-room f =
+      number-yes p (step e s) (then .rules) (then .plan) d c n reply room
+      (fewer-admitted (parties p) (guaranteeAt p) (ceilingAt p) (u s) (askedU c (step e s)) (c .point) h
+      (accepted-fair p (start-accepted p s g) .capped (c .point) h) (start-rules p s g .within)
+      (let l = asked-less c (step e s) (c .point) in let m = f .less in omega arith) (λ b. let l = asked-less c (step e s) b in let m = f .others b in omega arith))
+    where
+      h : c .point < parties p
+      h = create-point p (step e s) (then .rules) (then .plan) d c n reply room
 
-    q : step e (reached p es) .node .plan ≡ p
-    q = step-plan e (reached p es) ∙ reached-plan p es (r .plan)
-
-    h : c .point < parties p
-    h = create-point p (step e (reached p es)) k q d c n reply room
-
-any-room : (p : Plan) (es : List Event) → Run p es → (e : Event) → ofOctets e ≡ true
-    → (d : List ℕ) (c : C.Create) → NewCreate p (step e (reached p es)) d c
-    → u (step e (reached p es)) (c .point) < ceilingAt p (c .point) → shareOf p (u (step e (reached p es))) < places
-    → (reply : List ℕ) → leastReply ≤ length reply → answered (control d reply) (step e (reached p es)) ≡ 0
-unfolding places
-any-room p es r e o d c n under room reply wide =
-    number-yes p s (step-keeps e (reached p es) o (reached-keeps p es r)) (step-plan e (reached p es) ∙ reached-plan p es (r .plan)) d c n reply wide
-    (sharable-admits (parties p) (guaranteeAt p) (ceilingAt p) (askedU c s) (c .point) (let l = asked-less c s (c .point) in omega arith)
-    (let m = share-less (parties p) (guaranteeAt p) (u s) (askedU c s) (λ b h. asked-less c s b) in omega arith))
-  where
-    s : State
-    s = step e (reached p es)
+  any-room : u (step e s) (c .point) < ceilingAt p (c .point) → shareOf p (u (step e s)) < places → answered (control d reply) (step e s) ≡ 0
+  unfolding places
+  any-room under free =
+      number-yes p (step e s) (then .rules) (then .plan) d c n reply room
+      (sharable-admits (parties p) (guaranteeAt p) (ceilingAt p) (askedU c (step e s)) (c .point) (let l = asked-less c (step e s) (c .point) in omega arith)
+      (let m = share-less (parties p) (guaranteeAt p) (u (step e s)) (askedU c (step e s)) (λ b h. asked-less c (step e s) b) in omega arith))
 
 one-less-shared : (p : Plan) (a i : ℕ) (l : List Session) → a < parties p → isOn a (getD l i nobody) ≡ true → guaranteeAt p a < liveOn a l
     → shareOf p (λ b. liveOn b (changedAt freed i l)) + 1 ≡ shareOf p (λ b. liveOn b l)
@@ -228,8 +212,9 @@ one-fewer a i before after h e =
 pub freed-is-room : FreedIsRoom
 freed-is-room = record {
   counts = one-less;
-  room = freed-room;
-  place = λ p es r e o d c i h q. freed-room p es r e o d c (one-fewer (c .point) i (reached p es) (step e (reached p es)) h q);
-  others = any-room;
+  room = λ p s es r e o d c f n reply room. freed-room p (run es s) (run-start p s es r) e o d c n reply room f;
+  place = λ p s es r e o d c i h q n reply room.
+      freed-room p (run es s) (run-start p s es r) e o d c n reply room (one-fewer (c .point) i (run es s) (step e (run es s)) h q);
+  others = λ p s es r e o d c n under free reply room. any-room p (run es s) (run-start p s es r) e o d c n reply room under free;
   shares = one-less-shared;
 }

@@ -1,15 +1,14 @@
--- The plan stays: no call changes it, so that after any run the unit goes by the plan it was started with.
+-- The plan stays: no call changes it, so that after any run the unit goes by the plan it was started with, and a further run may start there.
 -- Assumes nothing.
 use Prim.Native.Nat.{ℕ}
 use mathlib.Core.Bool.{true}
 use mathlib.Core.List.{List, [], _∷_}
 use mathlib.Core.Path.{_≡_, refl, _∙_}
-use lib.ListN.{length, drop, getD}
+use lib.ListN.{length, getD}
 use lib.Dec.{eqb, ltb}
 use Rattle.unit_session.specs.declared.Session.{Session}
 use Rattle.base_octets.specs.Choice.{split}
 use Rattle.unit_plan.specs.declared.Plan.{Plan}
-use Rattle.unit_plan.specs.Plan.{accepted}
 use Rattle.unit_sharing.specs.Sharing.{admits}
 use Rattle.unit_session.specs.Session.{isFree, hasId, freed}
 use Rattle.unit_table.specs.declared.Node.{Node}
@@ -18,15 +17,15 @@ use Rattle.unit_table.specs.declared.Owner.the-variants as F
 use Rattle.unit_table.specs.Rules.{keepsRules, live}
 use Rattle.unit_table.specs.Change.{nobody, changedAt}
 use Rattle.unit_table.specs.Find.{foundIn}
-use Rattle.unit_table.specs.Own.{freshNode, duePlace}
+use Rattle.unit_table.specs.Own.{duePlace}
 use Rattle.wire_requests.specs.declared.Create as C
 use Rattle.call_own.specs.Outcome.{State, onSession, onOwner, leastReply, noReply}
-use Rattle.call_own.specs.Calls.{freshAnswer, timed, freshState, tickOf, closeOf, echoSent, placeSent, dueSent, sendOf}
+use Rattle.call_own.specs.Calls.{timed, tickOf, closeOf, echoSent, placeSent, dueSent, sendOf}
 use Rattle.call_control.specs.Echoes.{heardBy, echoTaken, echoEnded, echoReplyTaken}
 use Rattle.call_control.specs.Amends.{causeTaken}
 use Rattle.call_control.specs.Creates.{acceptedTaken, openedAt, shared, isRepeat, settledAt, heardCreate, createTaken}
 use Rattle.call_control.specs.CreatesKept.{heard-plan}
-use Rattle.promise_demands.specs.Run.{left, Event, control, user, tick, send, close, line, step, run, line-step, start, reached}
+use Rattle.promise_demands.specs.Run.{left, Event, control, user, tick, send, close, line, step, run, line-step, ofOctets, Start, Run, step-keeps, run-keeps}
 use Rattle.wire_fields.specs.declared.Recovery.{Recovery}
 use Rattle.call_asked.specs.declared.Asked.{Asked}
 use Rattle.call_asked.specs.declared.Asked.the-variants as A
@@ -115,10 +114,9 @@ unfolding run
 run-plan [] s = refl
 run-plan (e ∷ es) s = run-plan es (step e s) ∙ step-plan e s
 
-pub start-plan : (p : Plan) → accepted p ≡ true → start p .node .plan ≡ p
-unfolding start freshState freshAnswer freshNode
-start-plan p a = rw a
+-- ---- what a start comes to is a start again
+pub step-start : (p : Plan) (e : Event) (s : State) → ofOctets e ≡ true → Start p s → Start p (step e s)
+step-start p e s o g = record { plan = step-plan e s ∙ g .plan; rules = step-keeps e s o (g .rules) }
 
-pub reached-plan : (p : Plan) (es : List Event) → accepted p ≡ true → reached p es .node .plan ≡ p
-unfolding reached
-reached-plan p es a = run-plan es (start p) ∙ start-plan p a
+pub run-start : (p : Plan) (s : State) (es : List Event) → Run p s es → Start p (run es s)
+run-start p s es r = record { plan = run-plan es s ∙ r .start .plan; rules = run-keeps es s (r .octets) (r .start .rules) }

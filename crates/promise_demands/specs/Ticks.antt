@@ -1,16 +1,15 @@
 -- Ticks: after any run, ticks among it or not, a tick takes one off every timer that runs, and gives up what is at its last. So a tick that counts
 -- only in the first call is impossible.
 -- Assumes nothing.
-use Prim.Native.Nat.{ℕ, zero, suc, _+_, _-_, _<_, _≤_}
-use mathlib.Core.Bool.{true, false, not}
+use Prim.Native.Nat.{ℕ, zero, suc, _+_, _<_, _≤_}
+use mathlib.Core.Bool.{true, false}
 use mathlib.Core.List.{List}
 use mathlib.Core.Path.{_≡_, refl, _∙_, ap}
 use native.Mathlib.Omega.{arith}
 use lib.ListN.{length, replicate}
 use lib.Dec.{eqb}
 use borrow.Author.Tests.{lt-leb}
-use Rattle.base_octets.specs.Choice.{split, impossible, and-no}
-use Rattle.base_octets.specs.Every.{every}
+use Rattle.base_octets.specs.Choice.{split, and-no}
 use Rattle.base_octets.specs.Places.{map-at}
 use Rattle.unit_tunnel.specs.Numbering.{places}
 use Rattle.unit_plan.specs.declared.Plan.{Plan}
@@ -18,14 +17,13 @@ use Rattle.unit_plan.specs.Plan.{accepted, accepted-figures}
 use Rattle.unit_session.specs.declared.OwnRequest.{OwnRequest}
 use Rattle.unit_session.specs.OwnRequest.{idle, spent, countedDown}
 use Rattle.unit_session.specs.Session.{isFree, freed, blankAt, turned, ticked}
-use Rattle.unit_table.specs.Rules.{rules-of}
 use Rattle.unit_table.specs.Change.{nobody}
 use Rattle.unit_table.specs.Own.{rested, echoTicked, allTicked, freshNode}
 use Rattle.call_own.specs.Calls.{freshAnswer, timed, freshState, tickOf}
 use Rattle.call_own.specs.Outcome.{State, noReply}
-use Rattle.promise_demands.specs.Run.{left, Event, tick, step, run, start, reached, ofOctets, Run, Kept, start-keeps, step-keeps, reached-keeps}
-use Rattle.promise_demands.specs.Stays.{start-plan, step-plan, reached-plan}
-use Rattle.promise_demands.specs.Bounds.{at, reached-rules}
+use Rattle.promise_demands.specs.Run.{left, Event, tick, step, run, ofOctets, Kept, Start, Run, fresh-start, start-accepted}
+use Rattle.promise_demands.specs.Stays.{step-start, run-start}
+use Rattle.promise_demands.specs.Bounds.{at, start-rules}
 use Rattle.promise_demands.specs.Examples.{first, echo}
 
 pub record TickCounts (p : Plan) (s : State) : Type 0 where
@@ -36,9 +34,12 @@ pub record TickCounts (p : Plan) (s : State) : Type 0 where
   pub echoLost : (i : ℕ) → i < places → spent (p .sends) (s .node .echo) ≡ true → isFree (at (step tick s) i) ≡ true
 
 pub record EveryTickCounts : Type 0 where
-  pub any : (p : Plan) (es : List Event) → Run p es → TickCounts p (reached p es)
-  -- from a fresh unit the echo's timer comes down from E by as many as there were ticks
-  pub down : (p : Plan) → accepted p ≡ true → (k : ℕ) → k ≤ p .interval → run (replicate k tick) (start p) .node .echo .timer + k ≡ p .interval
+  pub any : (p : Plan) (s : State) (es : List Event) → Run p s es → TickCounts p (run es s)
+  -- where the echo has not been sent, its timer comes down by as many as there were ticks
+  pub down : (p : Plan) (s : State) → Start p s → s .node .echo .sends ≡ 0 → (k : ℕ) → k ≤ s .node .echo .timer
+      → run (replicate k tick) s .node .echo .timer + k ≡ s .node .echo .timer
+  -- from fresh it comes down from E; that it stands at E is not among the rules, so that of another start this is not said
+  pub fresh : (p : Plan) → accepted p ≡ true → (k : ℕ) → k ≤ p .interval → run (replicate k tick) (freshState p) .node .echo .timer + k ≡ p .interval
 
 tick-is : (s : State) → Kept s → step tick s ≡ record {
   node = timed (echoTicked (s .node .plan) (s .node .echo)) (s .node .next) (s .node);
@@ -85,35 +86,39 @@ unsent : (n : ℕ) (r : OwnRequest) → r .sends ≡ 0 → 1 ≤ n → spent n r
 unfolding spent
 unsent n r z h = rw (z, lt-leb n 0 h) (and-no (eqb (r .timer) 1))
 
-falls-sends : (p : Plan) (s : State) → Kept s → s .node .plan ≡ p → spent (p .sends) (s .node .echo) ≡ false → s .node .echo .sends ≡ 0 → step tick s .node .echo .sends ≡ 0
+falls-sends : (p : Plan) (s : State) → Start p s → spent (p .sends) (s .node .echo) ≡ false → s .node .echo .sends ≡ 0 → step tick s .node .echo .sends ≡ 0
 unfolding echoTicked countedDown places
-falls-sends p s k q u z = rw (tick-echo p s k q (rules-of (s .node) (s .table) k .size), u) z
+falls-sends p s g u z = rw (tick-echo p s (g .rules) (g .plan) (start-rules p s g .size), u) z
 
-start-echo : (p : Plan) → accepted p ≡ true → start p .node .echo ≡ rested (p .interval) idle
-unfolding start freshState freshAnswer freshNode
-start-echo p a = rw a
+fresh-echo : (p : Plan) → accepted p ≡ true → freshState p .node .echo ≡ rested (p .interval) idle
+unfolding freshState freshAnswer freshNode
+fresh-echo p a = rw a
 
-echo-falls : (p : Plan) → 1 ≤ p .sends → (k : ℕ) (s : State) → Kept s → s .node .plan ≡ p → s .node .echo .sends ≡ 0 → k ≤ s .node .echo .timer
+echo-falls : (p : Plan) → 1 ≤ p .sends → (k : ℕ) (s : State) → Start p s → s .node .echo .sends ≡ 0 → k ≤ s .node .echo .timer
     → run (replicate k tick) s .node .echo .timer + k ≡ s .node .echo .timer
 unfolding run places ofOctets
-echo-falls p some zero s k q z h = omega arith
-echo-falls p some (suc n) s k q z h =
+echo-falls p some zero s g z h = omega arith
+echo-falls p some (suc n) s g z h =
     let u = unsent (p .sends) (s .node .echo) z some in
-    let d = echo-down p s k q (rules-of (s .node) (s .table) k .size) (omega arith) u in
-    let y = falls-sends p s k q u z in
-    let r = echo-falls p some n (step tick s) (step-keeps tick s refl k) (step-plan tick s ∙ q) y (omega arith) in
+    let d = echo-down p s (g .rules) (g .plan) (start-rules p s g .size) (omega arith) u in
+    let y = falls-sends p s g u z in
+    let r = echo-falls p some n (step tick s) (step-start p tick s refl g) y (omega arith) in
     omega arith
 
 pub every-tick-counts : EveryTickCounts
 unfolding places rested idle
 every-tick-counts = record {
-  any = λ p es r. record {
-    echo = echo-down p (reached p es) (reached-keeps p es r) (reached-plan p es (r .plan)) (reached-rules p es r .size);
-    place = place-down p (reached p es) (reached-keeps p es r) (reached-plan p es (r .plan)) (reached-rules p es r .size);
-    givenUp = place-up p (reached p es) (reached-keeps p es r) (reached-plan p es (r .plan)) (reached-rules p es r .size);
-    echoLost = lost-up p (reached p es) (reached-keeps p es r) (reached-plan p es (r .plan)) (reached-rules p es r .size);
-  };
-  down = λ p a k h.
-      let e = ap (λ (x : OwnRequest). x .timer) (start-echo p a) in
-      echo-falls p (accepted-figures p a .first) k (start p) (start-keeps p a) (start-plan p a) (ap (λ (x : OwnRequest). x .sends) (start-echo p a)) (omega arith) ∙ e;
+  any = λ p s es r.
+      let g = run-start p s es r in
+      let n = start-rules p (run es s) g .size in
+      record {
+        echo = echo-down p (run es s) (g .rules) (g .plan) n;
+        place = place-down p (run es s) (g .rules) (g .plan) n;
+        givenUp = place-up p (run es s) (g .rules) (g .plan) n;
+        echoLost = lost-up p (run es s) (g .rules) (g .plan) n;
+      };
+  down = λ p s g z k h. echo-falls p (accepted-figures p (start-accepted p s g) .first) k s g z h;
+  fresh = λ p a k h.
+      let e = ap (λ (x : OwnRequest). x .timer) (fresh-echo p a) in
+      echo-falls p (accepted-figures p a .first) k (freshState p) (fresh-start p a) (ap (λ (x : OwnRequest). x .sends) (fresh-echo p a)) (omega arith) ∙ e;
 }

@@ -17,8 +17,9 @@ pub fn reading_and_writing_follow_the_standards()
     ensures { λ _. ⌜ Demand2 ⌝ }
 {}
 
-// From a fresh table under an accepted plan, after any run of calls: no access point is over its ceiling; a sound new create for one under its
-// guarantee is accepted; want of room comes exactly when the sharing rule says so; a freed place is room at once.
+// From any table that keeps its rules under an accepted plan, of which a fresh one is one, after any run of calls: no access point is over its
+// ceiling; a sound new create for one under its guarantee is accepted; want of room comes exactly when the sharing rule says so; a freed place
+// is room at once.
 pub fn a_rented_place_stays_rented()
     ensures { λ _. ⌜ Demand3 ⌝ }
 {}
