@@ -4,10 +4,11 @@
 use Prim.Native.Nat.{ℕ, _%_}
 use mathlib.Core.Bool.{Bool, _&&_}
 use mathlib.Core.List.{List}
-use lib.ListN.{getD}
-use lib.Dec.{eqb}
+use lib.ListN.{length, getD}
+use lib.Dec.{eqb, ltb}
 use Rattle.base_octets.specs.Number.{taken, noFreePlace}
 use Rattle.base_octets.specs.Choice.{pick}
+use Rattle.base_octets.specs.Search.{firstOf}
 use Rattle.unit_tunnel.specs.Numbering.{teids}
 use Rattle.unit_tunnel.specs.Tunnel.{controlNumber, userNumber}
 use Rattle.unit_plan.specs.declared.Plan.{Plan}
@@ -27,9 +28,10 @@ use Rattle.wire_fields.specs.declared.Refusal.{Refusal}
 use Rattle.wire_fields.specs.Refusal.{bareRefusal, noRoomCause}
 use Rattle.wire_messages.specs.Types.{createReplyType}
 use Rattle.wire_requests.specs.declared.Create as C
-use Rattle.call_own.specs.Outcome.{State, Outcome, noReply, replied}
+use Rattle.call_own.specs.declared.Span.{Span}
+use Rattle.call_own.specs.Outcome.{State, Outcome, noPlaces, allPlaces, onePlace, twoPlaces, changing, noReply, replied}
 use Rattle.call_control.specs.Amends.{causeTaken}
-use Rattle.call_control.specs.Echoes.{heardBy}
+use Rattle.call_control.specs.Echoes.{restartsBy, heardBy}
 
 -- what of a Create a session keeps
 unfoldable pub openingOf : C.Create → ℕ → Opening
@@ -85,5 +87,17 @@ settledAt (F.At i) c seq node t node₀ t₀ reply =
 unfoldable pub heardCreate : C.Create → ℕ → State → Node → List Session → List ℕ → Outcome
 heardCreate c seq a node₀ t₀ reply = settledAt (foundIn (hasId (c .imsi) (c .ebi)) (a .table)) c seq (a .node) (a .table) node₀ t₀ reply
 
+-- ---- the places that it may change
+-- where i is the place of the session with this IMSI and EBI, or past the last: a repeat changes none; else that session is replaced, and a place
+-- is opened if there is room
+unfoldable pub openedPlaces : C.Create → ℕ → Node → List Session → ℕ → Span
+openedPlaces c seq node t i =
+    pick (ltb i (length t) && isRepeat c seq (getD t i nobody)) noPlaces
+    (pick (admits (node .plan) (live (changedAt freed i t)) (c .point)) (twoPlaces i (firstOf isFree (changedAt freed i t))) (onePlace i))
+
+-- a restart of the exchange changes all
+unfoldable pub createPlaces : C.Create → ℕ → Node → List Session → Span
+createPlaces c seq node t = pick (restartsBy (c .recovery) node) allPlaces (openedPlaces c seq node t (firstOf (hasId (c .imsi) (c .ebi)) t))
+
 unfoldable pub createTaken : C.Create → ℕ → Node → List Session → List ℕ → Outcome
-createTaken c seq node t reply = heardCreate c seq (heardBy (c .recovery) node t) node t reply
+createTaken c seq node t reply = changing (createPlaces c seq node t) (heardCreate c seq (heardBy (c .recovery) node t) node t reply)

@@ -17,7 +17,8 @@ use Rattle.wire_messages.specs.Types.{echoReplyType}
 use Rattle.wire_messages.specs.Messages.{echoOf}
 use Rattle.wire_fields.specs.declared.Recovery.{Recovery}
 use Rattle.wire_fields.specs.declared.Recovery.the-variants as R
-use Rattle.call_own.specs.Outcome.{State, Outcome, noReply, replied}
+use Rattle.call_own.specs.declared.Span.{Span}
+use Rattle.call_own.specs.Outcome.{State, Outcome, noPlaces, allPlaces, changing, noReply, replied}
 use Rattle.call_own.specs.Calls.{timed}
 
 -- whether a Recovery says that the exchange restarted, and the node once it is stored
@@ -33,6 +34,10 @@ heardNode (R.Value value) node = hearing value node
 unfoldable pub heardBy : Recovery → Node → List Session → State
 heardBy R.None node t = record { node = node; table = t }
 heardBy (R.Value value) node t = record { node = hearing value node; table = keptAfter node value t }
+
+-- the places that this may change
+unfoldable pub heardPlaces : Recovery → Node → Span
+heardPlaces r node = pick (restartsBy r node) allPlaces noPlaces
 
 -- in the words of the code: all are freed, or the table stays
 pub heard-freed : (r : Recovery) (node : Node) (t : List Session) → restartsBy r node ≡ true
@@ -50,7 +55,8 @@ heard-same (R.Value value) node t e = rw e
 -- Echo Request (1): Recovery, and the answer
 unfoldable pub echoTaken : Node → List Session → ℕ → Recovery → List ℕ → Outcome
 echoTaken node t seq recovery reply =
-    replied taken (heardBy recovery node t .node) (heardBy recovery node t .table) (echoOf echoReplyType seq (node .plan .recovery)) reply
+    changing (heardPlaces recovery node)
+    (replied taken (heardBy recovery node t .node) (heardBy recovery node t .table) (echoOf echoReplyType seq (node .plan .recovery)) reply)
 
 -- the echo's answer (2), awaited and readable, ends the echo; Recovery is looked at
 unfoldable pub echoEnded : State → State
@@ -61,7 +67,8 @@ echoEnded s = record {
 
 unfoldable pub echoReplyTaken : Node → List Session → Recovery → List ℕ → Outcome
 echoReplyTaken node t recovery reply =
-    noReply taken (echoEnded (heardBy recovery node t) .node) (echoEnded (heardBy recovery node t) .table) reply
+    changing (heardPlaces recovery node)
+    (noReply taken (echoEnded (heardBy recovery node t) .node) (echoEnded (heardBy recovery node t) .table) reply)
 
 -- ---- each keeps the rules
 module _ (node : Node) (t : List Session) (e : keepsRules node t ≡ true) where

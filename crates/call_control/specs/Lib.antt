@@ -5,3 +5,4 @@ pub mod Creates
 pub mod CreatesKept
 pub mod Control
 pub mod Kept
+pub mod Outside

@@ -21,7 +21,7 @@ use Rattle.unit_session.specs.Session.{isFree, isClosing}
 use Rattle.unit_table.specs.declared.Node.{Node}
 use Rattle.unit_table.specs.Rules.{keepsRules}
 use Rattle.unit_table.specs.Change.{nobody}
-use Rattle.call_own.specs.Outcome.{Outcome, leastReply, bare, Back, back, backWith}
+use Rattle.call_own.specs.Outcome.{Outcome, leastReply, noPlaces, bare, Back, back, backWith}
 
 -- a tab, then the field
 unfoldable pub numberText : ℕ → List ℕ
@@ -60,7 +60,7 @@ lineBy kept there node place s reply =
     pick (ltb (length reply) leastReply) (back (bare replyShort node) reply)
     (pick kept
     (pick there
-    (back (record { number = taken; size = laid 0 (lineText place s) reply .at; node = node }) (laid 0 (lineText place s) reply .out))
+    (back (record { number = taken; size = laid 0 (lineText place s) reply .at; node = node; span = noPlaces }) (laid 0 (lineText place s) reply .out))
     (back (bare noPlace node) reply))
     (back (bare rulesBroken node) reply))
 

@@ -1,9 +1,12 @@
-// The line of a place, on values: what the bench prints of it, without a line end.
+// The line of a place, on values: what the bench prints of it, without a line end; and where its session is.
 use unit_session::Session;
+use unit_table::Node;
+use unit_tunnel::Unit;
 ghost use mathlib.Core.Path.{_≡_};
 ghost use mathlib.Core.List.{_++_};
 ghost use Rattle.base_numerals.specs.Laid.{laid, written};
 ghost use Rattle.call_line.specs.Line.{numberText, imsiText, addressText, stateLetter, heldText, lineText, restText};
+ghost use Rattle.call_line.specs.Where.{peerOf, addressAt};
 
 // A tab, then a number.
 fn put_number(out: &mut [u8], at: usize, n: u32) -> usize
@@ -85,4 +88,26 @@ pub fn put_line(out: &mut [u8], place: usize, s: Session) -> usize
     let letter = state_letter(s);
     let d = base_numerals::put(out, c, letter);
     put_rest(out, d, s)
+}
+
+// The control address of a session's peer; 0 of a free place.
+pub fn peer_of(s: Session) -> u32
+    ensures { λ r. ⌜ r ≡ peerOf s ⌝ }
+{
+    let free = s.is_free();
+    if free {
+        return 0;
+    }
+    s.controladdr
+}
+
+// The address of a place's session, by the plan; 0 past the last place.
+pub fn address_at(node: Node, place: usize) -> u32
+    ensures { λ r. ⌜ r ≡ addressAt node place ⌝ }
+{
+    if place < Unit::PLACES {
+        let plan = node.plan;
+        return plan.address(place);
+    }
+    0
 }

@@ -2,18 +2,20 @@
 -- length, reply buffer, records and what goes with them, for any table whatever; refusals stand in document 01's order.
 -- Assumes nothing.
 use Prim.Native.Nat.{ℕ}
+use mathlib.Core.Bool.{Bool, not, _&&_}
 use mathlib.Core.List.{List, []}
 use lib.ListN.{length, getD, replicate}
 use lib.Dec.{eqb, ltb}
 use Rattle.base_octets.specs.Number.{taken, replyShort, rulesBroken, noPlace, planBreaks, nothingDue}
 use Rattle.base_octets.specs.Choice.{pick}
+use Rattle.base_octets.specs.Every.{every}
 use Rattle.unit_tunnel.specs.Numbering.{places}
 use Rattle.unit_plan.specs.declared.Plan.{Plan}
 use Rattle.unit_plan.specs.Limits.{noPlan}
 use Rattle.unit_plan.specs.Plan.{accepted}
 use Rattle.unit_session.specs.declared.OwnRequest.{OwnRequest}
 use Rattle.unit_session.specs.declared.Session.{Session}
-use Rattle.unit_session.specs.OwnRequest.{sentOnce}
+use Rattle.unit_session.specs.OwnRequest.{sentOnce, spent}
 use Rattle.unit_session.specs.Session.{isFree, closed, sent}
 use Rattle.unit_table.specs.declared.Node.{Node}
 use Rattle.unit_table.specs.Rules.{keepsRules}
@@ -23,7 +25,8 @@ use Rattle.unit_table.specs.Own.{echoTicked, allTicked, duePlace, freshNode}
 use Rattle.wire_messages.specs.Types.{echoType}
 use Rattle.wire_messages.specs.Messages.{echoOf, deleteBearer}
 use Rattle.call_own.specs.declared.Answer.{Answer}
-use Rattle.call_own.specs.Outcome.{Outcome, outcome, leastReply, State, bare, noReply, replied, Done, bareOn, onSession}
+use Rattle.call_own.specs.declared.Span.{Span}
+use Rattle.call_own.specs.Outcome.{Outcome, outcome, leastReply, State, noPlaces, allPlaces, onePlace, bare, spanning, changing, noReply, replied, Done, bareOn, onSession}
 
 -- the node with another echo and next number
 unfoldable pub timed : OwnRequest → ℕ → Node → Node
@@ -32,7 +35,7 @@ timed echo next node = record { plan = node .plan; echo = echo; next = next; hea
 -- ---- fresh: 2 where there are not as many records as places, 16 where the plan breaks a limit
 -- a plan that breaks a limit leaves a state with no access points
 unfoldable pub freshAnswer : Plan → Answer
-freshAnswer p = pick (accepted p) (bare taken (freshNode p)) (bare planBreaks (freshNode noPlan))
+freshAnswer p = spanning allPlaces (pick (accepted p) (bare taken (freshNode p)) (bare planBreaks (freshNode noPlan)))
 
 -- records are zero, use included, either way
 unfoldable pub freshState : Plan → State
@@ -49,10 +52,19 @@ unfoldable pub freshBy : ℕ → Plan → Answer
 freshBy count p = pick (eqb count places) (freshAnswer p) (bare rulesBroken (freshNode noPlan))
 
 -- ---- tick: 2
+-- no place awaits a number, so that no timer runs
+unfoldable pub quiet : List Session → Bool
+quiet t = every (λ s. eqb (s .own .sends) 0) t
+
+-- where all are quiet no record changes, unless the echo is given up, which frees all
+unfoldable pub tickPlaces : Node → List Session → Span
+tickPlaces node t = pick (quiet t && not (spent (node .plan .sends) (node .echo))) noPlaces allPlaces
+
 unfoldable pub tickOf : Node → List Session → Outcome
 tickOf node t =
     pick (keepsRules node t)
-    (noReply taken (timed (echoTicked (node .plan) (node .echo)) (node .next) node) (allTicked (node .plan) (node .echo) t) [])
+    (changing (tickPlaces node t)
+    (noReply taken (timed (echoTicked (node .plan) (node .echo)) (node .next) node) (allTicked (node .plan) (node .echo) t) []))
     (noReply rulesBroken node t [])
 
 -- ---- close: 2, 10; a place that is closing already stays as it is
@@ -74,8 +86,9 @@ echoSent node t k reply =
 
 unfoldable pub placeSent : Node → List Session → ℕ → ℕ → Session → List ℕ → Outcome
 placeSent node t k i s reply =
-    replied taken (timed (node .echo) (stepped (s .own .sends) k (node .next)) node) (changedAt (sent (node .plan .resend) k) i t)
-    (deleteBearer (s .control) (sentOnce (node .plan .resend) k (s .own) .number) (s .ebi)) reply
+    changing (onePlace i)
+    (replied taken (timed (node .echo) (stepped (s .own .sends) k (node .next)) node) (changedAt (sent (node .plan .resend) k) i t)
+    (deleteBearer (s .control) (sentOnce (node .plan .resend) k (s .own) .number) (s .ebi)) reply)
 
 -- who is sent next, of a table that keeps its rules
 unfoldable pub dueSent : Node → List Session → ℕ → List ℕ → Outcome

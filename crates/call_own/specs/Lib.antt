@@ -3,3 +3,4 @@ pub mod Calls
 pub mod OnSession
 pub mod Kept
 pub mod Others
+pub mod Outside

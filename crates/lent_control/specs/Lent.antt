@@ -23,7 +23,7 @@ use Rattle.step_control.specs.declared.Basis.{Basis}
 use Rattle.step_control.specs.declared.Concerned.{Concerned}
 use Rattle.step_control.specs.declared.Taken.{Taken}
 use Rattle.step_control.specs.declared.Verdict.{Verdict}
-use Rattle.step_control.specs.Step.{targetOf, basisOf, verdictIn, opensAt, concernedOf, concernedIn, takenWith, takenOn, nodeAfter, freedCount, concernedPut, placedConcerned}
+use Rattle.step_control.specs.Step.{targetOf, basisOf, verdictIn, opensAt, concernedOf, concernedIn, takenWith, takenOn, nodeAfter, freedCount, concernedPut, changedPlaces, placedConcerned}
 use Rattle.step_whole.specs.Basis.{CheckTold, basis-sees}
 use Rattle.step_whole.specs.Whole.{InPlace, control-same}
 
@@ -37,8 +37,8 @@ checked-told node key l = record {
 }
 
 -- what of an answer goes back by value
-unfoldable pub takenAnswer : Node → Taken → Answer
-takenAnswer node o = record { number = o .number; size = o .size; node = nodeAfter o node }
+unfoldable pub takenAnswer : Node → Concerned → Taken → Answer
+takenAnswer node p o = record { number = o .number; size = o .size; node = nodeAfter o node; span = changedPlaces p o }
 
 -- the two records that are concerned
 unfoldable pub basisLent : Node → List Session → Asked → ℕ → Basis
@@ -84,7 +84,7 @@ unfolding freeLent twoPut concernedPut
 concerned-put l xs zs p o e-xs e-zs = rw (e-zs, e-xs)
 
 pub settled-lent : (node : Node) (l zs : List Session) (a : Asked) (reply after : List ℕ) (p : Concerned) (o : Taken) (r : Answer)
-    → p ≡ concernedLent node l a (length reply) → takenWith o after ≡ takenOn node a p reply → zs ≡ concernedPut l p o → r ≡ takenAnswer node o
+    → p ≡ concernedLent node l a (length reply) → takenWith o after ≡ takenOn node a p reply → zs ≡ concernedPut l p o → r ≡ takenAnswer node p o
     → outcome r zs after ≡ settledLent node l a reply
 unfolding settledLent placedConcerned takenAnswer
 settled-lent node l zs a reply after p o r e-p e-o e-zs e-r = rw (e-r, e-zs, ← e-p, ← e-o)

@@ -13,14 +13,16 @@ ghost use Rattle.call_control.specs.Control.{controlTaken};
 ghost use Rattle.step_control.specs.Step.{concernedPut};
 ghost use Rattle.lent_control.specs.Lent.{takenAnswer, basisLent, concernedLent, freeLent, twoPut, settledLent};
 
-fn taken_answer(node: Node, o: Taken) -> Answer
-    ensures { λ r. ⌜ r ≡ takenAnswer node o ⌝ }
+fn taken_answer(node: Node, p: Concerned, o: Taken) -> Answer
+    ensures { λ r. ⌜ r ≡ takenAnswer node p o ⌝ }
 {
+    let span = step_control::changed_places(p, o);
     let after = step_control::node_after(node, o);
     Answer {
         number: o.number,
         size: o.size,
         node: after,
+        span,
     }
 }
 
@@ -82,7 +84,7 @@ fn settled_lent(node: Node, recs: &mut [Session], asked: Asked, reply: &mut [u8]
     let p = concerned_lent(node, recs, asked, reply.len());
     let o = step_control::taken_on(node, asked, p, reply);
     put_concerned(recs, p, o);
-    taken_answer(node, o)
+    taken_answer(node, p, o)
 }
 
 // Take control datagram: it is read, and what it asks for is done.

@@ -97,9 +97,9 @@ module _ (node : Node) (l zs : List Session) (reply after : List ℕ) (p : Sendi
   sends-place : (j k : ℕ) → p ≡ At j k → outcome r zs after ≡ placeSent node l k j (getD l j nobody) reply
   unfolding placeOf sentBy sendAnswer placeAnswer placeSent changedAt
   sends-place j k e =
-      let q : back r after ≡ placeAnswer node k s reply = rw e at e-r in
-      let f : r ≡ placeAnswer node k s reply .answer = ap (λ (x : Back). x .answer) q in
-      let g : after ≡ placeAnswer node k s reply .reply = ap (λ (x : Back). x .reply) q in
+      let q : back r after ≡ placeAnswer node k j s reply = rw e at e-r in
+      let f : r ≡ placeAnswer node k j s reply .answer = ap (λ (x : Back). x .answer) q in
+      let g : after ≡ placeAnswer node k j s reply .reply = ap (λ (x : Back). x .reply) q in
       rw (f, g, e-z, e-t, e-s, e-i, e)
 
   pub lent-send : (v : Checked) (awaiting : Bool) (waits : List ℕ) → v ≡ checkedOf node 0 l → awaiting ≡ awaitingIn v → waits ≡ readOf (λ z. waitOf (z .own)) awaiting l

@@ -38,7 +38,7 @@ pub extern "C" fn grugavorn_tick(node: Node, recs: &mut [Session]) -> Answer
     let c = step_own::tick_change(node);
     let n = step_own::tick_count(how, node);
     lent_records::change_each(recs, c, n);
-    step_own::tick_answer(how, node)
+    step_own::tick_answer(how, n, node)
 }
 
 // Close a place.
@@ -50,7 +50,7 @@ pub extern "C" fn grugavorn_close(node: Node, recs: &mut [Session], place: usize
     let s = lent_records::read(recs, place);
     let c = step_own::closed_by(kept, s);
     lent_records::put(recs, place, c);
-    step_own::close_answer(kept, node, s)
+    step_own::close_answer(kept, node, place, s)
 }
 
 // Send next due.

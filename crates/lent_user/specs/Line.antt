@@ -15,6 +15,7 @@ use Rattle.unit_table.specs.Rules.{keepsRules, rules-of}
 use Rattle.call_own.specs.declared.Answer.{Answer}
 use Rattle.call_own.specs.Outcome.{outcome, Back, back, backWith}
 use Rattle.call_line.specs.Line.{lineBy, lineOf}
+use Rattle.call_line.specs.Where.{peerOf, peerAt}
 
 -- records that keep the rules are as many as there are places
 pub line-lent : (node : Node) (l : List Session) (place : ℕ) (reply after : List ℕ) (kept : Bool) (s : Session) (r : Answer)
@@ -24,3 +25,8 @@ unfolding lineOf lineBy
 line-lent node l place reply after kept s r k e made =
     ap (λ (x : Back). backWith l x) made
     ∙ rw (k, e) (split (keepsRules node l) (λ q. let n = rules-of node l q .size in rw (q, n)) (λ q. rw q))
+
+-- where its peer is needs one record alone
+pub peer-lent : (l : List Session) (place : ℕ) (s : Session) (r : ℕ) → s ≡ getD l place (blankAt 0) → r ≡ peerOf s → r ≡ peerAt l place
+unfolding peerAt
+peer-lent l place s r e-s e-r = rw (e-r, e-s)

@@ -1,7 +1,8 @@
-// The user call and the line of a place, as firmware makes them: the caller lends its records to be read where they lie. `take_user` hands the payload
+// The user call, the line of a place and where its session is, as firmware asks for them: the caller lends its records to be read where they lie. `take_user` hands the payload
 // back as the part of the datagram that it is; at the C boundary, where no part can be handed back, its place and length are.
 use base_octets::Number;
 use call_own::Answer;
+use call_own::Span;
 use call_user::Handed;
 use unit_session::Session;
 use unit_table::Node;
@@ -16,6 +17,7 @@ ghost use lib.Dec.{ltb};
 ghost use Rattle.unit_tunnel.specs.Numbering.{places};
 ghost use Rattle.call_own.specs.Outcome.{outcome, back};
 ghost use Rattle.call_line.specs.Line.{lineBy, lineOf};
+ghost use Rattle.call_line.specs.Where.{peerAt, addressAt};
 
 // Take user datagram, answered in numbers, where it is known whether the records keep the rules, with the record at the place that the
 // datagram concerns.
@@ -82,10 +84,12 @@ pub fn line_by(kept: bool, node: Node, place: usize, s: Session, reply: &mut [u8
         return Answer::bare(Number::NO_PLACE, node);
     }
     let size = call_line::put_line(reply, place, s);
+    let span = Span { from: 0, to: 0 };
     Answer {
         number: Number::TAKEN,
         size,
         node,
+        span,
     }
 }
 
@@ -102,4 +106,21 @@ pub extern "C" fn grugavorn_line(
     let kept = lent_check::keeps_rules(node, recs);
     let s = lent_records::read(recs, place);
     line_by(kept, node, place, s, reply)
+}
+
+// The control address of the peer of a place's session.
+#[no_mangle]
+pub extern "C" fn grugavorn_peer(recs: &[Session], place: usize) -> u32
+    ensures { λ r. ⌜ r ≡ peerAt (now (recs .entry)) place ⌝ }
+{
+    let s = lent_records::read(recs, place);
+    call_line::peer_of(s)
+}
+
+// The address of a place's session.
+#[no_mangle]
+pub extern "C" fn grugavorn_address(node: Node, place: usize) -> u32
+    ensures { λ r. ⌜ r ≡ addressAt node place ⌝ }
+{
+    call_line::address_at(node, place)
 }

@@ -4,7 +4,7 @@
 use Prim.Native.Nat.{ℕ, _<_, _≤_}
 use mathlib.Core.Bool.{Bool, true, false, not, _&&_}
 use mathlib.Core.List.{List}
-use mathlib.Core.Path.{_≡_, refl, _∙_}
+use mathlib.Core.Path.{_≡_, refl, _∙_, ap}
 use native.Mathlib.Omega.{arith}
 use lib.ListN.{length, getD, drop}
 use lib.Dec.{ltb}
@@ -36,13 +36,13 @@ use Rattle.wire_requests.specs.declared.Create as C
 use Rattle.wire_requests.specs.declared.Decoded.the-variants as D
 use Rattle.wire_requests.specs.declared.Request.the-variants as Q
 use Rattle.wire_requests.specs.Create.{createOf, create-sound}
-use Rattle.call_own.specs.Outcome.{State, Outcome, leastReply, noReply}
+use Rattle.call_own.specs.Outcome.{State, Outcome, leastReply, noReply, changing}
 use Rattle.wire_header.specs.Types.{kindBy}
 use Rattle.wire_messages.specs.Types.{createReplyType}
 use Rattle.call_asked.specs.Asked.{kindAsked, requestAsked, soundAsked, askedOf}
 use Rattle.call_control.specs.Echoes.{heardBy, heard-keeps}
 use Rattle.call_control.specs.Amends.{causeTaken}
-use Rattle.call_control.specs.Creates.{openingOf, acceptedTaken, noRoom, openedAt, shared, isRepeat, settledAt, heardCreate, createTaken}
+use Rattle.call_control.specs.Creates.{openingOf, acceptedTaken, noRoom, openedAt, shared, isRepeat, settledAt, heardCreate, createPlaces, createTaken}
 use Rattle.call_control.specs.Control.{askedTaken, controlTaken}
 use Rattle.promise_demands.specs.Run.{control, Kept}
 use Rattle.call_control.specs.CreatesKept.{heard-plan}
@@ -79,12 +79,14 @@ askedU c s a = liveOn a (tableAsked c s)
 -- ---- what is done where the rule admits it: the lowest free place is opened, and the 78 octets go out
 unfoldable pub acceptedOf : ℕ → C.Create → State → List ℕ → Outcome
 acceptedOf seq c s reply =
-    acceptedTaken seq (freePlace (tableAsked c s)) (opened (openingOf c seq) (getD (tableAsked c s) (freePlace (tableAsked c s)) nobody)) (heard c s .node)
-    (changedAt (opened (openingOf c seq)) (freePlace (tableAsked c s)) (tableAsked c s)) reply
+    changing (createPlaces c seq (s .node) (s .table))
+    (acceptedTaken seq (freePlace (tableAsked c s)) (opened (openingOf c seq) (getD (tableAsked c s) (freePlace (tableAsked c s)) nobody)) (heard c s .node)
+    (changedAt (opened (openingOf c seq)) (freePlace (tableAsked c s)) (tableAsked c s)) reply)
 
 -- and where it does not: cause 73, to the TEID of the sender
 unfoldable pub refusedOf : ℕ → C.Create → State → List ℕ → Outcome
-refusedOf seq c s reply = causeTaken createReplyType (c .control) seq noRoom (heard c s .node) (tableAsked c s) reply
+refusedOf seq c s reply =
+    changing (createPlaces c seq (s .node) (s .table)) (causeTaken createReplyType (c .control) seq noRoom (heard c s .node) (tableAsked c s) reply)
 
 -- ---- a Create comes to the sharing rule
 pub none-found : (p : Session → Bool) (l : List Session) → foundIn p l ≡ F.Nothing → length l ≤ firstOf p l
@@ -116,11 +118,13 @@ module _ (p : Plan) (s : State) (kept : Kept s) (plan : s .node .plan ≡ p) (d 
   decoded : createOf (s .node .plan) (drop (headerOf d .fields) d) ≡ D.Sound (Q.Create c)
   decoded = rw plan (n .sound .fields)
 
-  comes-to : controlTaken (s .node) (s .table) d reply ≡ shared c seq (heard c s .node) (tableAsked c s) (s .node) (s .table) reply
+  comes-to : controlTaken (s .node) (s .table) d reply
+      ≡ changing (createPlaces c seq (s .node) (s .table)) (shared c seq (heard c s .node) (tableAsked c s) (s .node) (s .table) reply)
   unfolding controlTaken askedTaken askedOf kindAsked kindBy requestAsked soundAsked createTaken heardCreate leastReply tableAsked
   comes-to =
       rw (le-ltb (length reply) leastReply room, kept, n .sound .header, n .sound .kind, decoded)
-      (settled-shared c seq (heard c s .node) (heard c s .table) (s .node) (s .table) reply (foundIn (hasId (c .imsi) (c .ebi)) (heard c s .table)) refl (n .new))
+      (ap (changing (createPlaces c seq (s .node) (s .table)))
+      (settled-shared c seq (heard c s .node) (heard c s .table) (s .node) (s .table) reply (foundIn (hasId (c .imsi) (c .ebi)) (heard c s .table)) refl (n .new)))
 
   asked-plan : heard c s .node .plan ≡ p
   asked-plan = heard-plan (c .recovery) (s .node) (s .table) ∙ plan

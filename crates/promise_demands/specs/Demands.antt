@@ -5,6 +5,7 @@ use Rattle.promise_demands.specs.Counts.{OthersRefused, others-refused}
 use Rattle.promise_demands.specs.Refusals.{NumbersKnown, NoEleven, TwoNever, TwoAlways, OneFirst, numbers-known, no-eleven, two-never, two-always, one-first}
 use Rattle.promise_demands.specs.Leaves.{Leaves, all-leave}
 use Rattle.promise_demands.specs.Rests.{RestsStay, rests-stay}
+use Rattle.promise_demands.specs.Outside.{OutsideStays, outside-stays}
 use Rattle.promise_demands.specs.Sixteen.{SixteenThenTwo, sixteen-then-two}
 use Rattle.promise_demands.specs.Kept.{CallsKeep, calls-keep}
 use Rattle.promise_demands.specs.Pairs.{PairsHold, pairs-hold}
@@ -39,6 +40,7 @@ pub record Demand1 : Type 0 where
   pub short : OneFirst
   pub leaves : Leaves
   pub rests : RestsStay
+  pub outside : OutsideStays
   pub sixteen : SixteenThenTwo
   pub notRefused : NotAllRefused
 
@@ -95,6 +97,7 @@ demand-1 = record {
   short = one-first;
   leaves = all-leave;
   rests = rests-stay;
+  outside = outside-stays;
   sixteen = sixteen-then-two;
   notRefused = not-all-refused;
 }

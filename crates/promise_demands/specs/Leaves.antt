@@ -5,7 +5,7 @@ use Prim.Native.Nat.{ℕ}
 use mathlib.Core.Bool.{true, false, not}
 use mathlib.Core.List.{List, [], _∷_}
 use mathlib.Core.Logic.{_≢_}
-use mathlib.Core.Path.{_≡_, refl, sym, _∙_}
+use mathlib.Core.Path.{_≡_, refl, sym, _∙_, ap}
 use native.Mathlib.Omega.{arith}
 use lib.ListN.{length, getD, replicate}
 use lib.Seq.{set-getD}
@@ -43,17 +43,17 @@ use Rattle.wire_requests.specs.declared.Context.the-variants as X
 use Rattle.wire_fields.specs.declared.Tunnel.{Tunnel}
 use Rattle.wire_fields.specs.declared.Tunnel.the-variants as T
 use Rattle.wire_requests.specs.Change.{endMoves, contextMoves, movesOf, meansOf}
-use Rattle.call_own.specs.Outcome.{Outcome, Done, bareOn, onSession, onOwner, leastReply, noReply, replied}
+use Rattle.call_own.specs.Outcome.{Outcome, Done, bareOn, onSession, onOwner, leastReply, noReply, replied, allPlaces, sessionPlace, changing}
 use Rattle.call_own.specs.Calls.{freshAnswer, freshState, freshOf, tickOf, closeOn, closeOf, echoSent, placeSent, dueSent, sendOf}
 use Rattle.call_asked.specs.declared.Concern.{Concern}
 use Rattle.call_asked.specs.declared.Concern.the-variants as S
 use Rattle.call_asked.specs.declared.Asked.{Asked}
 use Rattle.call_asked.specs.declared.Asked.the-variants as A
 use Rattle.call_asked.specs.Asked.{askedOf}
-use Rattle.call_control.specs.Echoes.{heardBy, echoTaken, echoReplyTaken}
+use Rattle.call_control.specs.Echoes.{heardBy, echoTaken, echoReplyTaken, heardPlaces}
 use Rattle.call_control.specs.Amends.{causeOctets, causeTaken, causeOn, notLive, movedOn, modifyBy, modifyOn, freedOn, deleteOn, bearerOn}
 use Rattle.call_control.specs.Amends.{concernOn, noneOn, sessionOn}
-use Rattle.call_control.specs.Creates.{acceptedTaken, noRoom, openedAt, shared, isRepeat, settledAt, heardCreate, createTaken}
+use Rattle.call_control.specs.Creates.{acceptedTaken, noRoom, openedAt, shared, isRepeat, settledAt, heardCreate, createTaken, createPlaces}
 use Rattle.call_control.specs.Control.{askedTaken, controlTaken}
 use Rattle.wire_user.specs.Header.{userEchoType, typeOf, userTeidOf, userSequenceOf, userHeaderOf, header-packet, header-echo}
 use Rattle.wire_user.specs.User.{userOf}
@@ -64,12 +64,17 @@ use Rattle.promise_demands.specs.Answers.{createNumbers}
 use Rattle.promise_demands.specs.Creates.{none-found}
 use Rattle.promise_demands.specs.UserNumbers.{userReads, read-number}
 use Rattle.promise_demands.specs.Numbers.{among-other, silentNumbers, ConcernKnown, AskedKnown, asked-known}
+use Rattle.call_own.specs.declared.Span.{Span}
 
 -- the numbers of take control datagram whose cell is empty
 unfoldable pub controlSilent : List ℕ
 controlSilent = 1 ∷ 2 ∷ 3 ∷ 4 ∷ 6 ∷ 7 ∷ 8 ∷ 9 ∷ 11 ∷ []
 
--- silence
+-- all but the places that it says may have changed
+abbrev pub ButForPlaces : Outcome → Outcome → Type 0
+ButForPlaces o x = o ≡ changing (o .answer .span) x
+
+-- silence; no place has changed
 abbrev pub AllAsLent : Outcome → Node → List Session → List ℕ → Type 0
 AllAsLent o node t reply = o ≡ noReply (o .answer .number) node t reply
 
@@ -89,8 +94,8 @@ ButForCreate a o node t =
 
 -- take control datagram, by the number of what it comes to: 5 has the eight octets; every number but 0 and 73 has the table kept
 pub record ControlLeaves (node : Node) (t : List Session) (reply : List ℕ) (a : Asked) (o : Outcome) : Type 0 where
-  pub silent : among (o .answer .number) controlSilent ≡ true → AllAsLent o node t reply
-  pub five : o .answer .number ≡ 5 → o ≡ replied 5 node t versionNotSupported reply
+  pub silent : among (o .answer .number) controlSilent ≡ true → ButForPlaces o (noReply (o .answer .number) node t reply)
+  pub five : o .answer .number ≡ 5 → ButForPlaces o (replied 5 node t versionNotSupported reply)
   pub kept : o .answer .number ≢ 0 → o .answer .number ≢ 73 → TableKept o node t
   pub room : o .answer .number ≡ 73 → ButForCreate a o node t
 
@@ -108,7 +113,7 @@ pub record Leaves : Type 0 where
   pub line : (node : Node) (t : List Session) (place : ℕ) (reply : List ℕ) → Silent (lineOf node t place reply) node t reply
   -- fresh: a state with no access points; records zero after 16, kept after 2
   pub sixteen : (plan : Plan) (t : List Session) → freshOf plan t .answer .number ≡ 16
-      → freshOf plan t ≡ noReply 16 (freshNode noPlan) (replicate places nobody) []
+      → freshOf plan t ≡ changing allPlaces (noReply 16 (freshNode noPlan) (replicate places nobody) [])
   pub two : (plan : Plan) (t : List Session) → freshOf plan t .answer .number ≡ 2 → freshOf plan t ≡ noReply 2 (freshNode noPlan) t []
 
 -- ---- laws of lists of numbers
@@ -192,7 +197,7 @@ module _ (seq : ℕ) (s : Session) where
 module _ (node : Node) (t : List Session) (reply : List ℕ) where
   pub record Comes (a : Asked) (o : Outcome) : Type 0 where
     pub message : List ℕ
-    pub over : o ≡ replied (o .answer .number) (o .answer .node) (o .table) message reply
+    pub over : ButForPlaces o (replied (o .answer .number) (o .answer .node) (o .table) message reply)
     pub silent : among (o .answer .number) controlSilent ≡ true → message ≡ []
     pub five : o .answer .number ≡ 5 → message ≡ versionNotSupported
     pub kept : o .answer .number ≢ 0 → o .answer .number ≢ 73 → TableKept o node t
@@ -233,6 +238,17 @@ module _ (node : Node) (t : List Session) (reply : List ℕ) where
         room = λ e. absurd (not-is n 73 (5 ∷ 73 ∷ []) (h .other) refl e);
       }
 
+  -- whatever places it says
+  with-places : (a : Asked) (span : Span) (o : Outcome) → Comes a o → Comes a (changing span o)
+  with-places a span o c = record {
+    message = c .message;
+    over = ap (changing span) (c .over);
+    silent = c .silent;
+    five = c .five;
+    kept = c .kept;
+    room = c .room;
+  }
+
   -- a Create: t′ and node′ are as they are after Recovery
   module _ (c : C.Create) (seq : ℕ) where
     shared-comes : (t′ : List Session) → t′ ≡ replaced (c .imsi) (c .ebi) (heardBy (c .recovery) node t .table)
@@ -257,7 +273,7 @@ module _ (node : Node) (t : List Session) (reply : List ℕ) where
 
     create-comes : Comes (A.Create c seq) (createTaken c seq node t reply)
     unfolding createTaken heardCreate settledAt replaced acceptedTaken
-    create-comes = by (foundIn (hasId (c .imsi) (c .ebi)) l) refl
+    create-comes = with-places _ (createPlaces c seq node t) _ (by (foundIn (hasId (c .imsi) (c .ebi)) l) refl)
       where
         l : List Session
         l = heardBy (c .recovery) node t .table
@@ -280,8 +296,8 @@ module _ (node : Node) (t : List Session) (reply : List ℕ) where
     kept = λ k l. (refl, refl);
     room = λ k. absurd (omega arith);
   }
-  asked-comes (A.Echo recovery seq) h = done _ _ _ (echoOf echoReplyType seq (node .plan .recovery))
-  asked-comes (A.EchoReply recovery) h = done _ _ _ []
+  asked-comes (A.Echo recovery seq) h = with-places _ (heardPlaces recovery node) _ (done _ _ _ (echoOf echoReplyType seq (node .plan .recovery)))
+  asked-comes (A.EchoReply recovery) h = with-places _ (heardPlaces recovery node) _ (done _ _ _ [])
   asked-comes (A.Create c seq) h = create-comes c seq
   asked-comes (A.Refused w to seq) h = record {
     message = causeOctets createReplyType to seq w;
@@ -357,7 +373,7 @@ unfolding tickOf noReply
 tick-leaves node t n = split (keepsRules node t) (λ e. absurd ((rw e at n) refl)) (λ e. rw e)
 
 close-leaves : (node : Node) (t : List Session) (place : ℕ) → Silent (closeOf node t place) node t []
-unfolding closeOf onSession closeOn bareOn changedAt noReply overlay
+unfolding closeOf onSession sessionPlace closeOn bareOn changedAt noReply overlay
 close-leaves node t place n =
     split (keepsRules node t)
     (λ e. split (isFree (getD t place nobody)) (λ f. rw (e, f, set-getD t place nobody)) (λ f. absurd ((rw (e, f) at n) refl)))
@@ -381,7 +397,7 @@ line-leaves node t place reply n =
     (λ e. rw (a, e)))
 
 sixteen-leaves : (plan : Plan) (t : List Session) → freshOf plan t .answer .number ≡ 16
-    → freshOf plan t ≡ noReply 16 (freshNode noPlan) (replicate places nobody) []
+    → freshOf plan t ≡ changing allPlaces (noReply 16 (freshNode noPlan) (replicate places nobody) [])
 unfolding freshOf freshAnswer freshState noReply
 sixteen-leaves plan t n =
     split (eqb (length t) places)

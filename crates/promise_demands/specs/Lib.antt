@@ -16,6 +16,7 @@ pub mod InTime
 pub mod Kept
 pub mod Leaves
 pub mod Numbers
+pub mod Outside
 pub mod Packets
 pub mod Pairs
 pub mod Place

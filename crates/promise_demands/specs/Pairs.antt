@@ -30,7 +30,7 @@ use Rattle.unit_table.specs.Rules.{rules-of}
 use Rattle.unit_table.specs.Find.{ownerOf, heldIn, owner-is}
 use Rattle.wire_messages.specs.Messages.{versionNotSupported, errorIndication}
 use Rattle.wire_requests.specs.declared.Create as C
-use Rattle.call_own.specs.Outcome.{State, Outcome, outcome, leastReply}
+use Rattle.call_own.specs.Outcome.{State, Outcome, outcome, leastReply, noPlaces}
 use Rattle.call_asked.specs.Asked.{askedOf}
 use Rattle.call_control.specs.Control.{askedTaken, controlTaken}
 use Rattle.call_user.specs.User.{Took, took, silent, userReplied, packetTaken, headerTaken, userTaken, user-read, user-unread}
@@ -81,7 +81,7 @@ Holds (unknown d teid) = (s : State) (reply : List ℕ) → Lives s reply
 Holds (asks g k u a number) = (s : State) (d reply : List ℕ) (c : C.Create) → Kept s → NewCreate (s .node .plan) s d c → leastReply ≤ length reply
     → Shares s c g k u → c .point ≡ a → answered (control d reply) s ≡ number
 Holds (answers d number m) = (s : State) (reply : List ℕ) → Kept s → leastReply ≤ length reply
-    → controlTaken (s .node) (s .table) d reply ≡ outcome (record { number = number; size = length m; node = s .node }) (s .table) (overlay m reply)
+    → controlTaken (s .node) (s .table) d reply ≡ outcome (record { number = number; size = length m; node = s .node; span = noPlaces }) (s .table) (overlay m reply)
 
 pub pairs : List Pair
 pairs =
@@ -157,7 +157,7 @@ module _ (g k u : List ℕ) (a : ℕ) (s : State) (d reply : List ℕ) (c : C.Cr
 
 version-so : (d : List ℕ) → gateOf d ≡ 5 → (s : State) (reply : List ℕ) → Kept s → leastReply ≤ length reply
     → controlTaken (s .node) (s .table) d reply
-    ≡ outcome (record { number = 5; size = length versionNotSupported; node = s .node }) (s .table) (overlay versionNotSupported reply)
+    ≡ outcome (record { number = 5; size = length versionNotSupported; node = s .node; span = noPlaces }) (s .table) (overlay versionNotSupported reply)
 unfolding controlTaken askedTaken askedOf leastReply
 version-so d e s reply kept room = rw (le-ltb (length reply) leastReply room, kept, e)
 

@@ -19,7 +19,7 @@ use Rattle.unit_session.specs.Session.{isFree, blank, heldOk, readOk, recordOk,
 use Rattle.unit_session.specs.Keep.{live-of, ok-usage}
 use Rattle.unit_table.specs.Rules.{boundsOf, rules-of}
 use Rattle.unit_table.specs.Change.{record-ok}
-use Rattle.call_own.specs.Outcome.{State, outcome, leastReply}
+use Rattle.call_own.specs.Outcome.{State, outcome, leastReply, noPlaces}
 use Rattle.call_line.specs.Line.{lineText, lineBy, lineOf, line-fits}
 use Rattle.promise_demands.specs.Run.{Kept}
 use Rattle.promise_demands.specs.Bounds.{at}
@@ -29,7 +29,7 @@ unfoldable pub LinesWhole : Type 0
 LinesWhole = (s : State) → Kept s → (i : ℕ) → i < places → at s i .control < teids → at s i .user < teids
     → (reply : List ℕ) → leastReply ≤ length reply
     → lineOf (s .node) (s .table) i reply
-    ≡ outcome (record { number = 0; size = length (lineText i (at s i)); node = s .node }) (s .table) (overlay (lineText i (at s i)) reply)
+    ≡ outcome (record { number = 0; size = length (lineText i (at s i)); node = s .node; span = noPlaces }) (s .table) (overlay (lineText i (at s i)) reply)
 
 -- ---- proofs
 -- what of a record the line's length rests on

@@ -1,13 +1,13 @@
 -- A repeated Create after any run: the accepted reply is written from the record, and nothing else changes but what Recovery does.
 -- Assumes nothing.
 use Prim.Native.Nat.{ℕ, _%_, _<_, _≤_}
-use mathlib.Core.Bool.{Bool, true}
-use mathlib.Core.List.{List}
+use mathlib.Core.Bool.{Bool, true, false}
+use mathlib.Core.List.{List, map}
 use mathlib.Core.Path.{_≡_, refl, sym, _∙_, ap}
 use native.Mathlib.Omega.{arith}
 use lib.ListN.{length, getD, drop}
 use borrow.Author.Tests.{le-ltb, lt-ltb, eq-eqb}
-use Rattle.base_octets.specs.Choice.{and-left, and-right}
+use Rattle.base_octets.specs.Choice.{split, and-left, and-right, impossible}
 use Rattle.base_octets.specs.Search.{firstOf, first-passes, first-before}
 use Rattle.base_octets.specs.Sums.{countOf}
 use Rattle.unit_tunnel.specs.Numbering.{places}
@@ -18,30 +18,31 @@ use Rattle.unit_sharing.specs.Sharing.{admits}
 use Rattle.unit_plan.specs.Plan.{accepted, parties-four}
 use Rattle.base_octets.specs.Every.{every}
 use Rattle.base_octets.specs.BigEndian.{isOctet}
-use Rattle.unit_session.specs.Session.{hasId, isFree, opened}
+use Rattle.unit_session.specs.Session.{hasId, isFree, opened, blankAt, freed}
 use Rattle.unit_table.specs.Change.{nobody, changedAt, changed-here, length-changed}
 use Rattle.unit_table.specs.Own.{hearing, keptAfter, restarted}
 use Rattle.unit_table.specs.Room.{freePlace}
 use Rattle.wire_header.specs.Types.{kindBy}
 use Rattle.call_asked.specs.Asked.{kindAsked, requestAsked, soundAsked, askedOf}
-use Rattle.call_control.specs.Creates.{openingOf, acceptedTaken, isRepeat, settledAt, heardCreate, createTaken}
-use Rattle.call_own.specs.Outcome.{State, leastReply, noReply}
+use Rattle.call_control.specs.Creates.{openingOf, acceptedTaken, isRepeat, settledAt, heardCreate, createTaken, openedPlaces, createPlaces}
+use Rattle.call_own.specs.Outcome.{State, leastReply, noReply, noPlaces, changing}
 use Rattle.unit_session.specs.declared.Session.{Session}
 use Rattle.unit_table.specs.declared.Node.{Node}
 use Rattle.unit_table.specs.declared.Owner.the-variants as F
 use Rattle.unit_table.specs.Rules.{Rules, rules-of}
-use Rattle.unit_table.specs.Find.{foundIn, found-only}
+use Rattle.unit_table.specs.Find.{foundIn, found-only, found-is}
 use Rattle.wire_header.specs.Header.{headerOf}
 use Rattle.wire_requests.specs.declared.Create as C
 use Rattle.wire_requests.specs.declared.Decoded.the-variants as D
 use Rattle.wire_requests.specs.declared.Request.the-variants as Q
 use Rattle.wire_requests.specs.Create.{createOf}
-use Rattle.call_control.specs.Echoes.{heardBy, heard-keeps}
+use Rattle.call_control.specs.Echoes.{heardBy, heard-keeps, restartsBy, heard-freed, heard-same}
 use Rattle.call_control.specs.Control.{askedTaken, controlTaken}
 use Rattle.promise_demands.specs.Run.{left, Event, control, step, run, ofOctets, Kept, Run, start-accepted, step-keeps}
 use Rattle.call_control.specs.CreatesKept.{heard-plan}
 use Rattle.promise_demands.specs.Stays.{run-start}
 use Rattle.promise_demands.specs.Creates.{SoundCreate, NewCreate, heard, repeats, tableAsked, askedU, acceptedOf, create-accepted, create-point, place-in}
+use Rattle.base_octets.specs.Places.{map-at}
 
 -- place i, as it is after Recovery, has the session that the Create repeats
 unfoldable pub RepeatsAnswered : Type 0
@@ -51,12 +52,18 @@ RepeatsAnswered = (p : Plan) (s : State) (es : List Event) → Run p s es → (d
     → controlTaken (run es s .node) (run es s .table) d reply
     ≡ acceptedTaken (headerOf d .sequence) i (getD (heard c (run es s) .table) i nobody) (heard c (run es s) .node) (heard c (run es s) .table) reply
 
--- so a Create that was accepted, sent again with the same buffer lent, has the very same outcome: number, reply, and table
+-- so a Create that was accepted, sent again with the same buffer lent, has the very same outcome, number, reply, and table; but no place has
+-- changed then
 unfoldable pub AgainTheSame : Type 0
 AgainTheSame = (p : Plan) (s : State) (es : List Event) → Run p s es → (d : List ℕ) (c : C.Create) → every isOctet d ≡ true → NewCreate p (run es s) d c
     → admits p (askedU c (run es s)) (c .point) ≡ true → (reply : List ℕ) → leastReply ≤ length reply
     → controlTaken (step (control d reply) (run es s) .node) (step (control d reply) (run es s) .table) d reply
-    ≡ controlTaken (run es s .node) (run es s .table) d reply
+    ≡ changing noPlaces (controlTaken (run es s .node) (run es s .table) d reply)
+
+-- of a freed record nobody is told
+freed-nobody : (imsi ebi : ℕ) (s : Session) → hasId imsi ebi (freed s) ≡ false
+unfolding hasId freed blankAt isFree
+freed-nobody imsi ebi s = refl
 
 -- where one has it at most, who has it is found
 found-it : (p : Session → Bool) (l : List Session) (i : ℕ) → countOf p l ≤ 1 → i < length l → p (getD l i nobody) ≡ true → foundIn p l ≡ F.At i
@@ -74,15 +81,28 @@ module _ (p : Plan) (s : State) (kept : Kept s) (plan : s .node .plan ≡ p) (d 
   rules : Rules (heard c s .node .plan) (heard c s .node .echo) (heard c s .node .next) (heard c s .table)
   rules = rules-of (heard c s .node) (heard c s .table) (heard-keeps (s .node) (s .table) kept (c .recovery))
 
+  -- it changes no place: a restart would have left nobody
+  places-none : (i : ℕ) → i < length (s .table) → foundIn (hasId (c .imsi) (c .ebi)) (heard c s .table) ≡ F.At i
+      → isRepeat c (headerOf d .sequence) (getD (heard c s .table) i nobody) ≡ true → createPlaces c (headerOf d .sequence) (s .node) (s .table) ≡ noPlaces
+  unfolding createPlaces openedPlaces
+  places-none i h f b = split (restartsBy (c .recovery) (s .node))
+      (λ q. let same = ap (λ (x : State). x .table) (heard-freed (c .recovery) (s .node) (s .table) q) in
+      let g = found-is (hasId (c .imsi) (c .ebi)) (map freed (s .table)) i (rw same at f) in
+      impossible (sym (freed-nobody (c .imsi) (c .ebi) (getD (s .table) i nobody)) ∙ rw (map-at freed (s .table) i nobody nobody h) at (g .1 .1)))
+      (λ q. let same = ap (λ (x : State). x .table) (heard-same (c .recovery) (s .node) (s .table) q) in
+      let g = found-is (hasId (c .imsi) (c .ebi)) (s .table) i (rw same at f) in
+      rw (q, ← g .1 .0, lt-ltb i (length (s .table)) h, rw same at b))
+
   repeated : (i : ℕ) → i < places → repeats c (headerOf d .sequence) (getD (heard c s .table) i nobody) ≡ true
       → controlTaken (s .node) (s .table) d reply ≡ acceptedTaken (headerOf d .sequence) i (getD (heard c s .table) i nobody) (heard c s .node) (heard c s .table) reply
-  unfolding controlTaken askedTaken askedOf kindAsked kindBy requestAsked soundAsked createTaken heardCreate settledAt leastReply repeats places
+  unfolding controlTaken askedTaken askedOf kindAsked kindBy requestAsked soundAsked createTaken heardCreate settledAt acceptedTaken leastReply repeats places
   repeated i h e =
       let a = and-left (hasId (c .imsi) (c .ebi) (getD (heard c s .table) i nobody)) (isRepeat c (headerOf d .sequence) (getD (heard c s .table) i nobody)) e in
       let b = and-right (hasId (c .imsi) (c .ebi) (getD (heard c s .table) i nobody)) (isRepeat c (headerOf d .sequence) (getD (heard c s .table) i nobody)) e in
       let z = rules .size in
       let f = found-it (hasId (c .imsi) (c .ebi)) (heard c s .table) i (rules .once (c .imsi) (c .ebi)) (omega arith) a in
-      rw (le-ltb (length reply) leastReply room, kept, n .header, n .kind, decoded, f, b)
+      let y = rules-of (s .node) (s .table) kept .size in
+      rw (le-ltb (length reply) leastReply room, kept, n .header, n .kind, decoded, f, b, places-none i (omega arith) f b)
 
 pub repeats-answered : RepeatsAnswered
 unfolding RepeatsAnswered
@@ -157,14 +177,15 @@ module _ (p : Plan) (s : State) (kept : Kept s) (plan : s .node .plan ≡ p) (go
   again-there : getD (heard c then .table) place nobody ≡ opened (openingOf c number) (getD (tableAsked c s) place nobody)
   again-there = ap (λ (t : List Session). getD t place nobody) again-table ∙ opened-there
 
-  again : controlTaken (then .node) (then .table) d reply ≡ acceptedOf number c s reply
-  unfolding acceptedOf
+  again : controlTaken (then .node) (then .table) d reply ≡ changing noPlaces (acceptedOf number c s reply)
+  unfolding acceptedOf acceptedTaken
   again =
       repeated p then then-kept then-plan d c (n .sound) reply room place few (rw again-there (is-it (getD (tableAsked c s) place nobody)))
       ∙ rw (again-there, again-node, again-table)
 
-  pub same-again : controlTaken (step (control d reply) s .node) (step (control d reply) s .table) d reply ≡ controlTaken (s .node) (s .table) d reply
-  same-again = ap (λ (x : State). controlTaken (x .node) (x .table) d reply) after ∙ (again ∙ sym taken)
+  pub same-again : controlTaken (step (control d reply) s .node) (step (control d reply) s .table) d reply
+      ≡ changing noPlaces (controlTaken (s .node) (s .table) d reply)
+  same-again = ap (λ (x : State). controlTaken (x .node) (x .table) d reply) after ∙ (again ∙ ap (changing noPlaces) (sym taken))
 
 pub again-the-same : AgainTheSame
 unfolding AgainTheSame

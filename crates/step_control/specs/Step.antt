@@ -28,7 +28,8 @@ use Rattle.step_keys.specs.Check.{unpackedOf}
 use Rattle.wire_fields.specs.declared.Recovery.{Recovery}
 use Rattle.wire_fields.specs.declared.Recovery.the-variants as R
 use Rattle.wire_requests.specs.declared.Create as C
-use Rattle.call_own.specs.Outcome.{Outcome, outcome, leastReply}
+use Rattle.call_own.specs.declared.Span.{Span}
+use Rattle.call_own.specs.Outcome.{Outcome, outcome, leastReply, noPlaces, allPlaces, onePlace, twoPlaces}
 use Rattle.call_own.specs.Calls.{timed}
 use Rattle.call_control.specs.Echoes.{restartsBy, heardNode}
 use Rattle.call_control.specs.Amends.{causeOctets}
@@ -40,7 +41,7 @@ use Rattle.step_session.specs.Amended.{AmendedWith, doneWith, ofNumber}
 use Rattle.step_control.specs.declared.Basis.{Basis}
 use Rattle.step_control.specs.declared.Concerned.{Concerned}
 use Rattle.step_control.specs.declared.Taken.{Taken}
-use Rattle.unit_table.specs.Find.{controlPlace}
+use Rattle.unit_table.specs.Find.{controlPlace, hasControl}
 use Rattle.wire_messages.specs.Types.{createReplyType, echoReplyType}
 use Rattle.call_asked.specs.declared.Concern.{Concern}
 use Rattle.call_asked.specs.declared.Asked.{Asked}
@@ -152,7 +153,7 @@ takenWith a reply = record { answer = a; reply = reply }
 
 -- both records as they were
 unfoldable pub unmovedOn : ℕ → ℕ → Bool → Recovery → Concerned → Taken
-unmovedOn number size ended heard p = record { number = number; size = size; ended = ended; heard = heard; old = p .oldrecord; new = p .newrecord }
+unmovedOn number size ended heard p = record { number = number; size = size; ended = ended; heard = heard; old = p .oldrecord; new = p .newrecord; span = noPlaces }
 
 -- the same, with a message that answers
 abbrev pub stillOn : ℕ → Recovery → Concerned → List ℕ → List ℕ → TakenWith
@@ -161,7 +162,7 @@ stillOn number heard p m reply = takenWith (unmovedOn number (length m) false he
 -- no room: 73, and the replaced session is gone
 unfoldable pub fullOn : C.Create → ℕ → Concerned → List ℕ → TakenWith
 fullOn c seq p reply = takenWith
-    (record { number = noRoom .cause; size = length (causeOctets createReplyType (c .control) seq noRoom); ended = false; heard = c .recovery; old = freed (p .oldrecord); new = p .newrecord })
+    (record { number = noRoom .cause; size = length (causeOctets createReplyType (c .control) seq noRoom); ended = false; heard = c .recovery; old = freed (p .oldrecord); new = p .newrecord; span = onePlace (p .old) })
     (overlay (causeOctets createReplyType (c .control) seq noRoom) reply)
 
 unfoldable pub enteredOn : C.Create → ℕ → Node → Concerned → List ℕ → TakenWith
@@ -173,6 +174,7 @@ enteredOn c seq node p reply = takenWith
       heard = c .recovery;
       old = freed (p .oldrecord);
       new = opened (openingOf c seq) (p .newrecord);
+      span = twoPlaces (p .old) (p .new);
     })
     (overlay (acceptedOctets (node .plan) seq (p .new) (opened (openingOf c seq) (p .newrecord))) reply)
 
@@ -203,14 +205,17 @@ module _ (c : C.Create) (seq : ℕ) (node : Node) (p : Concerned) (reply : List 
   unfolding openBy
   open-full e = open-is Y.Full e
 
--- what concerns the session of the record
-unfoldable pub namedWith : AmendedWith → Concerned → TakenWith
-namedWith q p = takenWith
-    (record { number = q .answer .number; size = q .answer .size; ended = false; heard = R.None; old = q .answer .session; new = p .newrecord })
+-- what concerns the session of the record, if it has the number
+unfoldable pub namedPlaces : Bool → ℕ → Span
+namedPlaces has i = pick has (onePlace i) noPlaces
+
+unfoldable pub namedWith : Span → AmendedWith → Concerned → TakenWith
+namedWith span q p = takenWith
+    (record { number = q .answer .number; size = q .answer .size; ended = false; heard = R.None; old = q .answer .session; new = p .newrecord; span = span })
     (q .reply)
 
 unfoldable pub namedOn : ℕ → Concern → ℕ → Concerned → List ℕ → TakenWith
-namedOn teid x seq p reply = namedWith (doneWith (ofNumber teid x seq (p .oldrecord)) reply) p
+namedOn teid x seq p reply = namedWith (namedPlaces (hasControl (p .oldrecord) teid) (p .old)) (doneWith (ofNumber teid x seq (p .oldrecord)) reply) p
 
 unfoldable pub askedOn : Node → Asked → Concerned → List ℕ → TakenWith
 askedOn node (A.Silent number) p reply = takenWith (unmovedOn number 0 false R.None p) reply
@@ -260,9 +265,13 @@ freedCount p = pick {A = ℕ} (p .all) places 0
 unfoldable pub concernedPut : List Session → Concerned → Taken → List Session
 concernedPut l p o = set (set (mapFirst (changedBy Ch.Free) (freedCount p) l) (p .old) (o .old)) (p .new) (o .new)
 
+-- the places that may have changed
+unfoldable pub changedPlaces : Concerned → Taken → Span
+changedPlaces p o = pick (p .all) allPlaces (o .span)
+
 -- the answer with the node and the records
 unfoldable pub placedConcerned : Node → Concerned → List Session → TakenWith → Outcome
 placedConcerned node p l m = outcome
-    (record { number = m .answer .number; size = m .answer .size; node = nodeAfter (m .answer) node })
+    (record { number = m .answer .number; size = m .answer .size; node = nodeAfter (m .answer) node; span = changedPlaces p (m .answer) })
     (concernedPut l p (m .answer))
     (m .reply)

@@ -3,6 +3,7 @@
 use call_asked::Asked;
 use call_asked::Concern;
 use call_own::Answer;
+use call_own::Span;
 use step_check::Checked;
 use step_check::Findings;
 use unit_plan::Plan;
@@ -16,7 +17,7 @@ use wire_messages::MessageType;
 use wire_requests::Create;
 ghost use mathlib.Core.Path.{_≡_};
 ghost use Rattle.unit_table.specs.declared.Change.the-variants.{Free};
-ghost use Rattle.step_control.specs.Step.{restartsIn, restartsNow, targetOf, oldBy, basisBy, basisOf, repeatsAt, roomFor, lower, verdictOf, verdictIn, opensAt, concernedOf, takenWith, unmovedOn, fullOn, enteredOn, openOn, namedOn, askedOn, takenOn, nodeAfter, freedCount};
+ghost use Rattle.step_control.specs.Step.{restartsIn, restartsNow, targetOf, oldBy, basisBy, basisOf, repeatsAt, roomFor, lower, verdictOf, verdictIn, opensAt, concernedOf, takenWith, unmovedOn, fullOn, enteredOn, openOn, namedPlaces, namedOn, askedOn, takenOn, nodeAfter, freedCount, changedPlaces};
 
 // Which record is asked about: the one with a key of IMSI and EBI, or where the key is 0, which no session has, the one of a place; past the last
 // where there is none.
@@ -54,8 +55,8 @@ pub struct Concerned {
     pub newrecord: Session,
 }
 
-// Document 01's number, the reply's length, whether the unit's own echo ended, the Recovery that is to be stored, and the two records as
-// they are then.
+// Document 01's number, the reply's length, whether the unit's own echo ended, the Recovery that is to be stored, the two records as they
+// are then, and the places of those that may have changed.
 pub struct Taken {
     pub number: u8,
     pub size: usize,
@@ -63,6 +64,7 @@ pub struct Taken {
     pub heard: Recovery,
     pub old: Session,
     pub new: Session,
+    pub span: Span,
 }
 
 // Whether it says that the exchange restarted.
@@ -315,6 +317,7 @@ fn unmoved_on(number: u8, size: usize, ended: bool, heard: Recovery, p: Concerne
 {
     let old = p.oldrecord;
     let new = p.newrecord;
+    let span = Span { from: 0, to: 0 };
     Taken {
         number,
         size,
@@ -322,6 +325,7 @@ fn unmoved_on(number: u8, size: usize, ended: bool, heard: Recovery, p: Concerne
         heard,
         old,
         new,
+        span,
     }
 }
 
@@ -329,6 +333,7 @@ fn unmoved_on(number: u8, size: usize, ended: bool, heard: Recovery, p: Concerne
 fn full_on(c: Create, seq: u32, p: Concerned, reply: &mut [u8]) -> Taken
     ensures { λ r. ⌜ takenWith r (now (reply .exit)) ≡ fullOn c seq p (now (reply .entry)) ⌝ }
 {
+    let span = call_own::one_place(p.old);
     let heard = c.recovery;
     let s = p.oldrecord;
     let new = p.newrecord;
@@ -342,6 +347,7 @@ fn full_on(c: Create, seq: u32, p: Concerned, reply: &mut [u8]) -> Taken
         heard,
         old: gone,
         new,
+        span,
     }
 }
 
@@ -349,6 +355,7 @@ fn full_on(c: Create, seq: u32, p: Concerned, reply: &mut [u8]) -> Taken
 fn entered_on(c: Create, seq: u32, node: Node, p: Concerned, reply: &mut [u8]) -> Taken
     ensures { λ r. ⌜ takenWith r (now (reply .exit)) ≡ enteredOn c seq node p (now (reply .entry)) ⌝ }
 {
+    let span = call_own::two_places(p.old, p.new);
     let heard = c.recovery;
     let plan = node.plan;
     let s = p.oldrecord;
@@ -364,6 +371,7 @@ fn entered_on(c: Create, seq: u32, node: Node, p: Concerned, reply: &mut [u8]) -
         heard,
         old,
         new,
+        span,
     }
 }
 
@@ -385,12 +393,24 @@ fn open_on(c: Create, seq: u32, node: Node, p: Concerned, reply: &mut [u8]) -> T
     }
 }
 
+// The place of the session that is named, if it has the number.
+fn named_places(has: bool, place: usize) -> Span
+    ensures { λ r. ⌜ r ≡ namedPlaces has place ⌝ }
+{
+    if has {
+        return call_own::one_place(place);
+    }
+    Span { from: 0, to: 0 }
+}
+
 // What concerns the session of the record.
 fn named_on(teid: ControlTeid, x: Concern, seq: u32, p: Concerned, reply: &mut [u8]) -> Taken
     ensures { λ r. ⌜ takenWith r (now (reply .exit)) ≡ namedOn (teid .0) x seq p (now (reply .entry)) ⌝ }
 {
     let s = p.oldrecord;
     let new = p.newrecord;
+    let has = unit_table::has_control(s, teid);
+    let span = named_places(has, p.old);
     let q = step_session::of_number(teid, x, seq, s, reply);
     let old = q.session;
     Taken {
@@ -400,6 +420,7 @@ fn named_on(teid: ControlTeid, x: Concern, seq: u32, p: Concerned, reply: &mut [
         heard: Recovery::None,
         old,
         new,
+        span,
     }
 }
 
@@ -485,6 +506,16 @@ pub fn freed_count(p: Concerned) -> usize
         return Unit::PLACES;
     }
     0
+}
+
+// The places that may have changed.
+pub fn changed_places(p: Concerned, o: Taken) -> Span
+    ensures { λ r. ⌜ r ≡ changedPlaces p o ⌝ }
+{
+    if p.all {
+        return call_own::first_places(Unit::PLACES);
+    }
+    o.span
 }
 
 pub fn first_place(p: Concerned) -> usize

@@ -18,7 +18,7 @@ use Rattle.step_keys.specs.Survey.{waitOf}
 use Rattle.step_keys.specs.Unclaimed.{freeAmong}
 use Rattle.wire_messages.specs.Types.{echoType}
 use Rattle.wire_messages.specs.Messages.{echoOf, deleteBearer}
-use Rattle.call_own.specs.Outcome.{leastReply, bare, Back, back}
+use Rattle.call_own.specs.Outcome.{leastReply, noPlaces, onePlace, bare, Back, back}
 use Rattle.call_own.specs.Calls.{timed, stepped}
 use Rattle.step_check.specs.declared.Checked.{Checked}
 use Rattle.step_own.specs.declared.Sending.{Sending}
@@ -57,19 +57,21 @@ echoAnswer node k reply = back
       number = taken;
       size = length (echoOf echoType (sentOnce (node .plan .resend) k (node .echo) .number) (node .plan .recovery));
       node = timed (sentOnce (node .plan .resend) k (node .echo)) (stepped (node .echo .sends) k (node .next)) node;
+      span = noPlaces;
     })
     (overlay (echoOf echoType (sentOnce (node .plan .resend) k (node .echo) .number) (node .plan .recovery)) reply)
 
-unfoldable pub placeAnswer : Node → ℕ → Session → List ℕ → Back
-placeAnswer node k s reply = back
+unfoldable pub placeAnswer : Node → ℕ → ℕ → Session → List ℕ → Back
+placeAnswer node k i s reply = back
     (record {
       number = taken;
       size = length (deleteBearer (s .control) (sentOnce (node .plan .resend) k (s .own) .number) (s .ebi));
       node = timed (node .echo) (stepped (s .own .sends) k (node .next)) node;
+      span = onePlace i;
     })
     (overlay (deleteBearer (s .control) (sentOnce (node .plan .resend) k (s .own) .number) (s .ebi)) reply)
 
 unfoldable pub sendAnswer : Sending → Node → Session → List ℕ → Back
 sendAnswer (Nothing number) node s reply = back (bare number node) reply
 sendAnswer (Echo k) node s reply = echoAnswer node k reply
-sendAnswer (At i k) node s reply = placeAnswer node k s reply
+sendAnswer (At i k) node s reply = placeAnswer node k i s reply

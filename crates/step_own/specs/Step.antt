@@ -8,19 +8,17 @@ use mathlib.Core.Path.{_≡_, refl, sym, _∙_}
 use native.Mathlib.Omega.{arith}
 use lib.ListN.{length, getD, set}
 use lib.Seq.{set-getD}
-use lib.Dec.{eqb, leb}
+use lib.Dec.{eqb}
 use borrow.Author.Tests.{eqb-true}
 use Rattle.base_octets.specs.Overlay.{overlay}
 use Rattle.base_octets.specs.Number.{taken, rulesBroken}
-use Rattle.base_octets.specs.Choice.{pick, split, impossible, and-left, and-right, tests}
+use Rattle.base_octets.specs.Choice.{pick, split, impossible}
 use Rattle.base_octets.specs.Every.{every}
 use Rattle.base_octets.specs.Places.{mapFirst, map-none, map-all}
 use Rattle.unit_tunnel.specs.Numbering.{places}
 use Rattle.unit_session.specs.declared.Session.{Session}
-use Rattle.unit_session.specs.declared.Bounds.{Bounds}
-use Rattle.unit_session.specs.OwnRequest.{lastNumber, requestOk, spent}
-use Rattle.unit_session.specs.Session.{isFree, blankAt, recordOk, freed, closed, ticked}
-use Rattle.unit_session.specs.Keep.{own-ok, free-timer, ticked-still}
+use Rattle.unit_session.specs.OwnRequest.{spent}
+use Rattle.unit_session.specs.Session.{isFree, blankAt, freed, closed, ticked}
 use Rattle.unit_table.specs.declared.Node.{Node}
 use Rattle.unit_table.specs.declared.Change.{Change}
 use Rattle.unit_table.specs.declared.Change.the-variants as C
@@ -30,8 +28,9 @@ use Rattle.unit_table.specs.Change.{nobody, changedAt}
 use Rattle.unit_table.specs.Own.{echoTicked, allTicked}
 use Rattle.step_keys.specs.Survey.{awaitsNone}
 use Rattle.step_check.specs.Summary.{standsOf}
-use Rattle.call_own.specs.Outcome.{outcome, bare, bareOn, onSession, noReply}
-use Rattle.call_own.specs.Calls.{timed, tickOf, closeOn, closeOf}
+use Rattle.call_own.specs.Outcome.{outcome, firstPlaces, noPlaces, onePlace, sessionPlace, bare, spanning, bareOn, onSession, noReply}
+use Rattle.call_own.specs.Calls.{timed, quiet, tickPlaces, tickOf, closeOn, closeOf}
+use Rattle.call_own.specs.Outside.{all-still}
 use Rattle.call_own.specs.declared.Answer.{Answer}
 use Rattle.call_own.specs.Others.{rules-other}
 
@@ -42,15 +41,18 @@ tickChange node = pick (spent (node .plan .sends) (node .echo)) C.Free (C.Tick (
 unfoldable pub tickCount : ℕ → Node → ℕ
 tickCount how node = pick {A = ℕ} (eqb how 0 || eqb how 1 && not (spent (node .plan .sends) (node .echo))) 0 places
 
-unfoldable pub tickAnswer : ℕ → Node → Answer
-tickAnswer how node = pick (eqb how 0) (bare rulesBroken node) (bare taken (timed (echoTicked (node .plan) (node .echo)) (node .next) node))
+unfoldable pub tickAnswer : ℕ → ℕ → Node → Answer
+tickAnswer how n node =
+    pick (eqb how 0) (bare rulesBroken node)
+    (spanning (firstPlaces n) (bare taken (timed (echoTicked (node .plan) (node .echo)) (node .next) node)))
 
 -- ---- close: what is said of the record, where the rules are kept
 unfoldable pub closedBy : Bool → Session → Session
 closedBy kept s = pick kept (closeOn s .session) s
 
-unfoldable pub closeAnswer : Bool → Node → Session → Answer
-closeAnswer kept node s = bare (pick {A = ℕ} kept (closeOn s .number) rulesBroken) node
+unfoldable pub closeAnswer : Bool → Node → ℕ → Session → Answer
+closeAnswer kept node i s =
+    spanning (pick (kept && not (isFree s)) (onePlace i) noPlaces) (bare (pick {A = ℕ} kept (closeOn s .number) rulesBroken) node)
 
 -- ---- laws
 -- the rules count the records
@@ -63,43 +65,33 @@ unfolding closedBy closeOn bareOn
 closed-is true s = split (isFree s) (λ e. rw e) (λ e. rw e)
 closed-is false s = refl
 
--- ---- where no place awaits a number no timer runs, and a tick changes no record
-still-timer : (b : Bounds) (s : Session) → recordOk b s ≡ true → awaitsNone s ≡ true → s .own .timer ≡ 0
-unfolding awaitsNone requestOk
-still-timer b s ok q = split (isFree s) (free-timer b s ok)
-    (λ n. let h = own-ok b s ok n in
-    let t : leb (s .own .timer) 0 ≡ true = and-right (leb (s .own .number) lastNumber) _ (rw q at h) in omega (arith, tests))
-
-all-still : (b : Bounds) (n : ℕ) (l : List Session) → every (recordOk b) l ≡ true → every awaitsNone l ≡ true → map (ticked n) l ≡ l
-unfolding every
-all-still b n [] ok q = refl
-all-still b n (s ∷ l) ok q =
-    rw (
-      ticked-still n s (still-timer b s (and-left (recordOk b s) (every (recordOk b) l) ok) (and-left (awaitsNone s) (every awaitsNone l) q)),
-      all-still b n l (and-right (recordOk b s) (every (recordOk b) l) ok) (and-right (awaitsNone s) (every awaitsNone l) q),
-    )
+-- no place awaits a number: the same of each record
+quiet-is : (l : List Session) → quiet l ≡ every awaitsNone l
+unfolding quiet awaitsNone
+quiet-is l = refl
 
 -- the steps of a tick are a tick of the lent list
 pub lent-tick : (node : Node) (l zs : List Session) (how : ℕ) (c : Change) (n : ℕ) (r : Answer)
-    → how ≡ standsOf node l → c ≡ tickChange node → n ≡ tickCount how node → zs ≡ mapFirst (changedBy c) n l → r ≡ tickAnswer how node
+    → how ≡ standsOf node l → c ≡ tickChange node → n ≡ tickCount how node → zs ≡ mapFirst (changedBy c) n l → r ≡ tickAnswer how n node
     → outcome r zs [] ≡ tickOf node l
-unfolding tickChange tickCount tickAnswer noReply tickOf allTicked changedBy places standsOf
+unfolding tickChange tickCount tickAnswer noReply tickOf tickPlaces allTicked changedBy places standsOf
 lent-tick node l zs how c n r e-h e-c e-n e-z e-r = split (keepsRules node l)
     (λ t. let m = kept-long node l t in
+    let w = quiet-is l in
     split (spent (node .plan .sends) (node .echo))
     (λ s. split (every awaitsNone l)
-    (λ q. rw (e-r, e-z, e-n, e-c, e-h, t, q, s, map-all freed places l (omega arith)))
-    (λ q. rw (e-r, e-z, e-n, e-c, e-h, t, q, s, map-all freed places l (omega arith))))
+    (λ q. rw (e-r, e-z, e-n, e-c, e-h, t, w, q, s, map-all freed places l (omega arith)))
+    (λ q. rw (e-r, e-z, e-n, e-c, e-h, t, w, q, s, map-all freed places l (omega arith))))
     (λ s. split (every awaitsNone l)
-    (λ q. rw (e-r, e-z, e-n, e-c, e-h, t, q, s, map-none (ticked (node .plan .sends)) l, all-still (boundsOf (node .plan)) (node .plan .sends) l (rules-of node l t .each) q))
-    (λ q. rw (e-r, e-z, e-n, e-c, e-h, t, q, s, map-all (ticked (node .plan .sends)) places l (omega arith)))))
+    (λ q. rw (e-r, e-z, e-n, e-c, e-h, t, w, q, s, map-none (ticked (node .plan .sends)) l, all-still (boundsOf (node .plan)) (node .plan .sends) l (rules-of node l t .each) (w ∙ q)))
+    (λ q. rw (e-r, e-z, e-n, e-c, e-h, t, w, q, s, map-all (ticked (node .plan .sends)) places l (omega arith)))))
     (λ t. rw (e-r, e-z, e-n, e-h, t, map-none (changedBy c) l))
 
 -- and those of closing a place: what is put back unchanged changes nothing
 pub lent-close : (node : Node) (l zs : List Session) (i : ℕ) (kept : Bool) (s c : Session) (r : Answer)
-    → kept ≡ keepsRules node l → s ≡ getD l i (blankAt 0) → c ≡ closedBy kept s → zs ≡ set l i c → r ≡ closeAnswer kept node s
+    → kept ≡ keepsRules node l → s ≡ getD l i (blankAt 0) → c ≡ closedBy kept s → zs ≡ set l i c → r ≡ closeAnswer kept node i s
     → outcome r zs [] ≡ closeOf node l i
-unfolding closedBy closeAnswer noReply closeOf onSession closeOn bareOn changedAt overlay
+unfolding closedBy closeAnswer noReply closeOf onSession sessionPlace closeOn bareOn changedAt overlay
 lent-close node l zs i kept s c r e-k e-s e-c e-z e-r = split (keepsRules node l)
     (λ t. split (isFree (getD l i nobody)) (λ f. rw (e-r, e-z, e-c, e-s, e-k, t, f)) (λ f. rw (e-r, e-z, e-c, e-s, e-k, t, f)))
     (λ t. rw (e-r, e-z, e-c, e-s, e-k, t, set-getD l i nobody))

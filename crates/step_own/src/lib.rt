@@ -2,6 +2,7 @@
 // The lent records are read and changed by lent_own.
 use base_octets::Number;
 use call_own::Answer;
+use call_own::Span;
 use step_check::Checked;
 use unit_session::Session;
 use unit_table::Change;
@@ -47,16 +48,18 @@ pub fn tick_count(how: u8, node: Node) -> usize
     Unit::PLACES
 }
 
-// What goes back of a tick by value.
-pub fn tick_answer(how: u8, mut node: Node) -> Answer
-    ensures { λ r. ⌜ r ≡ tickAnswer how node ⌝ }
+// What goes back of a tick by value, where so many records were changed.
+pub fn tick_answer(how: u8, n: usize, mut node: Node) -> Answer
+    ensures { λ r. ⌜ r ≡ tickAnswer how n node ⌝ }
 {
     if how == 0 {
         return Answer::bare(Number::RULES_BROKEN, node);
     }
     let next = node.echo_ticked();
     node.echo = next;
-    Answer::bare(Number::TAKEN, node)
+    let changed = call_own::first_places(n);
+    let ticked = Answer::bare(Number::TAKEN, node);
+    ticked.spanning(changed)
 }
 
 // The record of a place to close: a free one stays as it is, and so does every one where the rules fail.
@@ -70,8 +73,8 @@ pub fn closed_by(kept: bool, s: Session) -> Session
     s
 }
 
-pub fn close_answer(kept: bool, node: Node, s: Session) -> Answer
-    ensures { λ r. ⌜ r ≡ closeAnswer kept node s ⌝ }
+pub fn close_answer(kept: bool, node: Node, place: usize, s: Session) -> Answer
+    ensures { λ r. ⌜ r ≡ closeAnswer kept node place s ⌝ }
 {
     if !kept {
         return Answer::bare(Number::RULES_BROKEN, node);
@@ -80,7 +83,9 @@ pub fn close_answer(kept: bool, node: Node, s: Session) -> Answer
     if free {
         return Answer::bare(Number::NO_PLACE, node);
     }
-    Answer::bare(Number::TAKEN, node)
+    let changed = call_own::one_place(place);
+    let closed = Answer::bare(Number::TAKEN, node);
+    closed.spanning(changed)
 }
 
 // The number that a first send takes, by what is awaited.
@@ -156,17 +161,20 @@ fn echo_answer(mut node: Node, k: u32, reply: &mut [u8]) -> Answer
     node.echo = sent;
     node.next = next;
     let size = wire_messages::echo_of(reply, MessageType::ECHO, sent.number, plan.recovery);
+    let span = Span { from: 0, to: 0 };
     Answer {
         number: Number::TAKEN,
         size,
         node,
+        span,
     }
 }
 
 // The Delete Bearer of a place sent.
-fn place_answer(mut node: Node, k: u32, s: Session, reply: &mut [u8]) -> Answer
-    ensures { λ r. ⌜ back r (now (reply .exit)) ≡ placeAnswer node k s (now (reply .entry)) ⌝ }
+fn place_answer(mut node: Node, k: u32, place: usize, s: Session, reply: &mut [u8]) -> Answer
+    ensures { λ r. ⌜ back r (now (reply .exit)) ≡ placeAnswer node k place s (now (reply .entry)) ⌝ }
 {
+    let span = call_own::one_place(place);
     let plan = node.plan;
     let own = s.own;
     let sent = own.sent_once(plan.resend, k);
@@ -177,6 +185,7 @@ fn place_answer(mut node: Node, k: u32, s: Session, reply: &mut [u8]) -> Answer
         number: Number::TAKEN,
         size,
         node,
+        span,
     }
 }
 
@@ -186,6 +195,6 @@ pub fn send_answer(p: Sending, node: Node, s: Session, reply: &mut [u8]) -> Answ
     match p {
         Sending::Nothing(number) => Answer::bare(number, node),
         Sending::Echo(k) => echo_answer(node, k, reply),
-        Sending::At { place: _, number } => place_answer(node, number, s, reply),
+        Sending::At { place, number } => place_answer(node, number, place, s, reply),
     }
 }

@@ -16,13 +16,16 @@ use Rattle.unit_table.specs.Find.{placeFound, controlPlace, hasControl, owner-c
 use Rattle.unit_session.specs.Session.{isFree, blankAt}
 use Rattle.call_asked.specs.declared.Concern.{Concern}
 use Rattle.call_asked.specs.declared.Concern.the-variants as S
-use Rattle.call_own.specs.Outcome.{Outcome, outcome, bareOn, onSession, onOwner}
+use Rattle.call_own.specs.declared.Span.{Span}
+use Rattle.call_own.specs.Outcome.{Outcome, outcome, sessionPlace, bareOn, onSession, onOwner}
 use Rattle.call_control.specs.Amends.{causeOn, noneOn, sessionOn}
 use Rattle.step_session.specs.Amended.{AmendedWith, amended, doneWith, ofNumber}
+use Rattle.step_control.specs.Step.{namedPlaces}
 
 -- the answer with the node as it was, and with the record put back in its place
-unfoldable pub placedOne : Node → ℕ → List Session → AmendedWith → Outcome
-placedOne node i l q = outcome (record { number = q .answer .number; size = q .answer .size; node = node }) (set l i (q .answer .session)) (q .reply)
+unfoldable pub placedOne : Span → Node → ℕ → List Session → AmendedWith → Outcome
+placedOne span node i l q =
+    outcome (record { number = q .answer .number; size = q .answer .size; node = node; span = span }) (set l i (q .answer .session)) (q .reply)
 
 -- where there is no session, the record says nothing
 module _ (seq : ℕ) (s t : Session) where
@@ -53,8 +56,10 @@ nobody-free = refl
 
 -- whatever is asked of a session
 pub owner-same : (node : Node) (l : List Session) (reply : List ℕ) → length l ≡ places → (teid : ℕ) (x : Concern) (seq : ℕ)
-    → onOwner node l teid (sessionOn x seq) reply ≡ placedOne node (controlPlace teid) l (doneWith (ofNumber teid x seq (getD l (controlPlace teid) nobody)) reply)
-unfolding onOwner onSession placeFound placedOne doneWith amended ofNumber changedAt sessionOn
+    → onOwner node l teid (sessionOn x seq) reply
+    ≡ placedOne (namedPlaces (hasControl (getD l (controlPlace teid) nobody) teid) (controlPlace teid)) node (controlPlace teid) l
+    (doneWith (ofNumber teid x seq (getD l (controlPlace teid) nobody)) reply)
+unfolding onOwner onSession sessionPlace namedPlaces placeFound placedOne doneWith amended ofNumber changedAt sessionOn
 owner-same node l reply n teid x seq =
     let s = getD l (controlPlace teid) nobody in
     let o = owner-control teid l (omega arith) in

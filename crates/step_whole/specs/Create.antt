@@ -9,7 +9,7 @@ use lib.ListN.{length, getD, set, length-set}
 use lib.Seq.{set-getD, set-out, getD-set-same, getD-set-other}
 use lib.Dec.{eqb, ltb}
 use borrow.Author.Tests.{eqb-true, eqb-false, lt-ltb, le-ltb, ltb-true, ltb-false}
-use Rattle.base_octets.specs.Choice.{split}
+use Rattle.base_octets.specs.Choice.{pick, split}
 use Rattle.base_octets.specs.Sums.{sumOf}
 use Rattle.base_octets.specs.Search.{firstOf, first-most}
 use Rattle.unit_tunnel.specs.Numbering.{places}
@@ -29,11 +29,12 @@ use Rattle.unit_plan.specs.Plan.{parties-four}
 use Rattle.wire_fields.specs.declared.Recovery.{Recovery}
 use Rattle.wire_fields.specs.declared.Recovery.the-variants as R
 use Rattle.wire_requests.specs.declared.Create as C
-use Rattle.call_own.specs.Outcome.{Outcome, outcome}
+use Rattle.call_own.specs.declared.Span.{Span}
+use Rattle.call_own.specs.Outcome.{Outcome, outcome, noPlaces, onePlace, twoPlaces, changing}
 use Rattle.call_control.specs.Echoes.{heardNode}
 use Rattle.wire_messages.specs.Types.{createReplyType}
 use Rattle.call_control.specs.Amends.{causeTaken}
-use Rattle.call_control.specs.Creates.{openingOf, acceptedTaken, noRoom, openedAt, shared, isRepeat, settledAt}
+use Rattle.call_control.specs.Creates.{openingOf, acceptedTaken, noRoom, openedAt, shared, isRepeat, settledAt, openedPlaces}
 use Rattle.step_control.specs.declared.Basis.{Basis}
 use Rattle.step_control.specs.declared.Concerned.{Concerned}
 use Rattle.step_control.specs.declared.Verdict.{Verdict}
@@ -44,7 +45,7 @@ use Rattle.step_control.specs.Places.{free-then, room-then}
 -- the answer with the Recovery stored, and with the two records put back in their places
 unfoldable pub placedTwo : Node → Concerned → List Session → TakenWith → Outcome
 placedTwo node p l m = outcome
-    (record { number = m .answer .number; size = m .answer .size; node = heardNode (m .answer .heard) node })
+    (record { number = m .answer .number; size = m .answer .size; node = heardNode (m .answer .heard) node; span = m .answer .span })
     (set (set l (p .old) (m .answer .old)) (p .new) (m .answer .new))
     (m .reply)
 
@@ -115,15 +116,16 @@ module _ (node : Node) (l : List Session) (k : keepsRules node l ≡ true) (c : 
       rw counts (room-then l (g .old) inside (omega arith) (node .plan) (c .point) (parties-four (node .plan) (rules .planned)))
 
   -- ---- the three ways that it can go
-  repeat-same : acceptedTaken seq (g .old) s after l reply ≡ comes Y.Still
+  repeat-same : changing noPlaces (acceptedTaken seq (g .old) s after l reply) ≡ comes Y.Still
   unfolding acceptedTaken openOn openBy opensAt concernedOf unmovedOn placedTwo
   repeat-same = rw (stays l (g .old) places, heard-plan (c .recovery) node)
 
-  entered-same : (q : ℕ) → acceptedTaken seq q (opened o (getD then′ q nobody)) after (changedAt (opened o) q then′) reply ≡ comes (Y.Opens q)
+  entered-same : (q : ℕ)
+      → changing (twoPlaces (g .old) q) (acceptedTaken seq q (opened o (getD then′ q nobody)) after (changedAt (opened o) q then′) reply) ≡ comes (Y.Opens q)
   unfolding acceptedTaken openOn openBy opensAt concernedOf enteredOn placedTwo changedAt
   entered-same q = rw (opened-then o l (g .old) q, heard-plan (c .recovery) node)
 
-  full-same : causeTaken createReplyType (c .control) seq noRoom after then′ reply ≡ comes Y.Full
+  full-same : changing (onePlace (g .old)) (causeTaken createReplyType (c .control) seq noRoom after then′ reply) ≡ comes Y.Full
   unfolding causeTaken openOn openBy opensAt concernedOf fullOn placedTwo changedAt
   full-same =
       let n = rules .size in
@@ -159,10 +161,14 @@ module _ (node : Node) (l : List Session) (k : keepsRules node l ≡ true) (c : 
   unfolding shared
   shared-out a = rw (heard-plan (c .recovery) node, a)
 
-  shared-same : repeatsAt (g .old) c seq s ≡ false → shared c seq after then′ node₀ t₀ reply ≡ comes verdict
+  -- the places where it is no repeat
+  abbrev spread : Span
+  spread = pick (admits (node .plan) (live then′) (c .point)) (twoPlaces (g .old) (firstOf isFree then′)) (onePlace (g .old))
+
+  shared-same : repeatsAt (g .old) c seq s ≡ false → changing spread (shared c seq after then′ node₀ t₀ reply) ≡ comes verdict
   shared-same r = split (admits (node .plan) (live then′) (c .point))
-      (λ a. shared-in a ∙ entered-same (firstOf isFree then′) ∙ ap (λ (v : Verdict). comes v) (sym (verdict-in r a)))
-      (λ a. shared-out a ∙ full-same ∙ ap (λ (v : Verdict). comes v) (sym (verdict-out r a)))
+      (λ a. rw a (ap (changing (twoPlaces (g .old) (firstOf isFree then′))) (shared-in a) ∙ entered-same (firstOf isFree then′) ∙ ap (λ (v : Verdict). comes v) (sym (verdict-in r a))))
+      (λ a. rw a (ap (changing (onePlace (g .old))) (shared-out a) ∙ full-same ∙ ap (λ (v : Verdict). comes v) (sym (verdict-out r a))))
 
   -- ---- whether there is such a session
   met : ltb (g .old) (length l) ≡ true → repeatsAt (g .old) c seq s ≡ isRepeat c seq s
@@ -181,14 +187,14 @@ module _ (node : Node) (l : List Session) (k : keepsRules node l ≡ true) (c : 
   unfolding foundIn
   found-no e = rw (← old, e)
 
-  pub settled-same : settledAt (foundIn (hasId (c .imsi) (c .ebi)) l) c seq after l node₀ t₀ reply ≡ comes verdict
-  unfolding settledAt
+  pub settled-same : changing (openedPlaces c seq node l (g .old)) (settledAt (foundIn (hasId (c .imsi) (c .ebi)) l) c seq after l node₀ t₀ reply) ≡ comes verdict
+  unfolding settledAt openedPlaces
   settled-same = split (ltb (g .old) (length l))
-      (λ e. rw (found-at e)
+      (λ e. rw (found-at e, e)
       (split (isRepeat c seq s)
       (λ r. let t = met e ∙ r in rw r (repeat-same ∙ ap (λ (v : Verdict). comes v) (sym (verdict-repeat t))))
       (λ r. rw r (shared-same (met e ∙ r)))))
-      (λ e. rw (found-no e)
-      (ap (λ (x : List Session). shared c seq after x node₀ t₀ reply)
+      (λ e. rw (found-no e, e)
+      (ap (λ (x : List Session). changing spread (shared c seq after x node₀ t₀ reply))
       (sym (changed-out freed (g .old) l (ltb-false (g .old) (length l) e)))
       ∙ shared-same (unmet e)))

@@ -28,13 +28,14 @@ use Rattle.wire_fields.specs.declared.Recovery.{Recovery}
 use Rattle.wire_fields.specs.declared.Recovery.the-variants as R
 use Rattle.wire_requests.specs.declared.Create as C
 use Rattle.call_control.specs.Echoes.{restartsBy, heardNode, heardBy, heard-freed, heard-same, heard-keeps}
-use Rattle.call_control.specs.Creates.{openingOf, settledAt, heardCreate}
+use Rattle.call_own.specs.Outcome.{allPlaces, changing}
+use Rattle.call_control.specs.Creates.{openingOf, settledAt, heardCreate, openedPlaces}
 use Rattle.step_control.specs.declared.Basis.{Basis}
 use Rattle.step_control.specs.declared.Concerned.{Concerned}
 use Rattle.step_control.specs.declared.Taken.{Taken}
 use Rattle.step_control.specs.declared.Verdict.{Verdict}
 use Rattle.step_control.specs.declared.Verdict.the-variants as Y
-use Rattle.step_control.specs.Step.{repeatsAt, verdictOf, opensAt, concernedOf, concernedWith, TakenWith, unmovedOn, fullOn, enteredOn, openBy, openOn, nodeAfter, freedCount, concernedPut, placedConcerned}
+use Rattle.step_control.specs.Step.{repeatsAt, verdictOf, opensAt, concernedOf, concernedWith, TakenWith, unmovedOn, fullOn, enteredOn, openBy, openOn, nodeAfter, freedCount, concernedPut, changedPlaces, placedConcerned}
 use Rattle.step_control.specs.Places.{freed-free, freed-weight}
 use Rattle.step_whole.specs.Create.{placedTwo, heard-plan, opened-freed, settled-same}
 
@@ -82,13 +83,13 @@ module _ (l : List Session) (p : Concerned) (o : Taken) where
 
 module _ (node : Node) (l : List Session) (p : Concerned) (m : TakenWith) (e : m .answer .ended ≡ false) where
   pub placed-none : p .all ≡ false → placedConcerned node p l m ≡ placedTwo node p l m
-  unfolding placedConcerned placedTwo nodeAfter heardNode concernedPut
-  placed-none a = rw (e, put-none l p (m .answer) a)
+  unfolding placedConcerned placedTwo nodeAfter heardNode concernedPut changedPlaces
+  placed-none a = rw (e, put-none l p (m .answer) a, a)
 
   placed-all : p .all ≡ true → length l ≤ places → heardNode (m .answer .heard) (heardNode (m .answer .heard) node) ≡ heardNode (m .answer .heard) node
-      → placedConcerned node p l m ≡ placedTwo (heardNode (m .answer .heard) node) p (map freed l) m
-  unfolding placedConcerned placedTwo nodeAfter heardNode concernedPut freed
-  placed-all a n t = rw (e, put-all l p (m .answer) a n, t)
+      → placedConcerned node p l m ≡ changing allPlaces (placedTwo (heardNode (m .answer .heard) node) p (map freed l) m)
+  unfolding placedConcerned placedTwo nodeAfter heardNode concernedPut changedPlaces freed
+  placed-all a n t = rw (e, put-all l p (m .answer) a n, t, a)
 
 -- ---- a Create says nothing of the unit's own echo, and its Recovery is stored
 module _ (c : C.Create) (seq : ℕ) (node : Node) (p : Concerned) (reply : List ℕ) where
@@ -174,7 +175,7 @@ module _ (node : Node) (l : List Session) (k : keepsRules node l ≡ true) (c : 
   abbrev comes : TakenWith
   comes = openOn c seq node (concernedWith g l verdict) reply
 
-  put-same : placedConcerned node (concernedWith g l verdict) l comes ≡ placedTwo after (concernedWith g l verdict) gone comes
+  put-same : placedConcerned node (concernedWith g l verdict) l comes ≡ changing allPlaces (placedTwo after (concernedWith g l verdict) gone comes)
   unfolding concernedOf
   put-same =
       let h = open-heard c seq node (concernedWith g l verdict) reply in
@@ -183,7 +184,7 @@ module _ (node : Node) (l : List Session) (k : keepsRules node l ≡ true) (c : 
       (rw h (heard-twice (c .recovery) node))
       ∙ rw h
 
-  settled-gone : settledAt (foundIn (hasId (c .imsi) (c .ebi)) gone) c seq (heardNode (c .recovery) after) gone node l reply
+  settled-gone : changing (openedPlaces c seq after gone (g .old)) (settledAt (foundIn (hasId (c .imsi) (c .ebi)) gone) c seq (heardNode (c .recovery) after) gone node l reply)
       ≡ placedTwo after (concernedWith g gone (verdictOf g after c seq (getD gone (g .old) nobody))) gone
       (openOn c seq after (concernedWith g gone (verdictOf g after c seq (getD gone (g .old) nobody))) reply)
   settled-gone =
@@ -193,13 +194,13 @@ module _ (node : Node) (l : List Session) (k : keepsRules node l ≡ true) (c : 
       (counts ∙ sym (freed-sum l))
       reply node l
 
-  pub restart-same : heardCreate c seq (heardBy (c .recovery) node l) node l reply ≡ placedConcerned node (concernedWith g l verdict) l comes
+  pub restart-same : changing allPlaces (heardCreate c seq (heardBy (c .recovery) node l) node l reply) ≡ placedConcerned node (concernedWith g l verdict) l comes
   unfolding heardCreate
   restart-same =
       rw (heard-freed (c .recovery) node l again)
-      (ap (λ (x : Node). settledAt (foundIn (hasId (c .imsi) (c .ebi)) gone) c seq x gone node l reply) (sym (heard-twice (c .recovery) node))
-      ∙ settled-gone
-      ∙ ap (λ (v : Verdict). placedTwo after (concernedWith g gone v) gone (openOn c seq after (concernedWith g gone v) reply)) verdict-same
-      ∙ ap (λ (m : TakenWith). placedTwo after (concernedWith g gone verdict) gone m) (taken-same verdict)
-      ∙ places-same verdict comes
+      (ap (λ (x : Node). changing allPlaces (settledAt (foundIn (hasId (c .imsi) (c .ebi)) gone) c seq x gone node l reply)) (sym (heard-twice (c .recovery) node))
+      ∙ ap (changing allPlaces) settled-gone
+      ∙ ap (λ (v : Verdict). changing allPlaces (placedTwo after (concernedWith g gone v) gone (openOn c seq after (concernedWith g gone v) reply))) verdict-same
+      ∙ ap (λ (m : TakenWith). changing allPlaces (placedTwo after (concernedWith g gone verdict) gone m)) (taken-same verdict)
+      ∙ ap (changing allPlaces) (places-same verdict comes)
       ∙ sym put-same)

@@ -18,6 +18,7 @@ use Rattle.unit_session.specs.Session.{freed}
 use Rattle.unit_table.specs.declared.Node.{Node}
 use Rattle.unit_table.specs.Rules.{keepsRules, rules-of}
 use Rattle.unit_table.specs.Change.{nobody}
+use Rattle.unit_table.specs.Find.{hasControl}
 use Rattle.wire_messages.specs.Messages.{versionNotSupported, echoOf}
 use Rattle.wire_messages.specs.Types.{echoReplyType}
 use Rattle.wire_fields.specs.declared.Recovery.{Recovery}
@@ -27,15 +28,16 @@ use Rattle.call_asked.specs.declared.Concern.{Concern}
 use Rattle.call_asked.specs.declared.Asked.{Asked}
 use Rattle.call_asked.specs.declared.Asked.the-variants as A
 use Rattle.call_asked.specs.Asked.{askedOf}
-use Rattle.call_own.specs.Outcome.{Outcome, outcome, onOwner, leastReply, noReply}
-use Rattle.call_control.specs.Echoes.{restartsBy, heardNode, heardBy, heard-same as heard-still, echoTaken, echoEnded, echoReplyTaken}
+use Rattle.call_own.specs.declared.Span.{Span}
+use Rattle.call_own.specs.Outcome.{Outcome, outcome, noPlaces, allPlaces, onOwner, leastReply, noReply}
+use Rattle.call_control.specs.Echoes.{restartsBy, heardNode, heardBy, heardPlaces, heard-same as heard-still, echoTaken, echoEnded, echoReplyTaken}
 use Rattle.call_control.specs.Amends.{causeTaken, sessionOn}
-use Rattle.call_control.specs.Creates.{heardCreate, createTaken}
+use Rattle.call_control.specs.Creates.{heardCreate, createPlaces, createTaken}
 use Rattle.call_control.specs.Control.{askedTaken, controlTaken}
 use Rattle.step_session.specs.Amended.{AmendedWith, doneWith, ofNumber}
 use Rattle.step_control.specs.declared.Basis.{Basis}
 use Rattle.step_control.specs.declared.Concerned.{Concerned}
-use Rattle.step_control.specs.Step.{restartsIn, restartsNow, verdictOf, verdictIn, opensAt, concernedOf, concernedWith, concernedIn, TakenWith, takenWith, unmovedOn, namedWith, namedOn, openOn, askedOn, takenOn, taken-short, taken-broken, taken-kept, restedNode, nodeAfter, concernedPut, placedConcerned}
+use Rattle.step_control.specs.Step.{restartsIn, restartsNow, verdictOf, verdictIn, opensAt, concernedOf, concernedWith, concernedIn, TakenWith, takenWith, unmovedOn, namedPlaces, namedWith, namedOn, openOn, askedOn, takenOn, taken-short, taken-broken, taken-kept, restedNode, nodeAfter, concernedPut, changedPlaces, placedConcerned}
 use Rattle.step_whole.specs.Amended.{placedOne, owner-same}
 use Rattle.step_whole.specs.Create.{stays, settled-same}
 use Rattle.step_whole.specs.Restart.{heard-either, put-none, put-all, placed-none, open-ended, restart-same}
@@ -58,13 +60,17 @@ module _ (l : List Session) (p : Concerned) (e-old : p .oldrecord ≡ getD l (p 
       ∙ set-out (set (map freed l) (p .old) (o .old)) (p .new) (o .new) (omega arith)
       ∙ set-out (map freed l) (p .old) (o .old) (omega arith)
 
+-- where none are freed first the places are those of the two
+all-span : (p : Concerned) (span : Span) → p .all ≡ false → pick (p .all) allPlaces span ≡ span
+all-span p span e = rw e
+
 -- what is put back, given
 placed-by : (node : Node) (p : Concerned) (l : List Session) (m : TakenWith) (x : List Session) → concernedPut l p (m .answer) ≡ x
     → placedConcerned node p l m
-    ≡ outcome (record { number = m .answer .number; size = m .answer .size; node = nodeAfter (m .answer) node }) x (m .reply)
+    ≡ outcome (record { number = m .answer .number; size = m .answer .size; node = nodeAfter (m .answer) node; span = changedPlaces p (m .answer) }) x (m .reply)
 unfolding placedConcerned
 placed-by node p l m x e =
-    ap (λ (y : List Session). outcome (record { number = m .answer .number; size = m .answer .size; node = nodeAfter (m .answer) node }) y (m .reply)) e
+    ap (λ (y : List Session). outcome (record { number = m .answer .number; size = m .answer .size; node = nodeAfter (m .answer) node; span = changedPlaces p (m .answer) }) y (m .reply)) e
 
 module _ (node : Node) (l : List Session) (reply : List ℕ) (g : Basis) where
   abbrev concernedFor : Asked → Concerned
@@ -96,12 +102,13 @@ module _ (node : Node) (l : List Session) (reply : List ℕ) (g : Basis) where
 
   -- nothing moves
   still-same : (w : Asked) (number size : ℕ) (left : List ℕ) → g .all ≡ false
-      → outcome (record { number = number; size = size; node = node }) l left
+      → outcome (record { number = number; size = size; node = node; span = noPlaces }) l left
       ≡ placedConcerned node (concernedFor w) l (takenWith (unmovedOn number size false R.None (concernedFor w)) left)
-  unfolding unmovedOn nodeAfter heardNode
+  unfolding unmovedOn nodeAfter heardNode changedPlaces
   still-same w number size left a =
       sym (placed-by node (concernedFor w) l (takenWith (unmovedOn number size false R.None (concernedFor w)) left) l
-      (put-still l (concernedFor w) (old-at w) (new-at w) number size false R.None (all-at w ∙ a)))
+      (put-still l (concernedFor w) (old-at w) (new-at w) number size false R.None (all-at w ∙ a))
+      ∙ ap (λ (y : Span). outcome (record { number = number; size = size; node = node; span = y }) l left) (all-span (concernedFor w) noPlaces (all-at w ∙ a)))
 
   -- a Recovery is stored, and all are freed or nothing moves
   put-heard : (w : Asked) (size : ℕ) (ended : Bool) (heard : Recovery) → length l ≡ places → concernedFor w .new ≡ places → (g .all ≡ true → Cleared g)
@@ -121,7 +128,7 @@ module _ (node : Node) (l : List Session) (reply : List ℕ) (g : Basis) where
     none w sees e = all-of w sees ∙ e
 
     echo-same : (r : Recovery) (seq : ℕ) → Sees node l (A.Echo r seq) (length reply) g → echoTaken node l seq r reply ≡ comesTo (A.Echo r seq)
-    unfolding echoTaken askedOn unmovedOn nodeAfter restartsIn verdictIn opensAt concernedIn concernedOf
+    unfolding echoTaken heardPlaces askedOn unmovedOn nodeAfter restartsIn verdictIn opensAt concernedIn concernedOf changedPlaces
     echo-same r seq sees =
         let w = A.Echo r seq in
         rw (heard-either r node l, ← all-of w sees)
@@ -129,7 +136,7 @@ module _ (node : Node) (l : List Session) (reply : List ℕ) (g : Basis) where
         (put-heard w (length (echoOf echoReplyType seq (node .plan .recovery))) false r (rules-of node l k .size) refl (sees .cleared))))
 
     ended-same : (r : Recovery) → Sees node l (A.EchoReply r) (length reply) g → echoReplyTaken node l r reply ≡ comesTo (A.EchoReply r)
-    unfolding echoReplyTaken noReply echoEnded askedOn unmovedOn nodeAfter restedNode restartsIn verdictIn opensAt concernedIn concernedOf
+    unfolding echoReplyTaken heardPlaces changedPlaces noReply echoEnded askedOn unmovedOn nodeAfter restedNode restartsIn verdictIn opensAt concernedIn concernedOf
     ended-same r sees =
         let w = A.EchoReply r in
         rw (heard-either r node l, ← all-of w sees)
@@ -140,20 +147,27 @@ module _ (node : Node) (l : List Session) (reply : List ℕ) (g : Basis) where
       abbrev w : Asked
       w = A.Session teid seq x
 
-      one-put : (q : AmendedWith) → g .all ≡ false → concernedPut l (concernedFor w) (namedWith q (concernedFor w) .answer) ≡ set l (g .old) (q .answer .session)
+      one-put : (span : Span) (q : AmendedWith) → g .all ≡ false → concernedPut l (concernedFor w) (namedWith span q (concernedFor w) .answer) ≡ set l (g .old) (q .answer .session)
       unfolding namedWith verdictIn opensAt concernedIn concernedOf
-      one-put q a =
+      one-put span q a =
           let n = rules-of node l k .size in
           let m = length-set l (g .old) (q .answer .session) in
-          put-none l (concernedFor w) (namedWith q (concernedFor w) .answer) a
+          put-none l (concernedFor w) (namedWith span q (concernedFor w) .answer) a
           ∙ set-out (set l (g .old) (q .answer .session)) places (getD l places nobody) (omega arith)
 
-      one-same : (q : AmendedWith) → g .all ≡ false → placedOne node (g .old) l q ≡ placedConcerned node (concernedFor w) l (namedWith q (concernedFor w))
-      unfolding placedOne namedWith nodeAfter heardNode
-      one-same q a = sym (placed-by node (concernedFor w) l (namedWith q (concernedFor w)) (set l (g .old) (q .answer .session)) (one-put q a))
+      one-same : (span : Span) (q : AmendedWith) → g .all ≡ false
+          → placedOne span node (g .old) l q ≡ placedConcerned node (concernedFor w) l (namedWith span q (concernedFor w))
+      unfolding placedOne namedWith nodeAfter heardNode changedPlaces
+      one-same span q a =
+          sym (placed-by node (concernedFor w) l (namedWith span q (concernedFor w)) (set l (g .old) (q .answer .session)) (one-put span q a)
+          ∙ ap (λ (y : Span). placedOne y node (g .old) l q) (all-span (concernedFor w) span (all-at w ∙ a)))
 
-      at-old : placedConcerned node (concernedFor w) l (namedWith (doneWith (ofNumber (teid .0) x seq (getD l (g .old) nobody)) reply) (concernedFor w))
-          ≡ placedConcerned node (concernedFor w) l (namedWith (doneWith (ofNumber (teid .0) x seq (concernedFor w .oldrecord)) reply) (concernedFor w))
+      abbrev spanAt : ℕ → Session → Span
+      spanAt i s = namedPlaces (hasControl s (teid .0)) i
+
+      at-old : placedConcerned node (concernedFor w) l (namedWith (spanAt (g .old) (getD l (g .old) nobody)) (doneWith (ofNumber (teid .0) x seq (getD l (g .old) nobody)) reply) (concernedFor w))
+          ≡ placedConcerned node (concernedFor w) l
+          (namedWith (spanAt (concernedFor w .old) (concernedFor w .oldrecord)) (doneWith (ofNumber (teid .0) x seq (concernedFor w .oldrecord)) reply) (concernedFor w))
       at-old = rw (old-at w, place-at w)
 
       session-same : Sees node l w (length reply) g → onOwner node l (teid .0) (sessionOn x seq) reply ≡ comesTo w
@@ -161,20 +175,20 @@ module _ (node : Node) (l : List Session) (reply : List ℕ) (g : Basis) where
       session-same sees =
           let i = sees .named teid seq x refl in
           owner-same node l reply (rules-of node l k .size) (teid .0) x seq
-          ∙ ap (λ (y : ℕ). placedOne node y l (doneWith (ofNumber (teid .0) x seq (getD l y nobody)) reply)) (sym i)
-          ∙ one-same (doneWith (ofNumber (teid .0) x seq (getD l (g .old) nobody)) reply) (none w sees refl)
+          ∙ ap (λ (y : ℕ). placedOne (spanAt y (getD l y nobody)) node y l (doneWith (ofNumber (teid .0) x seq (getD l y nobody)) reply)) (sym i)
+          ∙ one-same (spanAt (g .old) (getD l (g .old) nobody)) (doneWith (ofNumber (teid .0) x seq (getD l (g .old) nobody)) reply) (none w sees refl)
           ∙ at-old
 
     create-same : (c : C.Create) (seq : ℕ) → Sees node l (A.Create c seq) (length reply) g → createTaken c seq node l reply ≡ comesTo (A.Create c seq)
-    unfolding createTaken askedOn verdictIn concernedIn restartsIn heardCreate
+    unfolding createTaken createPlaces askedOn verdictIn concernedIn restartsIn heardCreate
     create-same c seq sees =
         let w = A.Create c seq in
         let a = all-of w sees in
         split (restartsBy (c .recovery) node)
-        (λ e. let z = sees .cleared (a ∙ e) in restart-same node l k c seq e g (z .old) (z .free) (z .counts) (a ∙ e) reply)
+        (λ e. let z = sees .cleared (a ∙ e) in rw e (restart-same node l k c seq e g (z .old) (z .free) (z .counts) (a ∙ e) reply))
         (λ e. let f = sees .known c seq refl k (a ∙ e) in
         let v = verdictOf g node c seq (getD l (g .old) nobody) in
-        rw (heard-still (c .recovery) node l e)
+        rw (heard-still (c .recovery) node l e, e, ← f .old)
         (settled-same node l k c seq g (f .old) (f .free) (f .counts) reply node l
         ∙ sym (placed-none node l (concernedWith g l v) (openOn c seq node (concernedWith g l v) reply) (open-ended c seq node (concernedWith g l v) reply) (all-at w ∙ a ∙ e))))
 

@@ -129,16 +129,17 @@ module _ {M : Type 1} (𝓤 : URA M) (H : Heap 𝓤) (A : Atoms 𝓤) (W : Given
     module _ (is-node : Is Node-t.the-row node (v-node ∷ [])) (room-recs : Room Session-t.the-row (length (recs .now))) (is-asked : Is Asked-t.the-row asked (v-asked ∷ [])) (room-reply : Room u8 (length (reply .now))) (l₀ l₁ l₂ l₃ l₄ l₅ l₆ l₇ l₈ l₉ l₁₀ l₁₁ l₁₂ l₁₃ l₁₄ : ℕ) where
       part-11 : (w-concerned-lent : Val) → (r-concerned-lent : Concerned) → (e-concerned-lent : r-concerned-lent ≡ concernedLent node (ys-recs) asked (length (reply .now))) → (is-concerned-lent : Is Concerned-t.the-row r-concerned-lent (w-concerned-lent ∷ [])) → (w-taken-on : Val) → (r-taken-on : Taken) → (z-taken-on : (Unit {0}) × ((Unit {0}) × ((Unit {0}) × ((List ℕ) × Unit {0})))) → (e-taken-on : takenWith r-taken-on (z-taken-on .1 .1 .1 .0) ≡ takenOn node asked r-concerned-lent (ys-reply)) → (is-taken-on : Is Taken-t.the-row r-taken-on (w-taken-on ∷ [])) → (len-taken-on-reply : length (z-taken-on .1 .1 .1 .0) ≡ length (ys-reply)) → (w-put-concerned : Val) → (r-put-concerned : Unit {0}) → (z-put-concerned : (List Session) × ((Unit {0}) × ((Unit {0}) × Unit {0}))) → (e-put-concerned : (z-put-concerned .0) ≡ concernedPut (ys-recs) r-concerned-lent r-taken-on) → (is-put-concerned : Is Nothing r-put-concerned (w-put-concerned ∷ [])) → (len-put-concerned-recs : length (z-put-concerned .0) ≡ length (ys-recs)) → Sq W (‵ (fat fullShare (sliceTy (tyRef erased mut (pointee (Session-t.the-row .written)))) l₁₄ 0 v-recs) ∷ ‵ (fdies (sliceTy (tyRef erased mut (pointee (Session-t.the-row .written)))) l₁₄) ∷ ‵ (froom (tyRef erased mut (pointee (Session-t.the-row .written))) l₁₃ 0) ∷ ‵ (fdies (tyRef erased mut (pointee (Session-t.the-row .written))) l₁₃) ∷ ‵ (fat fullShare tyUnit l₁₂ 0 w-put-concerned) ∷ ‵ (fdies tyUnit l₁₂) ∷ ‵ (fat fullShare (sliceTy (tyRef erased mut (pointee (u8 .written)))) l₁₁ 0 v-reply) ∷ ‵ (fdies (sliceTy (tyRef erased mut (pointee (u8 .written)))) l₁₁) ∷ ‵ (froom (tyRef erased mut (pointee (u8 .written))) l₁₀ 0) ∷ ‵ (fdies (tyRef erased mut (pointee (u8 .written))) l₁₀) ∷ ‵ (fat fullShare (tyInt w64) l₉ 0 (vint w64 (length (reply .now)))) ∷ ‵ (fdies (tyInt w64) l₉) ∷ ‵ (fat fullShare (sliceTy (tyRef erased imm (pointee (Session-t.the-row .written)))) l₈ 0 v-recs) ∷ ‵ (fdies (sliceTy (tyRef erased imm (pointee (Session-t.the-row .written)))) l₈) ∷ ‵ (froom (tyRef erased imm (pointee (Session-t.the-row .written))) l₇ 0) ∷ ‵ (fdies (tyRef erased imm (pointee (Session-t.the-row .written))) l₇) ∷ ‵ (fat fullShare Taken-l.mir l₆ 0 w-taken-on) ∷ ‵ (fdies Taken-l.mir l₆) ∷ ‵ (fat fullShare Concerned-l.mir l₅ 0 w-concerned-lent) ∷ ‵ (fdies Concerned-l.mir l₅) ∷ ‵ (fat fullShare (sliceTy (tyRef (named 1) mut (pointee (u8 .written)))) l₄ 0 v-reply) ∷ ‵ (fdies (sliceTy (tyRef (named 1) mut (pointee (u8 .written)))) l₄) ∷ ‵ (fat fullShare Asked-l.mir l₃ 0 v-asked) ∷ ‵ (fdies Asked-l.mir l₃) ∷ ‵ (fat fullShare (sliceTy (tyRef (named 0) mut (pointee (Session-t.the-row .written)))) l₂ 0 v-recs) ∷ ‵ (fdies (sliceTy (tyRef (named 0) mut (pointee (Session-t.the-row .written)))) l₂) ∷ ‵ (fat fullShare Node-l.mir l₁ 0 v-node) ∷ ‵ (fdies Node-l.mir l₁) ∷ ‵ (froom Answer-l.mir l₀ 0) ∷ ‵ (fdies Answer-l.mir l₀) ∷ ‵ (finally Session-t.the-row (recs .name) (z-put-concerned .0)) ∷ ‵ (finally u8 (reply .name) (z-taken-on .1 .1 .1 .0)) ∷ ‵ (flft κ₀ q₀) ∷ ‵ (flft κ₁ q₁) ∷ []) (runs C Λ (En l₀ l₁ l₂ l₃ l₄ l₅ l₆ l₇ l₈ l₉ l₁₀ l₁₁ l₁₂ l₁₃ l₁₄) mir.t-11 (atRet (En l₀ l₁ l₂ l₃ l₄ l₅ l₆ l₇ l₈ l₉ l₁₀ l₁₁ l₁₂ l₁₃ l₁₄) Post))
       part-11 w-concerned-lent r-concerned-lent e-concerned-lent is-concerned-lent w-taken-on r-taken-on z-taken-on e-taken-on is-taken-on len-taken-on-reply w-put-concerned r-put-concerned z-put-concerned e-put-concerned is-put-concerned len-put-concerned-recs =
-          -- _0 = taken_answer(_1, _6)
+          -- _0 = taken_answer(_1, _5, _6)
           nothing ! $ nothing ! $ owned ! Taken-t.the-row (Is Taken-t.the-row) (LL.makes Taken-t.the-type Taken-l.the-plain 𝓤 H A) r-taken-on _ is-taken-on $ fjoin ! $
+          owned ! Concerned-t.the-row (Is Concerned-t.the-row) (LL.makes Concerned-t.the-type Concerned-l.the-plain 𝓤 H A) r-concerned-lent _ is-concerned-lent $ fjoin ! $
           owned ! Node-t.the-row (Is Node-t.the-row) (LL.makes Node-t.the-type Node-l.the-plain 𝓤 H A) node _ is-node $ fjoin ! $ move ! (1 ∷ 0 ∷ []) $
-          use2 W (raw (c-taken-answer 𝓤 H A mem run .pre ((tt, tt, tt, (node, (r-taken-on, tt)), (v-node ∷ [], (w-taken-on ∷ [], tt))), tt))) (qed W ((‵ ftrue) ∷ ‵ (fsep (Node-t.the-row .own node (v-node ∷ [])) (fsep (Taken-t.the-row .own r-taken-on (w-taken-on ∷ [])) ftrue)) ∷ []) ∵ join ! $ frame ! $ done !) $
-          calls-at ! fm (c-taken-answer 𝓤 H A mem run) known-taken-answer ((tt, tt, tt, (node, (r-taken-on, tt)), (v-node ∷ [], (w-taken-on ∷ [], tt))), tt) (and-then ! (load ! (from ! (stop !)) (look ! 27 refl)) (and-then ! (load ! (from ! (stop !)) (look ! 17 refl)) (no-more !))) (λ w-taken-answer.
-          use1 W (later (some (λ (r-taken-answer : Answer). ((‵ ftrue) ⊛ ‵ (Answer-t.the-row .own r-taken-answer (w-taken-answer ∷ []))) ⊛ raw (ensured 𝓤 H A c-taken-answer′.ended (c-taken-answer′.clauses 𝓤 H A mem run) tt (node, (r-taken-on, tt)) tt r-taken-answer)))) (id⊢ 𝓤 _) $ await ! tt $
+          use2 W (raw (c-taken-answer 𝓤 H A mem run .pre ((tt, tt, tt, (node, (r-concerned-lent, (r-taken-on, tt))), (v-node ∷ [], (w-concerned-lent ∷ [], (w-taken-on ∷ [], tt)))), tt))) (qed W ((‵ ftrue) ∷ ‵ (fsep (Node-t.the-row .own node (v-node ∷ [])) (fsep (Concerned-t.the-row .own r-concerned-lent (w-concerned-lent ∷ [])) (fsep (Taken-t.the-row .own r-taken-on (w-taken-on ∷ [])) ftrue))) ∷ []) ∵ join ! $ frame ! $ done !) $
+          calls-at ! fm (c-taken-answer 𝓤 H A mem run) known-taken-answer ((tt, tt, tt, (node, (r-concerned-lent, (r-taken-on, tt))), (v-node ∷ [], (w-concerned-lent ∷ [], (w-taken-on ∷ [], tt)))), tt) (and-then ! (load ! (from ! (stop !)) (look ! 27 refl)) (and-then ! (load ! (from ! (stop !)) (look ! 19 refl)) (and-then ! (load ! (from ! (stop !)) (look ! 17 refl)) (no-more !)))) (λ w-taken-answer.
+          use1 W (later (some (λ (r-taken-answer : Answer). ((‵ ftrue) ⊛ ‵ (Answer-t.the-row .own r-taken-answer (w-taken-answer ∷ []))) ⊛ raw (ensured 𝓤 H A c-taken-answer′.ended (c-taken-answer′.clauses 𝓤 H A mem run) tt (node, (r-concerned-lent, (r-taken-on, tt))) tt r-taken-answer)))) (id⊢ 𝓤 _) $ await ! tt $
           pick ! (λ r-taken-answer. split ! $ move ! (1 ∷ []) $
-          use1 W (some (λ (z-taken-answer : (Unit {0}) × ((Unit {0}) × Unit {0})). ‵ (lasts c-taken-answer′.ended tt (node, (r-taken-on, tt)) z-taken-answer) ⊛ raw (fact 𝓤 (r-taken-answer ≡ takenAnswer node r-taken-on)))) (id⊢ 𝓤 _) $
-          pick ! (λ z-taken-answer. split ! $ move ! (1 ∷ []) $ heard ! (r-taken-answer ≡ takenAnswer node r-taken-on) (λ e-taken-answer. fsplit ! $ drop ! $ fsplit ! $ drop ! $ drop ! $ split ! $ drop ! $
-          peeks ! Answer-t.the-row (Is Answer-t.the-row) (shows 𝓤 H A Answer-t.the-row) r-taken-answer (w-taken-answer ∷ []) (λ is-taken-answer.
+          use1 W (some (λ (z-taken-answer : (Unit {0}) × ((Unit {0}) × ((Unit {0}) × Unit {0}))). ‵ (lasts c-taken-answer′.ended tt (node, (r-concerned-lent, (r-taken-on, tt))) z-taken-answer) ⊛ raw (fact 𝓤 (r-taken-answer ≡ takenAnswer node r-concerned-lent r-taken-on)))) (id⊢ 𝓤 _) $
+          pick ! (λ z-taken-answer. split ! $ move ! (1 ∷ []) $ heard ! (r-taken-answer ≡ takenAnswer node r-concerned-lent r-taken-on) (λ e-taken-answer. fsplit ! $ drop ! $ fsplit ! $ drop ! $ fsplit ! $ drop ! $ drop ! $ split ! $
+          drop ! $ peeks ! Answer-t.the-row (Is Answer-t.the-row) (shows 𝓤 H A Answer-t.the-row) r-taken-answer (w-taken-answer ∷ []) (λ is-taken-answer.
           land ! (from ! (stop !)) (init ! 29 refl (LL.lawful Answer-t.the-type Answer-l.the-laws 𝓤 H A W .typed r-taken-answer _ is-taken-answer .0)) $ drop ! $
           -- return
           returns ! (look ! 28 refl) $

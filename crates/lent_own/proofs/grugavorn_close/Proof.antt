@@ -117,16 +117,17 @@ module _ {M : Type 1} (𝓤 : URA M) (H : Heap 𝓤) (A : Atoms 𝓤) (W : Given
     module _ (is-node : Is Node-t.the-row node (v-node ∷ [])) (room-recs : Room Session-t.the-row (length (recs .now))) (is-place : Is usize place (v-place ∷ [])) (l₀ l₁ l₂ l₃ l₄ l₅ l₆ l₇ l₈ l₉ l₁₀ l₁₁ l₁₂ l₁₃ : ℕ) where
       part-11 : (w-keeps-rules : Val) → (r-keeps-rules : Bool) → (e-keeps-rules : r-keeps-rules ≡ keepsRules node (ys-recs)) → (is-keeps-rules : Is bool r-keeps-rules (w-keeps-rules ∷ [])) → (w-read : Val) → (r-read : Session) → (e-read : r-read ≡ getD (ys-recs) place (blankAt 0)) → (is-read : Is Session-t.the-row r-read (w-read ∷ [])) → (w-closed-by : Val) → (r-closed-by : Session) → (e-closed-by : r-closed-by ≡ closedBy r-keeps-rules r-read) → (is-closed-by : Is Session-t.the-row r-closed-by (w-closed-by ∷ [])) → (w-put : Val) → (r-put : Unit {0}) → (z-put : (List Session) × ((Unit {0}) × ((Unit {0}) × Unit {0}))) → (e-put : (z-put .0) ≡ set (ys-recs) place r-closed-by) → (is-put : Is Nothing r-put (w-put ∷ [])) → (len-put-recs : length (z-put .0) ≡ length (ys-recs)) → Sq W (‵ (fat fullShare (sliceTy (tyRef erased mut (pointee (Session-t.the-row .written)))) l₁₃ 0 v-recs) ∷ ‵ (fdies (sliceTy (tyRef erased mut (pointee (Session-t.the-row .written)))) l₁₃) ∷ ‵ (froom (tyRef erased mut (pointee (Session-t.the-row .written))) l₁₂ 0) ∷ ‵ (fdies (tyRef erased mut (pointee (Session-t.the-row .written))) l₁₂) ∷ ‵ (fat fullShare tyUnit l₁₁ 0 w-put) ∷ ‵ (fdies tyUnit l₁₁) ∷ ‵ (fat fullShare (sliceTy (tyRef erased imm (pointee (Session-t.the-row .written)))) l₁₀ 0 v-recs) ∷ ‵ (fdies (sliceTy (tyRef erased imm (pointee (Session-t.the-row .written)))) l₁₀) ∷ ‵ (froom (tyRef erased imm (pointee (Session-t.the-row .written))) l₉ 0) ∷ ‵ (fdies (tyRef erased imm (pointee (Session-t.the-row .written))) l₉) ∷ ‵ (fat fullShare (sliceTy (tyRef erased imm (pointee (Session-t.the-row .written)))) l₈ 0 v-recs) ∷ ‵ (fdies (sliceTy (tyRef erased imm (pointee (Session-t.the-row .written)))) l₈) ∷ ‵ (froom (tyRef erased imm (pointee (Session-t.the-row .written))) l₇ 0) ∷ ‵ (fdies (tyRef erased imm (pointee (Session-t.the-row .written))) l₇) ∷ ‵ (fat fullShare Session-l.mir l₆ 0 w-closed-by) ∷ ‵ (fdies Session-l.mir l₆) ∷ ‵ (fat fullShare Session-l.mir l₅ 0 w-read) ∷ ‵ (fdies Session-l.mir l₅) ∷ ‵ (fat fullShare tyBool l₄ 0 w-keeps-rules) ∷ ‵ (fdies tyBool l₄) ∷ ‵ (fat fullShare (tyInt w64) l₃ 0 v-place) ∷ ‵ (fdies (tyInt w64) l₃) ∷ ‵ (fat fullShare (sliceTy (tyRef (named 0) mut (pointee (Session-t.the-row .written)))) l₂ 0 v-recs) ∷ ‵ (fdies (sliceTy (tyRef (named 0) mut (pointee (Session-t.the-row .written)))) l₂) ∷ ‵ (fat fullShare Node-l.mir l₁ 0 v-node) ∷ ‵ (fdies Node-l.mir l₁) ∷ ‵ (froom Answer-l.mir l₀ 0) ∷ ‵ (fdies Answer-l.mir l₀) ∷ ‵ (finally Session-t.the-row (recs .name) (z-put .0)) ∷ ‵ (flft κ₀ q₀) ∷ []) (runs C Λ (En l₀ l₁ l₂ l₃ l₄ l₅ l₆ l₇ l₈ l₉ l₁₀ l₁₁ l₁₂ l₁₃) mir.t-11 (atRet (En l₀ l₁ l₂ l₃ l₄ l₅ l₆ l₇ l₈ l₉ l₁₀ l₁₁ l₁₂ l₁₃) Post))
       part-11 w-keeps-rules r-keeps-rules e-keeps-rules is-keeps-rules w-read r-read e-read is-read w-closed-by r-closed-by e-closed-by is-closed-by w-put r-put z-put e-put is-put len-put-recs =
-          -- _0 = close_answer(_4, _1, _5)
-          nothing ! $ nothing ! $ owned ! Session-t.the-row (Is Session-t.the-row) (LL.makes Session-t.the-type Session-l.the-plain 𝓤 H A) r-read _ is-read $ fjoin ! $
-          owned ! Node-t.the-row (Is Node-t.the-row) (LL.makes Node-t.the-type Node-l.the-plain 𝓤 H A) node _ is-node $ fjoin ! $ owned ! bool (Is bool) (bool-makes 𝓤 H A W) r-keeps-rules _ is-keeps-rules $ fjoin ! $ move ! (1 ∷ 0 ∷ []) $
-          use2 W (raw (c-close-answer 𝓤 H A mem run .pre ((tt, tt, tt, (r-keeps-rules, (node, (r-read, tt))), (w-keeps-rules ∷ [], (v-node ∷ [], (w-read ∷ [], tt)))), tt))) (qed W ((‵ ftrue) ∷ ‵ (fsep (bool .own r-keeps-rules (w-keeps-rules ∷ [])) (fsep (Node-t.the-row .own node (v-node ∷ [])) (fsep (Session-t.the-row .own r-read (w-read ∷ [])) ftrue))) ∷ []) ∵ join ! $ frame ! $ done !) $
-          calls-at ! fm (c-close-answer 𝓤 H A mem run) known-close-answer ((tt, tt, tt, (r-keeps-rules, (node, (r-read, tt))), (w-keeps-rules ∷ [], (v-node ∷ [], (w-read ∷ [], tt)))), tt) (and-then ! (load ! (from ! (stop !)) (look ! 19 refl)) (and-then ! (load ! (from ! (stop !)) (look ! 25 refl)) (and-then ! (load ! (from ! (stop !)) (look ! 17 refl)) (no-more !)))) (λ w-close-answer.
-          use1 W (later (some (λ (r-close-answer : Answer). ((‵ ftrue) ⊛ ‵ (Answer-t.the-row .own r-close-answer (w-close-answer ∷ []))) ⊛ raw (ensured 𝓤 H A c-close-answer′.ended (c-close-answer′.clauses 𝓤 H A mem run) tt (r-keeps-rules, (node, (r-read, tt))) tt r-close-answer)))) (id⊢ 𝓤 _) $ await ! tt $
+          -- _0 = close_answer(_4, _1, _3, _5)
+          nothing ! $ nothing ! $ owned ! Session-t.the-row (Is Session-t.the-row) (LL.makes Session-t.the-type Session-l.the-plain 𝓤 H A) r-read _ is-read $ fjoin ! $ owned ! usize (Is usize) (uint-makes 𝓤 H A W w64) place _ is-place $
+          fjoin ! $ owned ! Node-t.the-row (Is Node-t.the-row) (LL.makes Node-t.the-type Node-l.the-plain 𝓤 H A) node _ is-node $ fjoin ! $ owned ! bool (Is bool) (bool-makes 𝓤 H A W) r-keeps-rules _ is-keeps-rules $ fjoin ! $
+          move ! (1 ∷ 0 ∷ []) $
+          use2 W (raw (c-close-answer 𝓤 H A mem run .pre ((tt, tt, tt, (r-keeps-rules, (node, (place, (r-read, tt)))), (w-keeps-rules ∷ [], (v-node ∷ [], (v-place ∷ [], (w-read ∷ [], tt))))), tt))) (qed W ((‵ ftrue) ∷ ‵ (fsep (bool .own r-keeps-rules (w-keeps-rules ∷ [])) (fsep (Node-t.the-row .own node (v-node ∷ [])) (fsep (usize .own place (v-place ∷ [])) (fsep (Session-t.the-row .own r-read (w-read ∷ [])) ftrue)))) ∷ []) ∵ join ! $ frame ! $ done !) $
+          calls-at ! fm (c-close-answer 𝓤 H A mem run) known-close-answer ((tt, tt, tt, (r-keeps-rules, (node, (place, (r-read, tt)))), (w-keeps-rules ∷ [], (v-node ∷ [], (v-place ∷ [], (w-read ∷ [], tt))))), tt) (and-then ! (load ! (from ! (stop !)) (look ! 19 refl)) (and-then ! (load ! (from ! (stop !)) (look ! 25 refl)) (and-then ! (load ! (from ! (stop !)) (look ! 21 refl)) (and-then ! (load ! (from ! (stop !)) (look ! 17 refl)) (no-more !))))) (λ w-close-answer.
+          use1 W (later (some (λ (r-close-answer : Answer). ((‵ ftrue) ⊛ ‵ (Answer-t.the-row .own r-close-answer (w-close-answer ∷ []))) ⊛ raw (ensured 𝓤 H A c-close-answer′.ended (c-close-answer′.clauses 𝓤 H A mem run) tt (r-keeps-rules, (node, (place, (r-read, tt)))) tt r-close-answer)))) (id⊢ 𝓤 _) $ await ! tt $
           pick ! (λ r-close-answer. split ! $ move ! (1 ∷ []) $
-          use1 W (some (λ (z-close-answer : (Unit {0}) × ((Unit {0}) × ((Unit {0}) × Unit {0}))). ‵ (lasts c-close-answer′.ended tt (r-keeps-rules, (node, (r-read, tt))) z-close-answer) ⊛ raw (fact 𝓤 (r-close-answer ≡ closeAnswer r-keeps-rules node r-read)))) (id⊢ 𝓤 _) $
-          pick ! (λ z-close-answer. split ! $ move ! (1 ∷ []) $ heard ! (r-close-answer ≡ closeAnswer r-keeps-rules node r-read) (λ e-close-answer. fsplit ! $ drop ! $ fsplit ! $ drop ! $ fsplit ! $ drop ! $ drop ! $ split ! $ drop ! $
-          peeks ! Answer-t.the-row (Is Answer-t.the-row) (shows 𝓤 H A Answer-t.the-row) r-close-answer (w-close-answer ∷ []) (λ is-close-answer.
+          use1 W (some (λ (z-close-answer : (Unit {0}) × ((Unit {0}) × ((Unit {0}) × ((Unit {0}) × Unit {0})))). ‵ (lasts c-close-answer′.ended tt (r-keeps-rules, (node, (place, (r-read, tt)))) z-close-answer) ⊛ raw (fact 𝓤 (r-close-answer ≡ closeAnswer r-keeps-rules node place r-read)))) (id⊢ 𝓤 _) $
+          pick ! (λ z-close-answer. split ! $ move ! (1 ∷ []) $ heard ! (r-close-answer ≡ closeAnswer r-keeps-rules node place r-read) (λ e-close-answer. fsplit ! $ drop ! $ fsplit ! $ drop ! $ fsplit ! $ drop ! $ fsplit ! $ drop ! $
+          drop ! $ split ! $ drop ! $ peeks ! Answer-t.the-row (Is Answer-t.the-row) (shows 𝓤 H A Answer-t.the-row) r-close-answer (w-close-answer ∷ []) (λ is-close-answer.
           land ! (from ! (stop !)) (init ! 27 refl (LL.lawful Answer-t.the-type Answer-l.the-laws 𝓤 H A W .typed r-close-answer _ is-close-answer .0)) $ drop ! $
           -- return
           returns ! (look ! 26 refl) $

@@ -118,15 +118,15 @@ module _ {M : Type 1} (𝓤 : URA M) (H : Heap 𝓤) (A : Atoms 𝓤) (W : Given
     module _ (is-node : Is Node-t.the-row node (v-node ∷ [])) (room-recs : Room Session-t.the-row (length (recs .now))) (l₀ l₁ l₂ l₃ l₄ l₅ l₆ l₇ l₈ l₉ l₁₀ : ℕ) where
       part-9 : (w-stands : Val) → (r-stands : ℕ) → (e-stands : r-stands ≡ standsOf node (ys-recs)) → (is-stands : Is u8 r-stands (w-stands ∷ [])) → (w-tick-change : Val) → (r-tick-change : Change) → (e-tick-change : r-tick-change ≡ tickChange node) → (is-tick-change : Is Change-t.the-row r-tick-change (w-tick-change ∷ [])) → (w-tick-count : Val) → (r-tick-count : ℕ) → (e-tick-count : r-tick-count ≡ tickCount r-stands node) → (is-tick-count : Is usize r-tick-count (w-tick-count ∷ [])) → (w-change-each : Val) → (r-change-each : Unit {0}) → (z-change-each : (List Session) × ((Unit {0}) × ((Unit {0}) × Unit {0}))) → (e-change-each : (z-change-each .0) ≡ mapFirst (changedBy r-tick-change) r-tick-count (ys-recs)) → (is-change-each : Is Nothing r-change-each (w-change-each ∷ [])) → (len-change-each-recs : length (z-change-each .0) ≡ length (ys-recs)) → Sq W (‵ (fat fullShare (sliceTy (tyRef erased mut (pointee (Session-t.the-row .written)))) l₁₀ 0 v-recs) ∷ ‵ (fdies (sliceTy (tyRef erased mut (pointee (Session-t.the-row .written)))) l₁₀) ∷ ‵ (froom (tyRef erased mut (pointee (Session-t.the-row .written))) l₉ 0) ∷ ‵ (fdies (tyRef erased mut (pointee (Session-t.the-row .written))) l₉) ∷ ‵ (fat fullShare tyUnit l₈ 0 w-change-each) ∷ ‵ (fdies tyUnit l₈) ∷ ‵ (fat fullShare (sliceTy (tyRef erased imm (pointee (Session-t.the-row .written)))) l₇ 0 v-recs) ∷ ‵ (fdies (sliceTy (tyRef erased imm (pointee (Session-t.the-row .written)))) l₇) ∷ ‵ (froom (tyRef erased imm (pointee (Session-t.the-row .written))) l₆ 0) ∷ ‵ (fdies (tyRef erased imm (pointee (Session-t.the-row .written))) l₆) ∷ ‵ (fat fullShare (tyInt w64) l₅ 0 w-tick-count) ∷ ‵ (fdies (tyInt w64) l₅) ∷ ‵ (fat fullShare Change-l.mir l₄ 0 w-tick-change) ∷ ‵ (fdies Change-l.mir l₄) ∷ ‵ (fat fullShare (tyInt w8) l₃ 0 w-stands) ∷ ‵ (fdies (tyInt w8) l₃) ∷ ‵ (fat fullShare (sliceTy (tyRef (named 0) mut (pointee (Session-t.the-row .written)))) l₂ 0 v-recs) ∷ ‵ (fdies (sliceTy (tyRef (named 0) mut (pointee (Session-t.the-row .written)))) l₂) ∷ ‵ (fat fullShare Node-l.mir l₁ 0 v-node) ∷ ‵ (fdies Node-l.mir l₁) ∷ ‵ (froom Answer-l.mir l₀ 0) ∷ ‵ (fdies Answer-l.mir l₀) ∷ ‵ (finally Session-t.the-row (recs .name) (z-change-each .0)) ∷ ‵ (flft κ₀ q₀) ∷ []) (runs C Λ (En l₀ l₁ l₂ l₃ l₄ l₅ l₆ l₇ l₈ l₉ l₁₀) mir.t-9 (atRet (En l₀ l₁ l₂ l₃ l₄ l₅ l₆ l₇ l₈ l₉ l₁₀) Post))
       part-9 w-stands r-stands e-stands is-stands w-tick-change r-tick-change e-tick-change is-tick-change w-tick-count r-tick-count e-tick-count is-tick-count w-change-each r-change-each z-change-each e-change-each is-change-each len-change-each-recs =
-          -- _0 = tick_answer(_3, _1)
-          nothing ! $ nothing ! $ owned ! Node-t.the-row (Is Node-t.the-row) (LL.makes Node-t.the-type Node-l.the-plain 𝓤 H A) node _ is-node $ fjoin ! $ owned ! u8 (Is u8) (uint-makes 𝓤 H A W w8) r-stands _ is-stands $ fjoin ! $
-          move ! (1 ∷ 0 ∷ []) $
-          use2 W (raw (c-tick-answer 𝓤 H A mem run .pre ((tt, tt, tt, (r-stands, (node, tt)), (w-stands ∷ [], (v-node ∷ [], tt))), tt))) (qed W ((‵ ftrue) ∷ ‵ (fsep (u8 .own r-stands (w-stands ∷ [])) (fsep (Node-t.the-row .own node (v-node ∷ [])) ftrue)) ∷ []) ∵ join ! $ frame ! $ done !) $
-          calls-at ! fm (c-tick-answer 𝓤 H A mem run) known-tick-answer ((tt, tt, tt, (r-stands, (node, tt)), (w-stands ∷ [], (v-node ∷ [], tt))), tt) (and-then ! (load ! (from ! (stop !)) (look ! 15 refl)) (and-then ! (load ! (from ! (stop !)) (look ! 19 refl)) (no-more !))) (λ w-tick-answer.
-          use1 W (later (some (λ (r-tick-answer : Answer). ((‵ ftrue) ⊛ ‵ (Answer-t.the-row .own r-tick-answer (w-tick-answer ∷ []))) ⊛ raw (ensured 𝓤 H A c-tick-answer′.ended (c-tick-answer′.clauses 𝓤 H A mem run) tt (r-stands, (node, tt)) tt r-tick-answer)))) (id⊢ 𝓤 _) $ await ! tt $
+          -- _0 = tick_answer(_3, _5, _1)
+          nothing ! $ nothing ! $ owned ! Node-t.the-row (Is Node-t.the-row) (LL.makes Node-t.the-type Node-l.the-plain 𝓤 H A) node _ is-node $ fjoin ! $ owned ! usize (Is usize) (uint-makes 𝓤 H A W w64) r-tick-count _ is-tick-count $
+          fjoin ! $ owned ! u8 (Is u8) (uint-makes 𝓤 H A W w8) r-stands _ is-stands $ fjoin ! $ move ! (1 ∷ 0 ∷ []) $
+          use2 W (raw (c-tick-answer 𝓤 H A mem run .pre ((tt, tt, tt, (r-stands, (r-tick-count, (node, tt))), (w-stands ∷ [], (w-tick-count ∷ [], (v-node ∷ [], tt)))), tt))) (qed W ((‵ ftrue) ∷ ‵ (fsep (u8 .own r-stands (w-stands ∷ [])) (fsep (usize .own r-tick-count (w-tick-count ∷ [])) (fsep (Node-t.the-row .own node (v-node ∷ [])) ftrue))) ∷ []) ∵ join ! $ frame ! $ done !) $
+          calls-at ! fm (c-tick-answer 𝓤 H A mem run) known-tick-answer ((tt, tt, tt, (r-stands, (r-tick-count, (node, tt))), (w-stands ∷ [], (w-tick-count ∷ [], (v-node ∷ [], tt)))), tt) (and-then ! (load ! (from ! (stop !)) (look ! 15 refl)) (and-then ! (load ! (from ! (stop !)) (look ! 11 refl)) (and-then ! (load ! (from ! (stop !)) (look ! 19 refl)) (no-more !)))) (λ w-tick-answer.
+          use1 W (later (some (λ (r-tick-answer : Answer). ((‵ ftrue) ⊛ ‵ (Answer-t.the-row .own r-tick-answer (w-tick-answer ∷ []))) ⊛ raw (ensured 𝓤 H A c-tick-answer′.ended (c-tick-answer′.clauses 𝓤 H A mem run) tt (r-stands, (r-tick-count, (node, tt))) tt r-tick-answer)))) (id⊢ 𝓤 _) $ await ! tt $
           pick ! (λ r-tick-answer. split ! $ move ! (1 ∷ []) $
-          use1 W (some (λ (z-tick-answer : (Unit {0}) × ((Unit {0}) × Unit {0})). ‵ (lasts c-tick-answer′.ended tt (r-stands, (node, tt)) z-tick-answer) ⊛ raw (fact 𝓤 (r-tick-answer ≡ tickAnswer r-stands node)))) (id⊢ 𝓤 _) $
-          pick ! (λ z-tick-answer. split ! $ move ! (1 ∷ []) $ heard ! (r-tick-answer ≡ tickAnswer r-stands node) (λ e-tick-answer. fsplit ! $ drop ! $ fsplit ! $ drop ! $ drop ! $ split ! $ drop ! $
+          use1 W (some (λ (z-tick-answer : (Unit {0}) × ((Unit {0}) × ((Unit {0}) × Unit {0}))). ‵ (lasts c-tick-answer′.ended tt (r-stands, (r-tick-count, (node, tt))) z-tick-answer) ⊛ raw (fact 𝓤 (r-tick-answer ≡ tickAnswer r-stands r-tick-count node)))) (id⊢ 𝓤 _) $
+          pick ! (λ z-tick-answer. split ! $ move ! (1 ∷ []) $ heard ! (r-tick-answer ≡ tickAnswer r-stands r-tick-count node) (λ e-tick-answer. fsplit ! $ drop ! $ fsplit ! $ drop ! $ fsplit ! $ drop ! $ drop ! $ split ! $ drop ! $
           peeks ! Answer-t.the-row (Is Answer-t.the-row) (shows 𝓤 H A Answer-t.the-row) r-tick-answer (w-tick-answer ∷ []) (λ is-tick-answer.
           land ! (from ! (stop !)) (init ! 21 refl (LL.lawful Answer-t.the-type Answer-l.the-laws 𝓤 H A W .typed r-tick-answer _ is-tick-answer .0)) $ drop ! $
           -- return
