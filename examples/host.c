@@ -66,6 +66,8 @@ int main(void) {
 
   a = grugavorn_unit_control(&unit, create, sizeof create, reply, sizeof reply);
   show("control", a.number, reply, a.size);
+  for (size_t i = a.from; i < a.to; i++)
+    printf("place %zu has %08X\n", i, grugavorn_unit_address(&unit, i));
 
   grugavorn_handed h = grugavorn_unit_user(&unit, packet, sizeof packet, reply, sizeof reply);
   show("user", h.number, packet + h.start, h.octets);
@@ -78,6 +80,8 @@ int main(void) {
 
   a = grugavorn_unit_send(&unit, reply, sizeof reply);
   show("send", a.number, reply, a.size);
+  if (a.from < a.to)
+    printf("to %08X\n", grugavorn_unit_peer(&unit, a.from));
 
   a = grugavorn_unit_send(&unit, reply, sizeof reply);
   show("send", a.number, reply, a.size);

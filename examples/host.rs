@@ -73,6 +73,8 @@ struct Left {
     number: u8,
     size: usize,
     node: Node,
+    from: usize,
+    to: usize,
 }
 
 #[repr(C)]
@@ -92,7 +94,8 @@ const _: () = {
     assert!(size_of::<Request>() == 8 && offset_of!(Request, sends) == 1 && offset_of!(Request, number) == 4);
     assert!(size_of::<Session>() == RECORD && offset_of!(Session, usage) == 8 && offset_of!(Session, own) == 32 && offset_of!(Session, state) == 40);
     assert!(size_of::<Node>() == 308 && offset_of!(Node, echo) == 292 && offset_of!(Node, next) == 300 && offset_of!(Node, recovery) == 305);
-    assert!(size_of::<Left>() == 328 && offset_of!(Left, size) == 8 && offset_of!(Left, node) == 16);
+    assert!(size_of::<Left>() == 344 && offset_of!(Left, size) == 8 && offset_of!(Left, node) == 16);
+    assert!(offset_of!(Left, from) == 328 && offset_of!(Left, to) == 336);
     assert!(size_of::<Handed>() == 40 && offset_of!(Handed, place) == 8 && offset_of!(Handed, octets) == 32);
 };
 
@@ -104,6 +107,8 @@ extern "C" {
     fn grugavorn_send(node: Node, records: *mut Session, count: usize, reply: *mut u8, room: usize) -> Left;
     fn grugavorn_line(node: Node, records: *const Session, count: usize, place: usize, reply: *mut u8, room: usize) -> Left;
     fn grugavorn_close(node: Node, records: *mut Session, count: usize, place: usize) -> Left;
+    fn grugavorn_peer(records: *const Session, count: usize, place: usize) -> u32;
+    fn grugavorn_address(node: Node, place: usize) -> u32;
 }
 
 // The unit as a Rust host has it: records, node and reply buffer in one place. Each call's slices give the library
@@ -112,6 +117,8 @@ struct Unit {
     records: [Session; PLACES],
     node: Node,
     reply: [u8; REPLY],
+    // the places whose records the last call may have changed
+    changed: std::ops::Range<usize>,
 }
 
 const IDLE: Request = Request { timer: 0, sends: 0, number: 0 };
@@ -121,10 +128,11 @@ impl Unit {
     fn fresh(plan: Plan) -> (Self, u8) {
         let mut records = [NOBODY; PLACES];
         let a = unsafe { grugavorn_fresh(plan, records.as_mut_ptr(), records.len()) };
-        (Unit { records, node: a.node, reply: [0; REPLY] }, a.number)
+        (Unit { records, node: a.node, reply: [0; REPLY], changed: a.from..a.to }, a.number)
     }
     fn keep(&mut self, a: Left) -> (u8, &[u8]) {
         self.node = a.node;
+        self.changed = a.from..a.to;
         (a.number, &self.reply[..a.size])
     }
     fn control(&mut self, d: &[u8]) -> (u8, &[u8]) {
@@ -150,6 +158,12 @@ impl Unit {
     fn close(&mut self, place: usize) -> (u8, &[u8]) {
         let a = unsafe { grugavorn_close(self.node, self.records.as_mut_ptr(), PLACES, place) };
         self.keep(a)
+    }
+    fn peer(&self, place: usize) -> u32 {
+        unsafe { grugavorn_peer(self.records.as_ptr(), PLACES, place) }
+    }
+    fn address(&self, place: usize) -> u32 {
+        unsafe { grugavorn_address(self.node, place) }
     }
 }
 
@@ -207,6 +221,9 @@ fn main() {
     show("fresh", number, &[]);
     let (number, reply) = unit.control(&CREATE);
     show("control", number, reply);
+    for place in unit.changed.clone() {
+        println!("place {place} has {:08X}", unit.address(place));
+    }
     let (number, place, payload) = unit.user(&PACKET);
     show("user", number, payload);
     let (number, line) = unit.line(place);
@@ -215,6 +232,9 @@ fn main() {
     show("close", number, reply);
     let (number, reply) = unit.send();
     show("send", number, reply);
+    if !unit.changed.is_empty() {
+        println!("to {:08X}", unit.peer(unit.changed.start));
+    }
     let (number, reply) = unit.send();
     show("send", number, reply);
     let (number, reply) = unit.tick();

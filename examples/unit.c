@@ -77,19 +77,6 @@ static void post(int from, size_t size, uint32_t address, uint16_t port) {
     unsent++;
 }
 
-/* Which place the datagram that was just sent is about: the closing one that awaits its sequence number, or
- * GRUGAVORN_PLACES where it is the unit's echo (T is not set). The library does not answer this yet. */
-static size_t place_of(const uint8_t *sent) {
-  uint32_t number = (uint32_t)sent[8] << 16 | (uint32_t)sent[9] << 8 | sent[10];
-  size_t place = (sent[0] & 8) != 0 ? 0 : GRUGAVORN_PLACES;
-  for (; place < GRUGAVORN_PLACES; place++) {
-    const grugavorn_session *s = &unit.records[place];
-    if (s->state == GRUGAVORN_CLOSING && s->own.sends > 0 && s->own.number == number)
-      break;
-  }
-  return place;
-}
-
 static grugavorn_answer take_control(const uint8_t *octets, size_t size) {
   note_datagram('C', octets, size);
   grugavorn_answer a = grugavorn_unit_control(&unit, octets, size, reply, sizeof reply);
@@ -104,9 +91,8 @@ static void send_due(void) {
   int answered = 0;
   grugavorn_answer a;
   while ((a = grugavorn_unit_send(&unit, reply, sizeof reply)).number == GRUGAVORN_TAKEN) {
-    size_t place = place_of(reply);
-    if (place < GRUGAVORN_PLACES) {
-      post(control_socket, a.size, unit.records[place].controladdr, CONTROL_PORT);
+    if (a.from < a.to) {
+      post(control_socket, a.size, grugavorn_unit_peer(&unit, a.from), CONTROL_PORT);
     } else if (with.no_echo) {
       memcpy(answer + 4, reply + 4, 3);
       answered = 1;

@@ -9,6 +9,7 @@
  *     ...
  *     a = grugavorn_unit_control(&unit, datagram, length, reply, sizeof reply);
  *     if (a.size != 0) send(reply, a.size);
+ *     for (size_t i = a.from; i < a.to; i++) look(&unit.records[i]);
  *
  * The unit is document 01's table: 64 session records, and the node, which is all that goes with them. The
  * calls on a unit stand at the end of this file. Each is a few lines over one of the library's own seven
@@ -26,7 +27,11 @@
  * Numbers are document 01's (enum grugavorn_number, docs/NUMBERS.md). Every refusal leaves the records,
  * the node and the reply buffer as they were, unless the call's comment or the number's row says
  * otherwise. Octets of the reply buffer past the reply's length are never written. Multi-octet fields
- * below are the processor's own order; datagrams and replies are octets as on the wire. */
+ * below are the processor's own order; datagrams and replies are octets as on the wire.
+ *
+ * Each call that may change records answers where: those of the places from `from` on and below `to`, which
+ * is never over 64; every other record is as it was, and where no record changed mostly both are 0. A host
+ * that sets routes looks at these places alone. */
 #ifndef GRUGAVORN_H
 #define GRUGAVORN_H
 
@@ -43,10 +48,11 @@ extern "C" {
 #endif
 
 /* The version: document 01 is 1.0. A change of the exported names, of their arguments or of a struct's
- * layout raises the major number; what is only added raises the minor one. */
-#define GRUGAVORN_VERSION_MAJOR 1
+ * layout raises the major number; what is only added raises the minor one. 2.0: answers have from and to;
+ * grugavorn_peer and grugavorn_address are new. */
+#define GRUGAVORN_VERSION_MAJOR 2
 #define GRUGAVORN_VERSION_MINOR 0
-#define GRUGAVORN_VERSION "1.0"
+#define GRUGAVORN_VERSION "2.0"
 
 /* the places of a unit, numbered from 0; the most access points of a plan; the most octets of a name */
 #define GRUGAVORN_PLACES 64
@@ -173,11 +179,13 @@ typedef struct {
 } grugavorn_node;
 
 /* What a call of the library answers: the number, the length of the reply in the reply buffer (0: none),
- * and the node to keep. */
+ * the node to keep, and the places whose records may have changed: from `from` on and below `to`. */
 typedef struct {
   uint8_t number;
   size_t size;
   grugavorn_node node;
+  size_t from;
+  size_t to;
 } grugavorn_left;
 
 /* What a user datagram comes to: the number, the place of its session, the length of the reply (0: none),
@@ -210,8 +218,9 @@ GRUGAVORN_LAID(sizeof(grugavorn_session) == GRUGAVORN_RECORD && offsetof(grugavo
 GRUGAVORN_LAID(sizeof(grugavorn_node) == 308 && offsetof(grugavorn_node, plan) == 0
                && offsetof(grugavorn_node, echo) == 292 && offsetof(grugavorn_node, next) == 300
                && offsetof(grugavorn_node, heard) == 304 && offsetof(grugavorn_node, recovery) == 305);
-GRUGAVORN_LAID(sizeof(grugavorn_left) == 328 && offsetof(grugavorn_left, number) == 0
-               && offsetof(grugavorn_left, size) == 8 && offsetof(grugavorn_left, node) == 16);
+GRUGAVORN_LAID(sizeof(grugavorn_left) == 344 && offsetof(grugavorn_left, number) == 0
+               && offsetof(grugavorn_left, size) == 8 && offsetof(grugavorn_left, node) == 16
+               && offsetof(grugavorn_left, from) == 328 && offsetof(grugavorn_left, to) == 336);
 GRUGAVORN_LAID(sizeof(grugavorn_handed) == 40 && offsetof(grugavorn_handed, number) == 0
                && offsetof(grugavorn_handed, place) == 8 && offsetof(grugavorn_handed, size) == 16
                && offsetof(grugavorn_handed, start) == 24 && offsetof(grugavorn_handed, octets) == 32);
@@ -223,7 +232,7 @@ GRUGAVORN_LAID(sizeof(grugavorn_handed) == 40 && offsetof(grugavorn_handed, numb
  *   2   `count` is not 64: the records are kept; the node is one without access points, so later calls
  *       answer 2
  *   16  the plan breaks a limit: the records are zero; the node as for 2
- * There is no reply: size is 0. */
+ * There is no reply: size is 0. Where the records are zero, from and to are all places. */
 grugavorn_left grugavorn_fresh(grugavorn_plan plan, grugavorn_session *records, size_t count);
 
 /* Take control datagram: `length` octets from the exchange. The reply buffer of `room` octets holds the
@@ -235,7 +244,10 @@ grugavorn_left grugavorn_fresh(grugavorn_plan plan, grugavorn_session *records, 
  *   5   replied to with Version Not Supported; table kept
  *   64 67 69 70 73 78 83   a reply with that cause; the table as before but for Recovery and a replaced
  *                          session
- * 1, 2 and the silent numbers leave all as it was. The datagram is never written to. */
+ * 1, 2 and the silent numbers leave all as it was. The datagram is never written to. From and to: where the
+ * exchange restarted, all places; of a Create that is no repeat, the place of the replaced session and the
+ * new one's, with what lies between; of a Modify, a Delete and a reply to a Delete Bearer, the session's
+ * place, also where nothing changed; of everything else none. */
 grugavorn_left grugavorn_control(grugavorn_node node, grugavorn_session *records, size_t count,
                                  const uint8_t *datagram, size_t length, uint8_t *reply, size_t room);
 
@@ -251,12 +263,14 @@ grugavorn_handed grugavorn_user(grugavorn_node node, const grugavorn_session *re
  * its place is freed, for an echo all places.
  *   0   done
  *   2   the table breaks its rules, or `count` is not 64
- * There is no reply: size is 0. Send what is due, then tick. */
+ * There is no reply: size is 0. Send what is due, then tick. From and to are all places where one of them
+ * awaits an answer or all were freed, else none. */
 grugavorn_left grugavorn_tick(grugavorn_node node, grugavorn_session *records, size_t count);
 
 /* Send next due: one datagram to the exchange, an own echo (13 octets) or a place's Delete Bearer (17).
  * Call it until it answers 17.
- *   0   the reply buffer holds the datagram's `size` octets, and it counts as sent
+ *   0   the reply buffer holds the datagram's `size` octets, and it counts as sent: where from < to it is
+ *       the Delete Bearer of place `from`, to that session's peer (grugavorn_peer), else the echo
  *   1, 2   as for control
  *   17  nothing is due */
 grugavorn_left grugavorn_send(grugavorn_node node, grugavorn_session *records, size_t count, uint8_t *reply,
@@ -266,7 +280,7 @@ grugavorn_left grugavorn_send(grugavorn_node node, grugavorn_session *records, s
  *   0   marked, or closing already
  *   2   as for tick
  *   10  a place over 63, or a free one
- * There is no reply: size is 0. */
+ * There is no reply: size is 0. After 0 from and to are the place alone. */
 grugavorn_left grugavorn_close(grugavorn_node node, grugavorn_session *records, size_t count, size_t place);
 
 /* Line of a place: what the bench prints of it, as `size` characters of text in the reply buffer, at most
@@ -277,6 +291,14 @@ grugavorn_left grugavorn_close(grugavorn_node node, grugavorn_session *records, 
 grugavorn_left grugavorn_line(grugavorn_node node, const grugavorn_session *records, size_t count,
                               size_t place, uint8_t *reply, size_t room);
 
+/* Where a place's session is. Both are only read and answer addresses, as numbers; any table will do.
+ * The control address of the session's peer, to which a Delete Bearer goes; 0 where the place is free or not
+ * among the records. */
+uint32_t grugavorn_peer(const grugavorn_session *records, size_t count, size_t place);
+
+/* The session's own address by the plan: pool base + 1 + place; 0 for a place over 63. */
+uint32_t grugavorn_address(grugavorn_node node, size_t place);
+
 /* ---- the calls on a unit: as above, with its own records and node; the node that comes back is stored */
 
 /* A unit: all that document 01 calls the table. Nothing has to be done to it before grugavorn_unit_fresh. */
@@ -285,10 +307,13 @@ typedef struct grugavorn_unit {
   grugavorn_session records[GRUGAVORN_PLACES];
 } grugavorn_unit;
 
-/* What a call on a unit answers: the number, and the length of the reply in the reply buffer (0: none). */
+/* What a call on a unit answers: the number, the length of the reply in the reply buffer (0: none), and the
+ * places whose records may have changed: from `from` on and below `to`. */
 typedef struct {
   uint8_t number;
   size_t size;
+  size_t from;
+  size_t to;
 } grugavorn_answer;
 
 /* Stores the node that came back. For the calls below. */
@@ -296,6 +321,8 @@ static inline grugavorn_answer grugavorn_unit_keep(grugavorn_unit *unit, grugavo
   grugavorn_answer answer;
   answer.number = left.number;
   answer.size = left.size;
+  answer.from = left.from;
+  answer.to = left.to;
   unit->node = left.node;
   return answer;
 }
@@ -341,7 +368,19 @@ static inline grugavorn_answer grugavorn_unit_line(const grugavorn_unit *unit, s
   grugavorn_answer answer;
   answer.number = left.number;
   answer.size = left.size;
+  answer.from = left.from;
+  answer.to = left.to;
   return answer;
+}
+
+/* The control address of the peer of a place's session: grugavorn_peer. */
+static inline uint32_t grugavorn_unit_peer(const grugavorn_unit *unit, size_t place) {
+  return grugavorn_peer(unit->records, GRUGAVORN_PLACES, place);
+}
+
+/* The address of a place's session: grugavorn_address. */
+static inline uint32_t grugavorn_unit_address(const grugavorn_unit *unit, size_t place) {
+  return grugavorn_address(unit->node, place);
 }
 
 #if defined(__cplusplus)

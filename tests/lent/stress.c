@@ -4,7 +4,8 @@
  *   stress cost CALL COUNT  makes a table of all places live and then COUNT calls of one kind, for
  *                           counting instructions
  * Each side works in an arena of its own, with octets of no meaning around every buffer. After a call
- * answer and node are compared field by field, reply, datagram and what stands around them octet by octet,
+ * answer and node are compared field by field, the places that may have changed too (and outside them no
+ * octet of a record may differ from before), reply, datagram and what stands around them octet by octet,
  * and the records field by field; a silent refusal has to leave the records as they were, and no record
  * past the count may change, octet by octet, what is between the fields included. A call with the right
  * count of records is made once more on a unit, by the header's calls for it, and has to come to the same.
@@ -146,7 +147,7 @@ static void differ(const char *what, int call, unsigned number, unsigned other) 
 static void compare_unit(int call, const grugavorn_left *a) {
   static grugavorn_unit unit;
   static uint8_t reply[BUFFER];
-  grugavorn_answer u = { 0, 0 };
+  grugavorn_answer u = { 0, 0, 0, 0 };
   unit.node = node;
   memcpy(unit.records, before.records, sizeof unit.records);
   memcpy(reply, before.reply, sizeof reply);
@@ -178,17 +179,29 @@ static void compare_unit(int call, const grugavorn_left *a) {
     u = grugavorn_unit_line(&unit, job.place, reply, job.room);
     break;
   }
-  if (u.number != a->number || u.size != a->size || !same_node(&unit.node, &a->node)
-      || memcmp(reply, lent.reply, BUFFER) != 0)
+  if (u.number != a->number || u.size != a->size || u.from != a->from || u.to != a->to
+      || !same_node(&unit.node, &a->node) || memcmp(reply, lent.reply, BUFFER) != 0)
     differ("the call on a unit", call, a->number, u.number);
   for (int i = 0; i < GRUGAVORN_PLACES; i++)
     if (!same_record(&unit.records[i], &lent.records[i]))
       differ("a record of a unit", call, a->number, u.number);
 }
 
+/* where the session of the call's place is, of the records as they are left: any count, any place */
+static void compare_where(int call, const grugavorn_left *a, size_t count) {
+  size_t place = call == CLOSE || call == LINE ? job.place : a->from;
+  int there = place < count && lent.records[place].state != GRUGAVORN_FREE;
+  if (grugavorn_peer(lent.records, count, place) != (there ? lent.records[place].controladdr : 0))
+    differ("the peer's address", call, a->number, a->number);
+  if (grugavorn_address(node, place) != (place < GRUGAVORN_PLACES ? node.plan.pool + 1 + (uint32_t)place : 0))
+    differ("the address", call, a->number, a->number);
+}
+
 static void compare(int call, const grugavorn_left *a, const grugavorn_left *b, size_t count, int kept) {
   if (a->number != b->number || a->size != b->size)
     differ("the answer", call, a->number, b->number);
+  if (a->from != b->from || a->to != b->to || a->from > a->to || a->to > GRUGAVORN_PLACES)
+    differ("where records changed", call, a->number, b->number);
   if (!same_node(&a->node, &b->node))
     differ("the node", call, a->number, b->number);
   for (int i = 0; i < ROOM; i++)
@@ -197,6 +210,9 @@ static void compare(int call, const grugavorn_left *a, const grugavorn_left *b, 
   size_t past = count < ROOM ? count : ROOM;
   if (memcmp(lent.records + past, before.records + past, (ROOM - past) * sizeof(session)) != 0)
     differ("a record past the count", call, a->number, b->number);
+  for (size_t i = 0; i < ROOM; i++)
+    if ((i < a->from || i >= a->to) && memcmp(&lent.records[i], &before.records[i], sizeof(session)) != 0)
+      differ("a record of another place", call, a->number, b->number);
   if (kept && memcmp(lent.records, before.records, sizeof lent.records) != 0)
     differ("a record that is kept", call, a->number, b->number);
   if (memcmp(lent.a, before.a, AROUND) != 0
@@ -209,6 +225,7 @@ static void compare(int call, const grugavorn_left *a, const grugavorn_left *b, 
     differ("the buffer past the reply", call, a->number, b->number);
   if (call == LINE && a->size > GRUGAVORN_LINE)
     differ("the most that a line has", call, a->number, b->number);
+  compare_where(call, a, count);
   if (count == GRUGAVORN_PLACES)
     compare_unit(call, a);
   met[call][a->number]++;
@@ -269,7 +286,7 @@ static void step(void) {
     run_on(USER, count, room, 0);
     grugavorn_handed h = job.handed;
     grugavorn_handed r = reading_user(node, read_.records, count, read_.datagram, length, read_.reply, room);
-    grugavorn_left a = { h.number, h.size, node }, b = { r.number, r.size, node };
+    grugavorn_left a = { h.number, h.size, node, 0, 0 }, b = { r.number, r.size, node, 0, 0 };
     if (h.place != r.place || h.start != r.start || h.octets != r.octets)
       differ("the payload", USER, h.number, r.number);
     compare(USER, &a, &b, count, 1);

@@ -16,6 +16,25 @@ static grugavorn_left answer(unsigned number, size_t size, node_t n) {
   return a;
 }
 
+/* the places whose records may have changed: of all, of one, of two with what lies between */
+static grugavorn_left over(grugavorn_left a, size_t from, size_t to) {
+  a.from = from;
+  a.to = to;
+  return a;
+}
+
+static grugavorn_left over_all(grugavorn_left a) {
+  return over(a, 0, GRUGAVORN_PLACES);
+}
+
+static grugavorn_left over_one(grugavorn_left a, int place) {
+  return over(a, (size_t)place, (size_t)place + 1);
+}
+
+static grugavorn_left over_two(grugavorn_left a, int i, int j) {
+  return over(a, (size_t)(i < j ? i : j), (size_t)(i < j ? j : i) + 1);
+}
+
 static void free_place(session *s) {
   uint32_t usage = s->usage;
   memset(s, 0, sizeof *s);
@@ -36,14 +55,16 @@ static int holder(const session *t, uint32_t teid, unsigned offset) {
   return s->state != GRUGAVORN_FREE && s->usage != 0 && s->usage == teid >> 8 ? (int)(low - offset) : -1;
 }
 
-/* Recovery of the exchange */
-static void hear(node_t *n, session *t, unsigned value) {
+/* Recovery of the exchange; answers whether it restarted */
+static int hear(node_t *n, session *t, unsigned value) {
   if (value == READING_NO_RECOVERY)
-    return;
-  if (n->heard != 0 && n->recovery != value)
+    return 0;
+  int again = n->heard != 0 && n->recovery != value;
+  if (again)
     free_all(t);
   n->heard = 1;
   n->recovery = (uint8_t)value;
+  return again;
 }
 
 static grugavorn_left refuse(reading_fault f, unsigned type, uint32_t teid, uint32_t sequence, node_t n,
@@ -69,17 +90,20 @@ static grugavorn_left create(node_t n, session *t, reading_octets m, uint32_t se
   reading_fault f = reading_create(m, &n.plan, &s, &to);
   if (f.cause != 0)
     return refuse(f, 33, to, sequence, n, reply);
-  hear(&n, t, reading_recovery(m));
+  int again = hear(&n, t, reading_recovery(m)), replaced = -1;
   for (int i = 0; i < GRUGAVORN_PLACES; i++)
     if (t[i].state != GRUGAVORN_FREE && t[i].imsi == s.imsi && t[i].ebi == s.ebi) {
       if (t[i].point == s.point && t[i].created == sequence)
         return accepted(n, t, i, sequence, reply);
       free_place(&t[i]);
+      replaced = i;
     }
   unsigned u = reading_sessions(t, s.point);
   unsigned g = n.plan.points[s.point].guarantee, c = n.plan.points[s.point].ceiling;
-  if (!(u < c && (u < g || reading_shared(t, &n.plan) < GRUGAVORN_PLACES)))
-    return refuse_bare(73, 33, to, sequence, n, reply);
+  if (!(u < c && (u < g || reading_shared(t, &n.plan) < GRUGAVORN_PLACES))) {
+    grugavorn_left full = refuse_bare(73, 33, to, sequence, n, reply);
+    return again ? over_all(full) : replaced < 0 ? full : over_one(full, replaced);
+  }
   int place = 0;
   while (place < GRUGAVORN_PLACES && t[place].state != GRUGAVORN_FREE)
     place++;
@@ -89,7 +113,8 @@ static grugavorn_left create(node_t n, session *t, reading_octets m, uint32_t se
   s.created = sequence;
   s.state = GRUGAVORN_LIVE;
   t[place] = s;
-  return accepted(n, t, place, sequence, reply);
+  grugavorn_left opened = accepted(n, t, place, sequence, reply);
+  return again ? over_all(opened) : over_two(opened, replaced < 0 ? place : replaced, place);
 }
 
 /* ---- Modify and Delete */
@@ -102,7 +127,7 @@ static grugavorn_left modify(node_t n, session *t, reading_octets m, uint32_t te
   reading_moves moves;
   reading_fault f = reading_modify(m, s->ebi, &moves);
   if (f.cause != 0)
-    return refuse(f, 35, s->control, sequence, n, reply);
+    return over_one(refuse(f, 35, s->control, sequence, n, reply), place);
   if (moves.control_came) {
     s->control = moves.control;
     s->controladdr = moves.controladdr;
@@ -111,7 +136,7 @@ static grugavorn_left modify(node_t n, session *t, reading_octets m, uint32_t te
     s->user = moves.user;
     s->useraddr = moves.useraddr;
   }
-  return answer(0, reading_write_modified(reply, s, moves.context_came, sequence), n);
+  return over_one(answer(0, reading_write_modified(reply, s, moves.context_came, sequence), n), place);
 }
 
 static grugavorn_left delete_session(node_t n, session *t, reading_octets m, uint32_t teid, uint32_t sequence,
@@ -122,14 +147,14 @@ static grugavorn_left delete_session(node_t n, session *t, reading_octets m, uin
   uint32_t peer = t[place].control;
   reading_fault f = reading_delete(m, t[place].ebi);
   if (f.cause != 0)
-    return refuse(f, 37, peer, sequence, n, reply);
+    return over_one(refuse(f, 37, peer, sequence, n, reply), place);
   free_place(&t[place]);
-  return answer(0, reading_write_deleted(reply, peer, sequence), n);
+  return over_one(answer(0, reading_write_deleted(reply, peer, sequence), n), place);
 }
 
 /* ---- the reply to a Delete Bearer */
-static grugavorn_left bearer_deleted(node_t n, session *t, reading_octets m, uint32_t teid,
-                                     uint32_t sequence) {
+static grugavorn_left bearer_answered(node_t n, session *t, reading_octets m, uint32_t teid,
+                                      uint32_t sequence) {
   for (int i = 0; i < GRUGAVORN_PLACES; i++)
     if (t[i].own.sends != 0 && t[i].own.number == sequence) {
       if (teid != t[i].usage * 256 + (unsigned)i || reading_cause(m) < 0)
@@ -138,6 +163,13 @@ static grugavorn_left bearer_deleted(node_t n, session *t, reading_octets m, uin
       return answer(0, 0, n);
     }
   return answer(9, 0, n);
+}
+
+static grugavorn_left bearer_deleted(node_t n, session *t, reading_octets m, uint32_t teid,
+                                     uint32_t sequence) {
+  int place = holder(t, teid, 0);
+  grugavorn_left a = bearer_answered(n, t, m, teid, sequence);
+  return place < 0 ? a : over_one(a, place);
 }
 
 /* ---- take control datagram: 1, 2, those of the header, then by type */
@@ -154,17 +186,19 @@ grugavorn_left reading_control(node_t n, session *t, size_t count, const uint8_t
     return answer(h.number, 0, n);
   reading_octets m = { d + h.fields, length - h.fields };
   switch (h.kind) {
-  case 1:
-    if (!reading_overruns(m))
-      hear(&n, t, reading_recovery(m));
-    return answer(0, reading_write_echo(reply, 2, h.sequence, n.plan.recovery), n);
-  case 2:
+  case 1: {
+    int again = !reading_overruns(m) && hear(&n, t, reading_recovery(m));
+    grugavorn_left a = answer(0, reading_write_echo(reply, 2, h.sequence, n.plan.recovery), n);
+    return again ? over_all(a) : a;
+  }
+  case 2: {
     if (n.echo.sends == 0 || n.echo.number != h.sequence || reading_overruns(m))
       return answer(9, 0, n);
-    hear(&n, t, reading_recovery(m));
+    int again = hear(&n, t, reading_recovery(m));
     n.echo.timer = n.plan.interval;
     n.echo.sends = 0;
-    return answer(0, 0, n);
+    return again ? over_all(answer(0, 0, n)) : answer(0, 0, n);
+  }
   case 32:
     return create(n, t, m, h.sequence, reply);
   case 34:
@@ -222,10 +256,10 @@ grugavorn_left reading_fresh(grugavorn_plan plan, session *t, size_t count) {
     return answer(2, 0, n);
   memset(t, 0, GRUGAVORN_PLACES * sizeof *t);
   if (!reading_plan_fits(&plan))
-    return answer(16, 0, n);
+    return over_all(answer(16, 0, n));
   n.plan = plan;
   n.echo.timer = plan.interval;
-  return answer(0, 0, n);
+  return over_all(answer(0, 0, n));
 }
 
 /* ---- tick: 2. What is due and unsent is not counted */
@@ -240,17 +274,19 @@ grugavorn_left reading_tick(node_t n, session *t, size_t count) {
     n.echo.timer = n.plan.interval;
     n.echo.sends = 0;
     free_all(t);
-    return answer(0, 0, n);
+    return over_all(answer(0, 0, n));
   }
+  int awaiting = 0;
   if (n.echo.timer > 0)
     n.echo.timer--;
   for (int i = 0; i < GRUGAVORN_PLACES; i++) {
+    awaiting |= t[i].own.sends != 0;
     if (given_up(&t[i].own, &n.plan))
       free_place(&t[i]);
     else if (t[i].own.timer > 0)
       t[i].own.timer--;
   }
-  return answer(0, 0, n);
+  return awaiting ? over_all(answer(0, 0, n)) : answer(0, 0, n);
 }
 
 /* ---- send next due: 1, 2, 17 */
@@ -291,7 +327,7 @@ grugavorn_left reading_send(node_t n, session *t, size_t count, uint8_t *reply, 
   for (int i = 0; i < GRUGAVORN_PLACES; i++)
     if (t[i].state == GRUGAVORN_CLOSING && t[i].own.timer == 0) {
       sent(&n, t, &t[i].own);
-      return answer(0, reading_write_delete_bearer(reply, &t[i]), n);
+      return over_one(answer(0, reading_write_delete_bearer(reply, &t[i]), n), i);
     }
   return answer(17, 0, n);
 }
@@ -303,7 +339,7 @@ grugavorn_left reading_close(node_t n, session *t, size_t count, size_t place) {
   if (place >= GRUGAVORN_PLACES || t[place].state == GRUGAVORN_FREE)
     return answer(10, 0, n);
   t[place].state = GRUGAVORN_CLOSING;
-  return answer(0, 0, n);
+  return over(answer(0, 0, n), place, place + 1);
 }
 
 /* ---- line: 1, 2, 10 */

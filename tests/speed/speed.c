@@ -189,9 +189,9 @@ static void once(const char *call, int plain, unsigned live) {
 }
 
 static int same_answers(const grugavorn_left *a, const grugavorn_left *b) {
-  return a->number == b->number && a->size == b->size && a->node.next == b->node.next
-         && a->node.echo.timer == b->node.echo.timer && a->node.heard == b->node.heard
-         && a->node.recovery == b->node.recovery;
+  return a->number == b->number && a->size == b->size && a->from == b->from && a->to == b->to
+         && a->node.next == b->node.next && a->node.echo.timer == b->node.echo.timer
+         && a->node.heard == b->node.heard && a->node.recovery == b->node.recovery;
 }
 
 static int same_parts(const grugavorn_handed *a, const grugavorn_handed *b) {
