@@ -8,8 +8,8 @@
 #include <stdlib.h>
 #include <string.h>
 
-/* The proved reader (crate trial_readers): it answers as reading_packet does. A slice is its pointer, then its
- * length. */
+/* The proved reader (crate trial_readers): it answers as reading_packet does. A slice is its pointer, then
+ * its length. */
 size_t gpdu_read(const uint8_t *d, size_t n, uint8_t *number, uint8_t *type, uint32_t *teid,
                  uint16_t *sequence);
 
