@@ -1,33 +1,11 @@
-// Fresh, tick, close and send next due, as firmware makes these calls: the caller lends its records, the node goes in and comes back by value.
+// Tick, close and send next due, as firmware makes these calls: the caller lends its records, the node goes in and comes back by value.
 use call_own::Answer;
-use unit_plan::Plan;
 use unit_session::Session;
-use unit_table::Change;
 use unit_table::Node;
 ghost use mathlib.Core.List.{[]};
 ghost use mathlib.Core.Path.{_≡_};
-ghost use Rattle.unit_table.specs.declared.Change.the-variants.{Blank};
 ghost use Rattle.call_own.specs.Outcome.{outcome};
-ghost use Rattle.call_own.specs.Calls.{freshOf, tickOf, closeOf, sendOf};
-
-// What is made of each record.
-fn blanking() -> Change
-    ensures { λ r. ⌜ r ≡ Blank ⌝ }
-{
-    Change::Blank
-}
-
-// Fresh state from a plan.
-#[no_mangle]
-pub extern "C" fn grugavorn_fresh(plan: Plan, recs: &mut [Session]) -> Answer
-    ensures { λ r. ⌜ outcome r (now (recs .exit)) [] ≡ freshOf plan (now (recs .entry)) ⌝ }
-{
-    let count = recs.len();
-    let n = lent_records::whole(count);
-    let c = blanking();
-    lent_records::change_each(recs, c, n);
-    call_own::fresh_by(count, plan)
-}
+ghost use Rattle.call_own.specs.Calls.{tickOf, closeOf, sendOf};
 
 // Tick.
 #[no_mangle]

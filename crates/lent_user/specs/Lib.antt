@@ -1,2 +1,1 @@
 pub mod User
-pub mod Line
