@@ -291,7 +291,7 @@ grugavorn_left grugavorn_close(grugavorn_node node, grugavorn_session *records, 
 grugavorn_left grugavorn_line(grugavorn_node node, const grugavorn_session *records, size_t count,
                               size_t place, uint8_t *reply, size_t room);
 
-/* Where a place's session is. Both are only read and answer addresses, as numbers; any table will do.
+/* Where a place's session is: two calls that only read, for any table, and answer an address as a number.
  * The control address of the session's peer, to which a Delete Bearer goes; 0 where the place is free or not
  * among the records. */
 uint32_t grugavorn_peer(const grugavorn_session *records, size_t count, size_t place);
