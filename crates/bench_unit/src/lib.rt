@@ -228,7 +228,7 @@ pub fn take_plan(b: Bench, recs: &mut [Session], out: &mut [u8]) -> Bench
     ensures { λ r. ⌜ ran r (now (recs .exit)) (now (out .exit)) ≡ planTaken b (now (recs .entry)) (now (out .entry)) ⌝ }
 {
     let plan = plan_of(b);
-    let a = lent_state::grugavorn_fresh(plan, recs);
+    let a = lent_fresh::grugavorn_fresh(plan, recs);
     plan_shown(b, a, out)
 }
 
@@ -308,7 +308,7 @@ fn print_place(b: Bench, recs: &[Session], place: usize, out: &mut [u8]) -> Benc
     }
     let mut text = [0; Answer::LEAST_REPLY];
     let node = node_of(b);
-    let a = lent_state::grugavorn_line(node, recs, place, &mut text);
+    let a = lent_line::grugavorn_line(node, recs, place, &mut text);
     put_line(b, a, &text, out)
 }
 

@@ -43,8 +43,8 @@ fn both_handed(a: Handed, b: Handed) -> Twins
 pub fn fresh_agrees(plan: Plan, recs: &mut [Session], other: &mut [Session]) -> Two
     ensures { λ r. ⌜ Agreed (now (recs .entry)) (now (other .entry)) [] [] r (now (recs .exit)) (now (other .exit)) [] [] ⌝ }
 {
-    let a = lent_state::grugavorn_fresh(plan, recs);
-    let b = lent_state::grugavorn_fresh(plan, other);
+    let a = lent_fresh::grugavorn_fresh(plan, recs);
+    let b = lent_fresh::grugavorn_fresh(plan, other);
     both(a, b)
 }
 
@@ -102,8 +102,8 @@ pub fn line_agrees(
 ) -> Two
     ensures { λ r. ⌜ Agreed (now (recs .entry)) (now (recs .entry)) (now (reply .entry)) (now (buffer .entry)) r (now (recs .entry)) (now (recs .entry)) (now (reply .exit)) (now (buffer .exit)) ⌝ }
 {
-    let a = lent_state::grugavorn_line(node, recs, place, reply);
-    let b = lent_state::grugavorn_line(node, recs, place, buffer);
+    let a = lent_line::grugavorn_line(node, recs, place, reply);
+    let b = lent_line::grugavorn_line(node, recs, place, buffer);
     both(a, b)
 }
 
@@ -125,7 +125,7 @@ pub fn user_agrees(
 pub fn starts(plan: Plan, recs: &mut [Session]) -> Answer
     ensures { λ r. ⌜ StartedFrom (now (recs .entry)) plan (storing r (now (recs .exit))) ⌝ }
 {
-    lent_state::grugavorn_fresh(plan, recs)
+    lent_fresh::grugavorn_fresh(plan, recs)
 }
 
 // Take control datagram. That the datagram is made of octets, its type says.
@@ -168,5 +168,5 @@ pub fn closes(node: Node, recs: &mut [Session], place: usize) -> Answer
 pub fn prints(node: Node, recs: &[Session], place: usize, reply: &mut [u8]) -> Answer
     ensures { λ r. ⌜ Called (line place (now (reply .entry))) (holding node (now (recs .entry))) (storing r (now (recs .entry))) (r .number) ⌝ }
 {
-    lent_state::grugavorn_line(node, recs, place, reply)
+    lent_line::grugavorn_line(node, recs, place, reply)
 }

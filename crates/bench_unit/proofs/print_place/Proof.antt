@@ -34,10 +34,10 @@ use Rattle.bench_unit.proofs.node_of as c-node-of′
 use Rattle.bench_unit.proofs.node_of.Symbol as c-node-of-def
 use Rattle.bench_unit.proofs.node_of.Symbol.{name as #bench-unit·node-of}
 use Rattle.bench_unit.proofs.node_of.Met as c-node-of-thm
-use Rattle.lent_state.proofs.grugavorn_line as c-grugavorn-line′
-use Rattle.lent_state.proofs.grugavorn_line.Symbol as c-grugavorn-line-def
-use Rattle.lent_state.proofs.grugavorn_line.Symbol.{name as #lent-state·grugavorn-line}
-use Rattle.lent_state.proofs.grugavorn_line.Met as c-grugavorn-line-thm
+use Rattle.lent_line.proofs.grugavorn_line as c-grugavorn-line′
+use Rattle.lent_line.proofs.grugavorn_line.Symbol as c-grugavorn-line-def
+use Rattle.lent_line.proofs.grugavorn_line.Symbol.{name as #lent-line·grugavorn-line}
+use Rattle.lent_line.proofs.grugavorn_line.Met as c-grugavorn-line-thm
 use Rattle.bench_unit.proofs.put_line as c-put-line′
 use Rattle.bench_unit.proofs.put_line.Symbol as c-put-line-def
 use Rattle.bench_unit.proofs.put_line.Symbol.{name as #bench-unit·put-line}
@@ -122,7 +122,7 @@ module _ {M : Type 1} (𝓤 : URA M) (H : Heap 𝓤) (A : Atoms 𝓤) (W : Given
       suffices ! _ (ends-at 𝓤 H A entry′.ended stayed (entry′.clauses 𝓤 H A mem run) W bound w r (tt, (tt, (tt, (w-out, tt)))) (tt, (tt, (tt, (l-out, tt))))) $ says ! e $ frame ! $
       nothing ! $ move ! (1 ∷ 0 ∷ []) $ fjoin ! $ nothing ! $ fjoin ! $ nothing ! $ fjoin ! $ nothing ! $ fjoin ! $ done !
 
-  module _ (C : Calls 𝓤 H) (Λ : Loops 𝓤 H) (fm : FmC 𝓤 H (W .laws) C) (known-read : Triple 𝓤 (C #lent-records·read) (c-read 𝓤 H A mem run)) (known-never-used : Triple 𝓤 (C #bench-unit·never-used) (c-never-used 𝓤 H A mem run)) (known-node-of : Triple 𝓤 (C #bench-unit·node-of) (c-node-of 𝓤 H A mem run)) (known-grugavorn-line : Triple 𝓤 (C #lent-state·grugavorn-line) (c-grugavorn-line 𝓤 H A mem run)) (known-put-line : Triple 𝓤 (C #bench-unit·put-line) (c-put-line 𝓤 H A mem run)) where
+  module _ (C : Calls 𝓤 H) (Λ : Loops 𝓤 H) (fm : FmC 𝓤 H (W .laws) C) (known-read : Triple 𝓤 (C #lent-records·read) (c-read 𝓤 H A mem run)) (known-never-used : Triple 𝓤 (C #bench-unit·never-used) (c-never-used 𝓤 H A mem run)) (known-node-of : Triple 𝓤 (C #bench-unit·node-of) (c-node-of 𝓤 H A mem run)) (known-grugavorn-line : Triple 𝓤 (C #lent-line·grugavorn-line) (c-grugavorn-line 𝓤 H A mem run)) (known-put-line : Triple 𝓤 (C #bench-unit·put-line) (c-put-line 𝓤 H A mem run)) where
     walk : Is Bench-t.the-row b (v-b ∷ []) → Room Session-t.the-row (length (recs .now)) → Is usize place (v-place ∷ []) → Room u8 (length (out .now)) → ent 𝓤 (onEntry 𝓤 H A entry′.signature (κ₀, (κ₁, tt)) (q₀, (q₁, tt)) a at) (WpFn 𝓤 H C Λ code.function (v-b ∷ v-recs ∷ v-place ∷ v-out ∷ []) Post)
     unfolding leastReply
     walk is-b room-recs is-place room-out =
@@ -226,7 +226,7 @@ module _ {M : Type 1} (𝓤 : URA M) (H : Heap 𝓤) (A : Atoms 𝓤) (W : Given
         by ! (exits r-put-line w-put-line (z-put-line .1 .1 .1 .0) (place-used (recs .now) place b ys-out r-read e-read r-never-used r-node-of r-grugavorn-line (z-grugavorn-line .1 .1 .1 .0) (z-put-line .1 .1 .1 .0) r-put-line e-never-used t e-node-of e-grugavorn-line e-put-line) len-put-line-out))))))))))))))))))))))))))))))))))))))))))))))))))))
 
 module _ {M : Type 1} (𝓤 : URA M) (H : Heap 𝓤) (A : Atoms 𝓤) (W : Given 𝓤 H A) (mem : Memory → SProp 𝓤) (run : Routine → Fun 𝓤) where
-  print-place-walks : (C : Calls 𝓤 H) (Λ : Loops 𝓤 H) → FmC 𝓤 H (W .laws) C → Triple 𝓤 (C #lent-records·read) (c-read 𝓤 H A mem run) → Triple 𝓤 (C #bench-unit·never-used) (c-never-used 𝓤 H A mem run) → Triple 𝓤 (C #bench-unit·node-of) (c-node-of 𝓤 H A mem run) → Triple 𝓤 (C #lent-state·grugavorn-line) (c-grugavorn-line 𝓤 H A mem run) → Triple 𝓤 (C #bench-unit·put-line) (c-put-line 𝓤 H A mem run)
+  print-place-walks : (C : Calls 𝓤 H) (Λ : Loops 𝓤 H) → FmC 𝓤 H (W .laws) C → Triple 𝓤 (C #lent-records·read) (c-read 𝓤 H A mem run) → Triple 𝓤 (C #bench-unit·never-used) (c-never-used 𝓤 H A mem run) → Triple 𝓤 (C #bench-unit·node-of) (c-node-of 𝓤 H A mem run) → Triple 𝓤 (C #lent-line·grugavorn-line) (c-grugavorn-line 𝓤 H A mem run) → Triple 𝓤 (C #bench-unit·put-line) (c-put-line 𝓤 H A mem run)
       → Walks 𝓤 H A entry′.ended stayed (WpFn 𝓤 H C Λ code.function) (entry′.clauses 𝓤 H A mem run)
   unfolding leastReply
   print-place-walks C Λ fm known-read known-never-used known-node-of known-grugavorn-line known-put-line = walked 𝓤 H A entry′.ended stayed (entry′.clauses 𝓤 H A mem run) (WpFn 𝓤 H C Λ code.function)
@@ -235,7 +235,7 @@ module _ {M : Type 1} (𝓤 : URA M) (H : Heap 𝓤) (A : Atoms 𝓤) (W : Given
       (walk 𝓤 H A W mem run (κs .0) (κs .1 .0) (qs .0) (qs .1 .0) (a .0) (a .1 .0) (a .1 .1 .0) (a .1 .1 .1 .0 .ptr .0) (a .1 .1 .1 .0 .ptr .1) (a .1 .1 .1 .0 .name) (a .1 .1 .1 .0 .now) C Λ fm known-read known-never-used known-node-of known-grugavorn-line known-put-line (are .0) (are .1 .0 .0 .1) (are .1 .1 .0) (are .1 .1 .1 .0 .0 .1)))
 
 print-place-meets : {M : Type 1} (𝓤 : URA M) (H : Heap 𝓤) (A : Atoms 𝓤) → Given 𝓤 H A → (mem : Memory → SProp 𝓤) (run : Routine → Fun 𝓤) (𝓣 : Tables 𝓤 H)
-    → Triple 𝓤 (𝓣 .C #lent-records·read) (c-read 𝓤 H A mem run) → Triple 𝓤 (𝓣 .C #bench-unit·never-used) (c-never-used 𝓤 H A mem run) → Triple 𝓤 (𝓣 .C #bench-unit·node-of) (c-node-of 𝓤 H A mem run) → Triple 𝓤 (𝓣 .C #lent-state·grugavorn-line) (c-grugavorn-line 𝓤 H A mem run) → Triple 𝓤 (𝓣 .C #bench-unit·put-line) (c-put-line 𝓤 H A mem run)
+    → Triple 𝓤 (𝓣 .C #lent-records·read) (c-read 𝓤 H A mem run) → Triple 𝓤 (𝓣 .C #bench-unit·never-used) (c-never-used 𝓤 H A mem run) → Triple 𝓤 (𝓣 .C #bench-unit·node-of) (c-node-of 𝓤 H A mem run) → Triple 𝓤 (𝓣 .C #lent-line·grugavorn-line) (c-grugavorn-line 𝓤 H A mem run) → Triple 𝓤 (𝓣 .C #bench-unit·put-line) (c-put-line 𝓤 H A mem run)
     → Meets 𝓤 H A entry′.signature (WpFn 𝓤 H (𝓣 .C) (𝓣 .Λ) code.function) (entry′.spec 𝓤 H A mem run)
 unfolding leastReply
 print-place-meets 𝓤 H A W mem run 𝓣 known-read known-never-used known-node-of known-grugavorn-line known-put-line =
@@ -251,5 +251,5 @@ print-place-spec 𝓤 H 𝓜 𝓖 𝓡 =
     (cited 𝓤 H (c-read 𝓤 H (𝓖 .A) (𝓜 .mem) (𝓡 .run)) 𝓜 𝓡 code.env #lent-records·read c-read-def.routine code.calls-lent-records·read (c-read-thm.met 𝓤 H 𝓜 𝓖 𝓡))
     (cited 𝓤 H (c-never-used 𝓤 H (𝓖 .A) (𝓜 .mem) (𝓡 .run)) 𝓜 𝓡 code.env #bench-unit·never-used c-never-used-def.routine code.calls-bench-unit·never-used (c-never-used-thm.met 𝓤 H 𝓜 𝓖 𝓡))
     (cited 𝓤 H (c-node-of 𝓤 H (𝓖 .A) (𝓜 .mem) (𝓡 .run)) 𝓜 𝓡 code.env #bench-unit·node-of c-node-of-def.routine code.calls-bench-unit·node-of (c-node-of-thm.met 𝓤 H 𝓜 𝓖 𝓡))
-    (cited 𝓤 H (c-grugavorn-line 𝓤 H (𝓖 .A) (𝓜 .mem) (𝓡 .run)) 𝓜 𝓡 code.env #lent-state·grugavorn-line c-grugavorn-line-def.routine code.calls-lent-state·grugavorn-line (c-grugavorn-line-thm.met 𝓤 H 𝓜 𝓖 𝓡))
+    (cited 𝓤 H (c-grugavorn-line 𝓤 H (𝓖 .A) (𝓜 .mem) (𝓡 .run)) 𝓜 𝓡 code.env #lent-line·grugavorn-line c-grugavorn-line-def.routine code.calls-lent-line·grugavorn-line (c-grugavorn-line-thm.met 𝓤 H 𝓜 𝓖 𝓡))
     (cited 𝓤 H (c-put-line 𝓤 H (𝓖 .A) (𝓜 .mem) (𝓡 .run)) 𝓜 𝓡 code.env #bench-unit·put-line c-put-line-def.routine code.calls-bench-unit·put-line (c-put-line-thm.met 𝓤 H 𝓜 𝓖 𝓡)))

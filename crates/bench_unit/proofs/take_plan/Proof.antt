@@ -21,10 +21,10 @@ use Rattle.bench_unit.proofs.plan_of as c-plan-of′
 use Rattle.bench_unit.proofs.plan_of.Symbol as c-plan-of-def
 use Rattle.bench_unit.proofs.plan_of.Symbol.{name as #bench-unit·plan-of}
 use Rattle.bench_unit.proofs.plan_of.Met as c-plan-of-thm
-use Rattle.lent_state.proofs.grugavorn_fresh as c-grugavorn-fresh′
-use Rattle.lent_state.proofs.grugavorn_fresh.Symbol as c-grugavorn-fresh-def
-use Rattle.lent_state.proofs.grugavorn_fresh.Symbol.{name as #lent-state·grugavorn-fresh}
-use Rattle.lent_state.proofs.grugavorn_fresh.Met as c-grugavorn-fresh-thm
+use Rattle.lent_fresh.proofs.grugavorn_fresh as c-grugavorn-fresh′
+use Rattle.lent_fresh.proofs.grugavorn_fresh.Symbol as c-grugavorn-fresh-def
+use Rattle.lent_fresh.proofs.grugavorn_fresh.Symbol.{name as #lent-fresh·grugavorn-fresh}
+use Rattle.lent_fresh.proofs.grugavorn_fresh.Met as c-grugavorn-fresh-thm
 use Rattle.bench_unit.proofs.plan_shown as c-plan-shown′
 use Rattle.bench_unit.proofs.plan_shown.Symbol as c-plan-shown-def
 use Rattle.bench_unit.proofs.plan_shown.Symbol.{name as #bench-unit·plan-shown}
@@ -108,7 +108,7 @@ module _ {M : Type 1} (𝓤 : URA M) (H : Heap 𝓤) (A : Atoms 𝓤) (W : Given
       suffices ! _ (ends-at 𝓤 H A entry′.ended stayed (entry′.clauses 𝓤 H A mem run) W bound w r (tt, (w-recs, (w-out, tt))) (tt, (l-recs, (l-out, tt)))) $ says ! e $ frame ! $
       nothing ! $ move ! (2 ∷ 0 ∷ []) $ fjoin ! $ move ! (1 ∷ 0 ∷ []) $ fjoin ! $ nothing ! $ fjoin ! $ done !
 
-  module _ (C : Calls 𝓤 H) (Λ : Loops 𝓤 H) (fm : FmC 𝓤 H (W .laws) C) (known-plan-of : Triple 𝓤 (C #bench-unit·plan-of) (c-plan-of 𝓤 H A mem run)) (known-grugavorn-fresh : Triple 𝓤 (C #lent-state·grugavorn-fresh) (c-grugavorn-fresh 𝓤 H A mem run)) (known-plan-shown : Triple 𝓤 (C #bench-unit·plan-shown) (c-plan-shown 𝓤 H A mem run)) where
+  module _ (C : Calls 𝓤 H) (Λ : Loops 𝓤 H) (fm : FmC 𝓤 H (W .laws) C) (known-plan-of : Triple 𝓤 (C #bench-unit·plan-of) (c-plan-of 𝓤 H A mem run)) (known-grugavorn-fresh : Triple 𝓤 (C #lent-fresh·grugavorn-fresh) (c-grugavorn-fresh 𝓤 H A mem run)) (known-plan-shown : Triple 𝓤 (C #bench-unit·plan-shown) (c-plan-shown 𝓤 H A mem run)) where
     module _ (is-b : Is Bench-t.the-row b (v-b ∷ [])) (room-recs : Room Session-t.the-row (length (recs .now))) (room-out : Room u8 (length (out .now))) (l₀ l₁ l₂ l₃ l₄ l₅ l₆ l₇ l₈ l₉ : ℕ) where
       part-5 : (w-plan-of : Val) → (r-plan-of : Plan) → (e-plan-of : r-plan-of ≡ b .node .plan) → (is-plan-of : Is Plan-t.the-row r-plan-of (w-plan-of ∷ [])) → (w-grugavorn-fresh : Val) → (r-grugavorn-fresh : Answer) → (z-grugavorn-fresh : (Unit {0}) × ((List Session) × Unit {0})) → (e-grugavorn-fresh : outcome r-grugavorn-fresh (z-grugavorn-fresh .1 .0) [] ≡ freshOf r-plan-of (ys-recs)) → (is-grugavorn-fresh : Is Answer-t.the-row r-grugavorn-fresh (w-grugavorn-fresh ∷ [])) → (len-grugavorn-fresh-recs : length (z-grugavorn-fresh .1 .0) ≡ length (ys-recs)) → Sq W (‵ (froom (sliceTy (tyRef erased mut (pointee (u8 .written)))) l₉ 0) ∷ ‵ (fdies (sliceTy (tyRef erased mut (pointee (u8 .written)))) l₉) ∷ ‵ (froom (tyRef erased mut (pointee (u8 .written))) l₈ 0) ∷ ‵ (fdies (tyRef erased mut (pointee (u8 .written))) l₈) ∷ ‵ (fat fullShare (sliceTy (tyRef erased mut (pointee (Session-t.the-row .written)))) l₇ 0 v-recs) ∷ ‵ (fdies (sliceTy (tyRef erased mut (pointee (Session-t.the-row .written)))) l₇) ∷ ‵ (froom (tyRef erased mut (pointee (Session-t.the-row .written))) l₆ 0) ∷ ‵ (fdies (tyRef erased mut (pointee (Session-t.the-row .written))) l₆) ∷ ‵ (fat fullShare Answer-l.mir l₅ 0 w-grugavorn-fresh) ∷ ‵ (fdies Answer-l.mir l₅) ∷ ‵ (fat fullShare Plan-l.mir l₄ 0 w-plan-of) ∷ ‵ (fdies Plan-l.mir l₄) ∷ ‵ (fat fullShare (sliceTy (tyRef (named 1) mut (pointee (u8 .written)))) l₃ 0 v-out) ∷ ‵ (fdies (sliceTy (tyRef (named 1) mut (pointee (u8 .written)))) l₃) ∷ ‵ (fat fullShare (sliceTy (tyRef (named 0) mut (pointee (Session-t.the-row .written)))) l₂ 0 v-recs) ∷ ‵ (fdies (sliceTy (tyRef (named 0) mut (pointee (Session-t.the-row .written)))) l₂) ∷ ‵ (fat fullShare Bench-l.mir l₁ 0 v-b) ∷ ‵ (fdies Bench-l.mir l₁) ∷ ‵ (froom Bench-l.mir l₀ 0) ∷ ‵ (fdies Bench-l.mir l₀) ∷ ‵ (finally Session-t.the-row (recs .name) (z-grugavorn-fresh .1 .0)) ∷ ‵ Own-out ∷ ‵ (flft κ₀ q₀) ∷ ‵ (flft κ₁ q₁) ∷ []) (runs C Λ (En l₀ l₁ l₂ l₃ l₄ l₅ l₆ l₇ l₈ l₉) mir.t-5 (atRet (En l₀ l₁ l₂ l₃ l₄ l₅ l₆ l₇ l₈ l₉) Post))
       part-5 w-plan-of r-plan-of e-plan-of is-plan-of w-grugavorn-fresh r-grugavorn-fresh z-grugavorn-fresh e-grugavorn-fresh is-grugavorn-fresh len-grugavorn-fresh-recs =
@@ -178,7 +178,7 @@ module _ {M : Type 1} (𝓤 : URA M) (H : Heap 𝓤) (A : Atoms 𝓤) (W : Given
         part-1 is-b room-recs room-out l₀ l₁ l₂ l₃ l₄ l₅ l₆ l₇ l₈ l₉))))))))))
 
 module _ {M : Type 1} (𝓤 : URA M) (H : Heap 𝓤) (A : Atoms 𝓤) (W : Given 𝓤 H A) (mem : Memory → SProp 𝓤) (run : Routine → Fun 𝓤) where
-  take-plan-walks : (C : Calls 𝓤 H) (Λ : Loops 𝓤 H) → FmC 𝓤 H (W .laws) C → Triple 𝓤 (C #bench-unit·plan-of) (c-plan-of 𝓤 H A mem run) → Triple 𝓤 (C #lent-state·grugavorn-fresh) (c-grugavorn-fresh 𝓤 H A mem run) → Triple 𝓤 (C #bench-unit·plan-shown) (c-plan-shown 𝓤 H A mem run)
+  take-plan-walks : (C : Calls 𝓤 H) (Λ : Loops 𝓤 H) → FmC 𝓤 H (W .laws) C → Triple 𝓤 (C #bench-unit·plan-of) (c-plan-of 𝓤 H A mem run) → Triple 𝓤 (C #lent-fresh·grugavorn-fresh) (c-grugavorn-fresh 𝓤 H A mem run) → Triple 𝓤 (C #bench-unit·plan-shown) (c-plan-shown 𝓤 H A mem run)
       → Walks 𝓤 H A entry′.ended stayed (WpFn 𝓤 H C Λ code.function) (entry′.clauses 𝓤 H A mem run)
   take-plan-walks C Λ fm known-plan-of known-grugavorn-fresh known-plan-shown = walked 𝓤 H A entry′.ended stayed (entry′.clauses 𝓤 H A mem run) (WpFn 𝓤 H C Λ code.function)
       (λ κs. (LL.vals Bench-t.the-type Bench-l.the-laws, (slice-vals, (slice-vals, tt)))) (λ κs. (LL.tells Bench-t.the-type Bench-l.the-laws, (mut-slice-tells (named 0) (κs .0) Session-t.the-row, (mut-slice-tells (named 1) (κs .1 .0) u8, tt))))
@@ -186,7 +186,7 @@ module _ {M : Type 1} (𝓤 : URA M) (H : Heap 𝓤) (A : Atoms 𝓤) (W : Given
       (walk 𝓤 H A W mem run (κs .0) (κs .1 .0) (qs .0) (qs .1 .0) (a .0) (a .1 .0 .ptr .0) (a .1 .0 .ptr .1) (a .1 .0 .name) (a .1 .0 .now) (a .1 .1 .0 .ptr .0) (a .1 .1 .0 .ptr .1) (a .1 .1 .0 .name) (a .1 .1 .0 .now) C Λ fm known-plan-of known-grugavorn-fresh known-plan-shown (are .0) (are .1 .0 .0 .1) (are .1 .1 .0 .0 .1)))
 
 take-plan-meets : {M : Type 1} (𝓤 : URA M) (H : Heap 𝓤) (A : Atoms 𝓤) → Given 𝓤 H A → (mem : Memory → SProp 𝓤) (run : Routine → Fun 𝓤) (𝓣 : Tables 𝓤 H)
-    → Triple 𝓤 (𝓣 .C #bench-unit·plan-of) (c-plan-of 𝓤 H A mem run) → Triple 𝓤 (𝓣 .C #lent-state·grugavorn-fresh) (c-grugavorn-fresh 𝓤 H A mem run) → Triple 𝓤 (𝓣 .C #bench-unit·plan-shown) (c-plan-shown 𝓤 H A mem run)
+    → Triple 𝓤 (𝓣 .C #bench-unit·plan-of) (c-plan-of 𝓤 H A mem run) → Triple 𝓤 (𝓣 .C #lent-fresh·grugavorn-fresh) (c-grugavorn-fresh 𝓤 H A mem run) → Triple 𝓤 (𝓣 .C #bench-unit·plan-shown) (c-plan-shown 𝓤 H A mem run)
     → Meets 𝓤 H A entry′.signature (WpFn 𝓤 H (𝓣 .C) (𝓣 .Λ) code.function) (entry′.spec 𝓤 H A mem run)
 take-plan-meets 𝓤 H A W mem run 𝓣 known-plan-of known-grugavorn-fresh known-plan-shown =
     walk-meets 𝓤 H A entry′.ended stayed W (goes-dropped 𝓤 H A W 2 (plain (λ _. Bench-t.the-row)) yes (λ κs x f. refl), (goes-gave-slice 𝓤 H A W 2 0 tt (plain (λ _. Session-t.the-row)), (goes-gave-slice 𝓤 H A W 2 1 tt (plain (λ _. u8)), tt))) (entry′.clauses 𝓤 H A mem run)
@@ -199,5 +199,5 @@ take-plan-spec 𝓤 H 𝓜 𝓖 𝓡 =
     (tables 𝓤 H 𝓜 𝓡 code.env .C) (tables 𝓤 H 𝓜 𝓡 code.env .Λ) #bench_unit·take-plan code.function (code.unfolded 𝓤 H 𝓜 𝓡)
     (take-plan-meets 𝓤 H (𝓖 .A) (givenOf 𝓤 H 𝓜 𝓖) (𝓜 .mem) (𝓡 .run) (tablesOf 𝓤 H 𝓜 (tables 𝓤 H 𝓜 𝓡 code.env))
     (cited 𝓤 H (c-plan-of 𝓤 H (𝓖 .A) (𝓜 .mem) (𝓡 .run)) 𝓜 𝓡 code.env #bench-unit·plan-of c-plan-of-def.routine code.calls-bench-unit·plan-of (c-plan-of-thm.met 𝓤 H 𝓜 𝓖 𝓡))
-    (cited 𝓤 H (c-grugavorn-fresh 𝓤 H (𝓖 .A) (𝓜 .mem) (𝓡 .run)) 𝓜 𝓡 code.env #lent-state·grugavorn-fresh c-grugavorn-fresh-def.routine code.calls-lent-state·grugavorn-fresh (c-grugavorn-fresh-thm.met 𝓤 H 𝓜 𝓖 𝓡))
+    (cited 𝓤 H (c-grugavorn-fresh 𝓤 H (𝓖 .A) (𝓜 .mem) (𝓡 .run)) 𝓜 𝓡 code.env #lent-fresh·grugavorn-fresh c-grugavorn-fresh-def.routine code.calls-lent-fresh·grugavorn-fresh (c-grugavorn-fresh-thm.met 𝓤 H 𝓜 𝓖 𝓡))
     (cited 𝓤 H (c-plan-shown 𝓤 H (𝓖 .A) (𝓜 .mem) (𝓡 .run)) 𝓜 𝓡 code.env #bench-unit·plan-shown c-plan-shown-def.routine code.calls-bench-unit·plan-shown (c-plan-shown-thm.met 𝓤 H 𝓜 𝓖 𝓡)))

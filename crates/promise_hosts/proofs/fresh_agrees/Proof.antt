@@ -16,10 +16,10 @@ use Rattle.call_own.proofs.Answer.Laws as Answer-l
 use Rattle.call_own.specs.Calls.{freshOf}
 use Rattle.call_own.specs.Outcome.{outcome}
 use Rattle.promise_hosts.specs.Agreement.{Agreed, agrees, two}
-use Rattle.lent_state.proofs.grugavorn_fresh as c-grugavorn-fresh′
-use Rattle.lent_state.proofs.grugavorn_fresh.Symbol as c-grugavorn-fresh-def
-use Rattle.lent_state.proofs.grugavorn_fresh.Symbol.{name as #lent-state·grugavorn-fresh}
-use Rattle.lent_state.proofs.grugavorn_fresh.Met as c-grugavorn-fresh-thm
+use Rattle.lent_fresh.proofs.grugavorn_fresh as c-grugavorn-fresh′
+use Rattle.lent_fresh.proofs.grugavorn_fresh.Symbol as c-grugavorn-fresh-def
+use Rattle.lent_fresh.proofs.grugavorn_fresh.Symbol.{name as #lent-fresh·grugavorn-fresh}
+use Rattle.lent_fresh.proofs.grugavorn_fresh.Met as c-grugavorn-fresh-thm
 use Rattle.promise_hosts.proofs.both as c-both′
 use Rattle.promise_hosts.proofs.both.Symbol as c-both-def
 use Rattle.promise_hosts.proofs.both.Symbol.{name as #promise-hosts·both}
@@ -100,7 +100,7 @@ module _ {M : Type 1} (𝓤 : URA M) (H : Heap 𝓤) (A : Atoms 𝓤) (W : Given
       suffices ! _ (ends-at 𝓤 H A entry′.ended stayed (entry′.clauses 𝓤 H A mem run) W bound w r (tt, (w-recs, (w-other, tt))) (tt, (l-recs, (l-other, tt)))) $ says ! e $ frame ! $
       nothing ! $ move ! (2 ∷ 0 ∷ []) $ fjoin ! $ move ! (1 ∷ 0 ∷ []) $ fjoin ! $ nothing ! $ fjoin ! $ done !
 
-  module _ (C : Calls 𝓤 H) (Λ : Loops 𝓤 H) (fm : FmC 𝓤 H (W .laws) C) (known-grugavorn-fresh : Triple 𝓤 (C #lent-state·grugavorn-fresh) (c-grugavorn-fresh 𝓤 H A mem run)) (known-both : Triple 𝓤 (C #promise-hosts·both) (c-both 𝓤 H A mem run)) where
+  module _ (C : Calls 𝓤 H) (Λ : Loops 𝓤 H) (fm : FmC 𝓤 H (W .laws) C) (known-grugavorn-fresh : Triple 𝓤 (C #lent-fresh·grugavorn-fresh) (c-grugavorn-fresh 𝓤 H A mem run)) (known-both : Triple 𝓤 (C #promise-hosts·both) (c-both 𝓤 H A mem run)) where
     module _ (is-plan : Is Plan-t.the-row plan (v-plan ∷ [])) (room-recs : Room Session-t.the-row (length (recs .now))) (room-other : Room Session-t.the-row (length (other .now))) (l₀ l₁ l₂ l₃ l₄ l₅ l₆ l₇ l₈ l₉ : ℕ) where
       part-7 : (w-grugavorn-fresh : Val) → (r-grugavorn-fresh : Answer) → (z-grugavorn-fresh : (Unit {0}) × ((List Session) × Unit {0})) → (e-grugavorn-fresh : outcome r-grugavorn-fresh (z-grugavorn-fresh .1 .0) [] ≡ freshOf plan (ys-recs)) → (is-grugavorn-fresh : Is Answer-t.the-row r-grugavorn-fresh (w-grugavorn-fresh ∷ [])) → (len-grugavorn-fresh-recs : length (z-grugavorn-fresh .1 .0) ≡ length (ys-recs)) → (w-grugavorn-fresh2 : Val) → (r-grugavorn-fresh2 : Answer) → (z-grugavorn-fresh2 : (Unit {0}) × ((List Session) × Unit {0})) → (e-grugavorn-fresh2 : outcome r-grugavorn-fresh2 (z-grugavorn-fresh2 .1 .0) [] ≡ freshOf plan (ys-other)) → (is-grugavorn-fresh2 : Is Answer-t.the-row r-grugavorn-fresh2 (w-grugavorn-fresh2 ∷ [])) → (len-grugavorn-fresh2-recs : length (z-grugavorn-fresh2 .1 .0) ≡ length (ys-other)) → Sq W (‵ (fat fullShare (sliceTy (tyRef erased mut (pointee (Session-t.the-row .written)))) l₉ 0 v-other) ∷ ‵ (fdies (sliceTy (tyRef erased mut (pointee (Session-t.the-row .written)))) l₉) ∷ ‵ (froom (tyRef erased mut (pointee (Session-t.the-row .written))) l₈ 0) ∷ ‵ (fdies (tyRef erased mut (pointee (Session-t.the-row .written))) l₈) ∷ ‵ (fat fullShare (sliceTy (tyRef erased mut (pointee (Session-t.the-row .written)))) l₇ 0 v-recs) ∷ ‵ (fdies (sliceTy (tyRef erased mut (pointee (Session-t.the-row .written)))) l₇) ∷ ‵ (froom (tyRef erased mut (pointee (Session-t.the-row .written))) l₆ 0) ∷ ‵ (fdies (tyRef erased mut (pointee (Session-t.the-row .written))) l₆) ∷ ‵ (fat fullShare Answer-l.mir l₅ 0 w-grugavorn-fresh2) ∷ ‵ (fdies Answer-l.mir l₅) ∷ ‵ (fat fullShare Answer-l.mir l₄ 0 w-grugavorn-fresh) ∷ ‵ (fdies Answer-l.mir l₄) ∷ ‵ (fat fullShare (sliceTy (tyRef (named 1) mut (pointee (Session-t.the-row .written)))) l₃ 0 v-other) ∷ ‵ (fdies (sliceTy (tyRef (named 1) mut (pointee (Session-t.the-row .written)))) l₃) ∷ ‵ (fat fullShare (sliceTy (tyRef (named 0) mut (pointee (Session-t.the-row .written)))) l₂ 0 v-recs) ∷ ‵ (fdies (sliceTy (tyRef (named 0) mut (pointee (Session-t.the-row .written)))) l₂) ∷ ‵ (fat fullShare Plan-l.mir l₁ 0 v-plan) ∷ ‵ (fdies Plan-l.mir l₁) ∷ ‵ (froom Two-l.mir l₀ 0) ∷ ‵ (fdies Two-l.mir l₀) ∷ ‵ (finally Session-t.the-row (other .name) (z-grugavorn-fresh2 .1 .0)) ∷ ‵ (finally Session-t.the-row (recs .name) (z-grugavorn-fresh .1 .0)) ∷ ‵ (flft κ₀ q₀) ∷ ‵ (flft κ₁ q₁) ∷ []) (runs C Λ (En l₀ l₁ l₂ l₃ l₄ l₅ l₆ l₇ l₈ l₉) mir.t-7 (atRet (En l₀ l₁ l₂ l₃ l₄ l₅ l₆ l₇ l₈ l₉) Post))
       part-7 w-grugavorn-fresh r-grugavorn-fresh z-grugavorn-fresh e-grugavorn-fresh is-grugavorn-fresh len-grugavorn-fresh-recs w-grugavorn-fresh2 r-grugavorn-fresh2 z-grugavorn-fresh2 e-grugavorn-fresh2 is-grugavorn-fresh2 len-grugavorn-fresh2-recs =
@@ -170,7 +170,7 @@ module _ {M : Type 1} (𝓤 : URA M) (H : Heap 𝓤) (A : Atoms 𝓤) (W : Given
         part-1 is-plan room-recs room-other l₀ l₁ l₂ l₃ l₄ l₅ l₆ l₇ l₈ l₉))))))))))
 
 module _ {M : Type 1} (𝓤 : URA M) (H : Heap 𝓤) (A : Atoms 𝓤) (W : Given 𝓤 H A) (mem : Memory → SProp 𝓤) (run : Routine → Fun 𝓤) where
-  fresh-agrees-walks : (C : Calls 𝓤 H) (Λ : Loops 𝓤 H) → FmC 𝓤 H (W .laws) C → Triple 𝓤 (C #lent-state·grugavorn-fresh) (c-grugavorn-fresh 𝓤 H A mem run) → Triple 𝓤 (C #promise-hosts·both) (c-both 𝓤 H A mem run)
+  fresh-agrees-walks : (C : Calls 𝓤 H) (Λ : Loops 𝓤 H) → FmC 𝓤 H (W .laws) C → Triple 𝓤 (C #lent-fresh·grugavorn-fresh) (c-grugavorn-fresh 𝓤 H A mem run) → Triple 𝓤 (C #promise-hosts·both) (c-both 𝓤 H A mem run)
       → Walks 𝓤 H A entry′.ended stayed (WpFn 𝓤 H C Λ code.function) (entry′.clauses 𝓤 H A mem run)
   fresh-agrees-walks C Λ fm known-grugavorn-fresh known-both = walked 𝓤 H A entry′.ended stayed (entry′.clauses 𝓤 H A mem run) (WpFn 𝓤 H C Λ code.function)
       (λ κs. (LL.vals Plan-t.the-type Plan-l.the-laws, (slice-vals, (slice-vals, tt)))) (λ κs. (LL.tells Plan-t.the-type Plan-l.the-laws, (mut-slice-tells (named 0) (κs .0) Session-t.the-row, (mut-slice-tells (named 1) (κs .1 .0) Session-t.the-row, tt))))
@@ -178,7 +178,7 @@ module _ {M : Type 1} (𝓤 : URA M) (H : Heap 𝓤) (A : Atoms 𝓤) (W : Given
       (walk 𝓤 H A W mem run (κs .0) (κs .1 .0) (qs .0) (qs .1 .0) (a .0) (a .1 .0 .ptr .0) (a .1 .0 .ptr .1) (a .1 .0 .name) (a .1 .0 .now) (a .1 .1 .0 .ptr .0) (a .1 .1 .0 .ptr .1) (a .1 .1 .0 .name) (a .1 .1 .0 .now) C Λ fm known-grugavorn-fresh known-both (are .0) (are .1 .0 .0 .1) (are .1 .1 .0 .0 .1)))
 
 fresh-agrees-meets : {M : Type 1} (𝓤 : URA M) (H : Heap 𝓤) (A : Atoms 𝓤) → Given 𝓤 H A → (mem : Memory → SProp 𝓤) (run : Routine → Fun 𝓤) (𝓣 : Tables 𝓤 H)
-    → Triple 𝓤 (𝓣 .C #lent-state·grugavorn-fresh) (c-grugavorn-fresh 𝓤 H A mem run) → Triple 𝓤 (𝓣 .C #promise-hosts·both) (c-both 𝓤 H A mem run)
+    → Triple 𝓤 (𝓣 .C #lent-fresh·grugavorn-fresh) (c-grugavorn-fresh 𝓤 H A mem run) → Triple 𝓤 (𝓣 .C #promise-hosts·both) (c-both 𝓤 H A mem run)
     → Meets 𝓤 H A entry′.signature (WpFn 𝓤 H (𝓣 .C) (𝓣 .Λ) code.function) (entry′.spec 𝓤 H A mem run)
 fresh-agrees-meets 𝓤 H A W mem run 𝓣 known-grugavorn-fresh known-both =
     walk-meets 𝓤 H A entry′.ended stayed W (goes-dropped 𝓤 H A W 2 (plain (λ _. Plan-t.the-row)) yes (λ κs x f. refl), (goes-gave-slice 𝓤 H A W 2 0 tt (plain (λ _. Session-t.the-row)), (goes-gave-slice 𝓤 H A W 2 1 tt (plain (λ _. Session-t.the-row)), tt))) (entry′.clauses 𝓤 H A mem run)
@@ -190,5 +190,5 @@ fresh-agrees-spec 𝓤 H 𝓜 𝓖 𝓡 =
     entered 𝓤 H (tripleOf 𝓤 H (𝓖 .A) entry′.signature (entry′.spec 𝓤 H (𝓖 .A) (𝓜 .mem) (𝓡 .run)))
     (tables 𝓤 H 𝓜 𝓡 code.env .C) (tables 𝓤 H 𝓜 𝓡 code.env .Λ) #promise_hosts·fresh-agrees code.function (code.unfolded 𝓤 H 𝓜 𝓡)
     (fresh-agrees-meets 𝓤 H (𝓖 .A) (givenOf 𝓤 H 𝓜 𝓖) (𝓜 .mem) (𝓡 .run) (tablesOf 𝓤 H 𝓜 (tables 𝓤 H 𝓜 𝓡 code.env))
-    (cited 𝓤 H (c-grugavorn-fresh 𝓤 H (𝓖 .A) (𝓜 .mem) (𝓡 .run)) 𝓜 𝓡 code.env #lent-state·grugavorn-fresh c-grugavorn-fresh-def.routine code.calls-lent-state·grugavorn-fresh (c-grugavorn-fresh-thm.met 𝓤 H 𝓜 𝓖 𝓡))
+    (cited 𝓤 H (c-grugavorn-fresh 𝓤 H (𝓖 .A) (𝓜 .mem) (𝓡 .run)) 𝓜 𝓡 code.env #lent-fresh·grugavorn-fresh c-grugavorn-fresh-def.routine code.calls-lent-fresh·grugavorn-fresh (c-grugavorn-fresh-thm.met 𝓤 H 𝓜 𝓖 𝓡))
     (cited 𝓤 H (c-both 𝓤 H (𝓖 .A) (𝓜 .mem) (𝓡 .run)) 𝓜 𝓡 code.env #promise-hosts·both c-both-def.routine code.calls-promise-hosts·both (c-both-thm.met 𝓤 H 𝓜 𝓖 𝓡)))

@@ -16,10 +16,10 @@ use Rattle.call_own.proofs.Answer.Laws as Answer-l
 use Rattle.call_line.specs.Line.{lineOf}
 use Rattle.call_own.specs.Outcome.{outcome}
 use Rattle.promise_hosts.specs.Agreement.{Agreed, agrees, two}
-use Rattle.lent_state.proofs.grugavorn_line as c-grugavorn-line′
-use Rattle.lent_state.proofs.grugavorn_line.Symbol as c-grugavorn-line-def
-use Rattle.lent_state.proofs.grugavorn_line.Symbol.{name as #lent-state·grugavorn-line}
-use Rattle.lent_state.proofs.grugavorn_line.Met as c-grugavorn-line-thm
+use Rattle.lent_line.proofs.grugavorn_line as c-grugavorn-line′
+use Rattle.lent_line.proofs.grugavorn_line.Symbol as c-grugavorn-line-def
+use Rattle.lent_line.proofs.grugavorn_line.Symbol.{name as #lent-line·grugavorn-line}
+use Rattle.lent_line.proofs.grugavorn_line.Met as c-grugavorn-line-thm
 use Rattle.promise_hosts.proofs.both as c-both′
 use Rattle.promise_hosts.proofs.both.Symbol as c-both-def
 use Rattle.promise_hosts.proofs.both.Symbol.{name as #promise-hosts·both}
@@ -109,7 +109,7 @@ module _ {M : Type 1} (𝓤 : URA M) (H : Heap 𝓤) (A : Atoms 𝓤) (W : Given
       suffices ! _ (ends-at 𝓤 H A entry′.ended stayed (entry′.clauses 𝓤 H A mem run) W bound w r (tt, (tt, (tt, (w-reply, (w-buffer, tt))))) (tt, (tt, (tt, (l-reply, (l-buffer, tt)))))) $ says ! e $ frame ! $
       nothing ! $ move ! (2 ∷ 0 ∷ []) $ fjoin ! $ move ! (1 ∷ 0 ∷ []) $ fjoin ! $ nothing ! $ fjoin ! $ nothing ! $ fjoin ! $ nothing ! $ fjoin ! $ done !
 
-  module _ (C : Calls 𝓤 H) (Λ : Loops 𝓤 H) (fm : FmC 𝓤 H (W .laws) C) (known-grugavorn-line : Triple 𝓤 (C #lent-state·grugavorn-line) (c-grugavorn-line 𝓤 H A mem run)) (known-both : Triple 𝓤 (C #promise-hosts·both) (c-both 𝓤 H A mem run)) where
+  module _ (C : Calls 𝓤 H) (Λ : Loops 𝓤 H) (fm : FmC 𝓤 H (W .laws) C) (known-grugavorn-line : Triple 𝓤 (C #lent-line·grugavorn-line) (c-grugavorn-line 𝓤 H A mem run)) (known-both : Triple 𝓤 (C #promise-hosts·both) (c-both 𝓤 H A mem run)) where
     module _ (is-node : Is Node-t.the-row node (v-node ∷ [])) (room-recs : Room Session-t.the-row (length (recs .now))) (is-place : Is usize place (v-place ∷ [])) (room-reply : Room u8 (length (reply .now))) (room-buffer : Room u8 (length (buffer .now))) (l₀ l₁ l₂ l₃ l₄ l₅ l₆ l₇ l₈ l₉ l₁₀ l₁₁ : ℕ) where
       part-7 : (w-grugavorn-line : Val) → (r-grugavorn-line : Answer) → (z-grugavorn-line : (Unit {0}) × ((Unit {0}) × ((Unit {0}) × ((List ℕ) × Unit {0})))) → (e-grugavorn-line : outcome r-grugavorn-line (recs .now) (z-grugavorn-line .1 .1 .1 .0) ≡ lineOf node (recs .now) place (ys-reply)) → (is-grugavorn-line : Is Answer-t.the-row r-grugavorn-line (w-grugavorn-line ∷ [])) → (len-grugavorn-line-reply : length (z-grugavorn-line .1 .1 .1 .0) ≡ length (ys-reply)) → (w-grugavorn-line2 : Val) → (r-grugavorn-line2 : Answer) → (z-grugavorn-line2 : (Unit {0}) × ((Unit {0}) × ((Unit {0}) × ((List ℕ) × Unit {0})))) → (e-grugavorn-line2 : outcome r-grugavorn-line2 (recs .now) (z-grugavorn-line2 .1 .1 .1 .0) ≡ lineOf node (recs .now) place (ys-buffer)) → (is-grugavorn-line2 : Is Answer-t.the-row r-grugavorn-line2 (w-grugavorn-line2 ∷ [])) → (len-grugavorn-line2-reply : length (z-grugavorn-line2 .1 .1 .1 .0) ≡ length (ys-buffer)) → Sq W (‵ (fat fullShare (sliceTy (tyRef erased mut (pointee (u8 .written)))) l₁₁ 0 v-buffer) ∷ ‵ (fdies (sliceTy (tyRef erased mut (pointee (u8 .written)))) l₁₁) ∷ ‵ (froom (tyRef erased mut (pointee (u8 .written))) l₁₀ 0) ∷ ‵ (fdies (tyRef erased mut (pointee (u8 .written))) l₁₀) ∷ ‵ (fat fullShare (sliceTy (tyRef erased mut (pointee (u8 .written)))) l₉ 0 v-reply) ∷ ‵ (fdies (sliceTy (tyRef erased mut (pointee (u8 .written)))) l₉) ∷ ‵ (froom (tyRef erased mut (pointee (u8 .written))) l₈ 0) ∷ ‵ (fdies (tyRef erased mut (pointee (u8 .written))) l₈) ∷ ‵ (fat fullShare Answer-l.mir l₇ 0 w-grugavorn-line2) ∷ ‵ (fdies Answer-l.mir l₇) ∷ ‵ (fat fullShare Answer-l.mir l₆ 0 w-grugavorn-line) ∷ ‵ (fdies Answer-l.mir l₆) ∷ ‵ (fat fullShare (sliceTy (tyRef (named 2) mut (pointee (u8 .written)))) l₅ 0 v-buffer) ∷ ‵ (fdies (sliceTy (tyRef (named 2) mut (pointee (u8 .written)))) l₅) ∷ ‵ (fat fullShare (sliceTy (tyRef (named 1) mut (pointee (u8 .written)))) l₄ 0 v-reply) ∷ ‵ (fdies (sliceTy (tyRef (named 1) mut (pointee (u8 .written)))) l₄) ∷ ‵ (fat fullShare (tyInt w64) l₃ 0 v-place) ∷ ‵ (fdies (tyInt w64) l₃) ∷ ‵ (fat fullShare (sliceTy (tyRef (named 0) imm (pointee (Session-t.the-row .written)))) l₂ 0 v-recs) ∷ ‵ (fdies (sliceTy (tyRef (named 0) imm (pointee (Session-t.the-row .written)))) l₂) ∷ ‵ (fat fullShare Node-l.mir l₁ 0 v-node) ∷ ‵ (fdies Node-l.mir l₁) ∷ ‵ (froom Two-l.mir l₀ 0) ∷ ‵ (fdies Two-l.mir l₀) ∷ ‵ (finally u8 (buffer .name) (z-grugavorn-line2 .1 .1 .1 .0)) ∷ ‵ (finally u8 (reply .name) (z-grugavorn-line .1 .1 .1 .0)) ∷ ‵ Own-recs ∷ ‵ (flft κ₀ q₀) ∷ ‵ (flft κ₁ q₁) ∷ ‵ (flft κ₂ q₂) ∷ []) (runs C Λ (En l₀ l₁ l₂ l₃ l₄ l₅ l₆ l₇ l₈ l₉ l₁₀ l₁₁) mir.t-7 (atRet (En l₀ l₁ l₂ l₃ l₄ l₅ l₆ l₇ l₈ l₉ l₁₀ l₁₁) Post))
       part-7 w-grugavorn-line r-grugavorn-line z-grugavorn-line e-grugavorn-line is-grugavorn-line len-grugavorn-line-reply w-grugavorn-line2 r-grugavorn-line2 z-grugavorn-line2 e-grugavorn-line2 is-grugavorn-line2 len-grugavorn-line2-reply =
@@ -186,7 +186,7 @@ module _ {M : Type 1} (𝓤 : URA M) (H : Heap 𝓤) (A : Atoms 𝓤) (W : Given
         part-1 is-node room-recs is-place room-reply room-buffer l₀ l₁ l₂ l₃ l₄ l₅ l₆ l₇ l₈ l₉ l₁₀ l₁₁))))))))))))
 
 module _ {M : Type 1} (𝓤 : URA M) (H : Heap 𝓤) (A : Atoms 𝓤) (W : Given 𝓤 H A) (mem : Memory → SProp 𝓤) (run : Routine → Fun 𝓤) where
-  line-agrees-walks : (C : Calls 𝓤 H) (Λ : Loops 𝓤 H) → FmC 𝓤 H (W .laws) C → Triple 𝓤 (C #lent-state·grugavorn-line) (c-grugavorn-line 𝓤 H A mem run) → Triple 𝓤 (C #promise-hosts·both) (c-both 𝓤 H A mem run)
+  line-agrees-walks : (C : Calls 𝓤 H) (Λ : Loops 𝓤 H) → FmC 𝓤 H (W .laws) C → Triple 𝓤 (C #lent-line·grugavorn-line) (c-grugavorn-line 𝓤 H A mem run) → Triple 𝓤 (C #promise-hosts·both) (c-both 𝓤 H A mem run)
       → Walks 𝓤 H A entry′.ended stayed (WpFn 𝓤 H C Λ code.function) (entry′.clauses 𝓤 H A mem run)
   line-agrees-walks C Λ fm known-grugavorn-line known-both = walked 𝓤 H A entry′.ended stayed (entry′.clauses 𝓤 H A mem run) (WpFn 𝓤 H C Λ code.function)
       (λ κs. (LL.vals Node-t.the-type Node-l.the-laws, (slice-vals, (uint-vals w64, (slice-vals, (slice-vals, tt)))))) (λ κs. (LL.tells Node-t.the-type Node-l.the-laws, (shr-slice-tells (named 0) (κs .0) Session-t.the-row, (uint-tells w64, (mut-slice-tells (named 1) (κs .1 .0) u8, (mut-slice-tells (named 2) (κs .1 .1 .0) u8, tt))))))
@@ -194,7 +194,7 @@ module _ {M : Type 1} (𝓤 : URA M) (H : Heap 𝓤) (A : Atoms 𝓤) (W : Given
       (walk 𝓤 H A W mem run (κs .0) (κs .1 .0) (κs .1 .1 .0) (qs .0) (qs .1 .0) (qs .1 .1 .0) (a .0) (a .1 .0) (a .1 .1 .0) (a .1 .1 .1 .0 .ptr .0) (a .1 .1 .1 .0 .ptr .1) (a .1 .1 .1 .0 .name) (a .1 .1 .1 .0 .now) (a .1 .1 .1 .1 .0 .ptr .0) (a .1 .1 .1 .1 .0 .ptr .1) (a .1 .1 .1 .1 .0 .name) (a .1 .1 .1 .1 .0 .now) C Λ fm known-grugavorn-line known-both (are .0) (are .1 .0 .0 .1) (are .1 .1 .0) (are .1 .1 .1 .0 .0 .1) (are .1 .1 .1 .1 .0 .0 .1)))
 
 line-agrees-meets : {M : Type 1} (𝓤 : URA M) (H : Heap 𝓤) (A : Atoms 𝓤) → Given 𝓤 H A → (mem : Memory → SProp 𝓤) (run : Routine → Fun 𝓤) (𝓣 : Tables 𝓤 H)
-    → Triple 𝓤 (𝓣 .C #lent-state·grugavorn-line) (c-grugavorn-line 𝓤 H A mem run) → Triple 𝓤 (𝓣 .C #promise-hosts·both) (c-both 𝓤 H A mem run)
+    → Triple 𝓤 (𝓣 .C #lent-line·grugavorn-line) (c-grugavorn-line 𝓤 H A mem run) → Triple 𝓤 (𝓣 .C #promise-hosts·both) (c-both 𝓤 H A mem run)
     → Meets 𝓤 H A entry′.signature (WpFn 𝓤 H (𝓣 .C) (𝓣 .Λ) code.function) (entry′.spec 𝓤 H A mem run)
 line-agrees-meets 𝓤 H A W mem run 𝓣 known-grugavorn-line known-both =
     walk-meets 𝓤 H A entry′.ended stayed W (goes-dropped 𝓤 H A W 3 (plain (λ _. Node-t.the-row)) yes (λ κs x f. refl), (goes-dropped 𝓤 H A W 3 (shrSliceOf (0 ∷ []) tt (plain (λ _. Session-t.the-row))) yes (λ κs x f. refl), (goes-dropped 𝓤 H A W 3 (plain (λ _. usize)) yes (λ κs x f. refl), (goes-gave-slice 𝓤 H A W 3 1 tt (plain (λ _. u8)), (goes-gave-slice 𝓤 H A W 3 2 tt (plain (λ _. u8)), tt))))) (entry′.clauses 𝓤 H A mem run)
@@ -206,5 +206,5 @@ line-agrees-spec 𝓤 H 𝓜 𝓖 𝓡 =
     entered 𝓤 H (tripleOf 𝓤 H (𝓖 .A) entry′.signature (entry′.spec 𝓤 H (𝓖 .A) (𝓜 .mem) (𝓡 .run)))
     (tables 𝓤 H 𝓜 𝓡 code.env .C) (tables 𝓤 H 𝓜 𝓡 code.env .Λ) #promise_hosts·line-agrees code.function (code.unfolded 𝓤 H 𝓜 𝓡)
     (line-agrees-meets 𝓤 H (𝓖 .A) (givenOf 𝓤 H 𝓜 𝓖) (𝓜 .mem) (𝓡 .run) (tablesOf 𝓤 H 𝓜 (tables 𝓤 H 𝓜 𝓡 code.env))
-    (cited 𝓤 H (c-grugavorn-line 𝓤 H (𝓖 .A) (𝓜 .mem) (𝓡 .run)) 𝓜 𝓡 code.env #lent-state·grugavorn-line c-grugavorn-line-def.routine code.calls-lent-state·grugavorn-line (c-grugavorn-line-thm.met 𝓤 H 𝓜 𝓖 𝓡))
+    (cited 𝓤 H (c-grugavorn-line 𝓤 H (𝓖 .A) (𝓜 .mem) (𝓡 .run)) 𝓜 𝓡 code.env #lent-line·grugavorn-line c-grugavorn-line-def.routine code.calls-lent-line·grugavorn-line (c-grugavorn-line-thm.met 𝓤 H 𝓜 𝓖 𝓡))
     (cited 𝓤 H (c-both 𝓤 H (𝓖 .A) (𝓜 .mem) (𝓡 .run)) 𝓜 𝓡 code.env #promise-hosts·both c-both-def.routine code.calls-promise-hosts·both (c-both-thm.met 𝓤 H 𝓜 𝓖 𝓡)))

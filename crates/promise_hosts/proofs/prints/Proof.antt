@@ -15,10 +15,10 @@ use Rattle.call_own.specs.Outcome.{outcome}
 use Rattle.promise_demands.specs.Hosts.{Called}
 use Rattle.promise_demands.specs.Run.{line}
 use Rattle.promise_hosts.specs.Known.{holding, line-known, storing}
-use Rattle.lent_state.proofs.grugavorn_line as c-grugavorn-line′
-use Rattle.lent_state.proofs.grugavorn_line.Symbol as c-grugavorn-line-def
-use Rattle.lent_state.proofs.grugavorn_line.Symbol.{name as #lent-state·grugavorn-line}
-use Rattle.lent_state.proofs.grugavorn_line.Met as c-grugavorn-line-thm
+use Rattle.lent_line.proofs.grugavorn_line as c-grugavorn-line′
+use Rattle.lent_line.proofs.grugavorn_line.Symbol as c-grugavorn-line-def
+use Rattle.lent_line.proofs.grugavorn_line.Symbol.{name as #lent-line·grugavorn-line}
+use Rattle.lent_line.proofs.grugavorn_line.Met as c-grugavorn-line-thm
 use Rattle.promise_hosts.proofs.prints.Key.{name as #promise_hosts·prints}
 use Rattle.promise_hosts.proofs.prints as entry′
 use Rattle.promise_hosts.proofs.prints.Statement as stated
@@ -85,7 +85,7 @@ module _ {M : Type 1} (𝓤 : URA M) (H : Heap 𝓤) (A : Atoms 𝓤) (W : Given
       suffices ! _ (ends-at 𝓤 H A entry′.ended stayed (entry′.clauses 𝓤 H A mem run) W bound w r (tt, (tt, (tt, (w-reply, tt)))) (tt, (tt, (tt, (l-reply, tt))))) $ says ! e $ frame ! $
       nothing ! $ move ! (1 ∷ 0 ∷ []) $ fjoin ! $ nothing ! $ fjoin ! $ nothing ! $ fjoin ! $ nothing ! $ fjoin ! $ done !
 
-  module _ (C : Calls 𝓤 H) (Λ : Loops 𝓤 H) (fm : FmC 𝓤 H (W .laws) C) (known-grugavorn-line : Triple 𝓤 (C #lent-state·grugavorn-line) (c-grugavorn-line 𝓤 H A mem run)) where
+  module _ (C : Calls 𝓤 H) (Λ : Loops 𝓤 H) (fm : FmC 𝓤 H (W .laws) C) (known-grugavorn-line : Triple 𝓤 (C #lent-line·grugavorn-line) (c-grugavorn-line 𝓤 H A mem run)) where
     walk : Is Node-t.the-row node (v-node ∷ []) → Room Session-t.the-row (length (recs .now)) → Is usize place (v-place ∷ []) → Room u8 (length (reply .now)) → ent 𝓤 (onEntry 𝓤 H A entry′.signature (κ₀, (κ₁, tt)) (q₀, (q₁, tt)) a at) (WpFn 𝓤 H C Λ code.function (v-node ∷ v-recs ∷ v-place ∷ v-reply ∷ []) Post)
     walk is-node room-recs is-place room-reply =
         qed W ((Toks) ∷ ‵ (owns (Node-t.the-row ∷ (ShrSlice (named 0) κ₀ Session-t.the-row) ∷ usize ∷ (MutSlice (named 1) κ₁ u8) ∷ []) a at) ∷ []) ∵ enter ! C Λ code.function (v-node ∷ v-recs ∷ v-place ∷ v-reply ∷ []) _ $ alloc1 ! (λ l₀.
@@ -117,7 +117,7 @@ module _ {M : Type 1} (𝓤 : URA M) (H : Heap 𝓤) (A : Atoms 𝓤) (W : Given
         by ! (exits r-grugavorn-line w-grugavorn-line (z-grugavorn-line .1 .1 .1 .0) (line-known node (now recs) r-grugavorn-line place ys-reply (z-grugavorn-line .1 .1 .1 .0) e-grugavorn-line) len-grugavorn-line-reply))))))))))))))
 
 module _ {M : Type 1} (𝓤 : URA M) (H : Heap 𝓤) (A : Atoms 𝓤) (W : Given 𝓤 H A) (mem : Memory → SProp 𝓤) (run : Routine → Fun 𝓤) where
-  prints-walks : (C : Calls 𝓤 H) (Λ : Loops 𝓤 H) → FmC 𝓤 H (W .laws) C → Triple 𝓤 (C #lent-state·grugavorn-line) (c-grugavorn-line 𝓤 H A mem run)
+  prints-walks : (C : Calls 𝓤 H) (Λ : Loops 𝓤 H) → FmC 𝓤 H (W .laws) C → Triple 𝓤 (C #lent-line·grugavorn-line) (c-grugavorn-line 𝓤 H A mem run)
       → Walks 𝓤 H A entry′.ended stayed (WpFn 𝓤 H C Λ code.function) (entry′.clauses 𝓤 H A mem run)
   prints-walks C Λ fm known-grugavorn-line = walked 𝓤 H A entry′.ended stayed (entry′.clauses 𝓤 H A mem run) (WpFn 𝓤 H C Λ code.function)
       (λ κs. (LL.vals Node-t.the-type Node-l.the-laws, (slice-vals, (uint-vals w64, (slice-vals, tt))))) (λ κs. (LL.tells Node-t.the-type Node-l.the-laws, (shr-slice-tells (named 0) (κs .0) Session-t.the-row, (uint-tells w64, (mut-slice-tells (named 1) (κs .1 .0) u8, tt)))))
@@ -125,7 +125,7 @@ module _ {M : Type 1} (𝓤 : URA M) (H : Heap 𝓤) (A : Atoms 𝓤) (W : Given
       (walk 𝓤 H A W mem run (κs .0) (κs .1 .0) (qs .0) (qs .1 .0) (a .0) (a .1 .0) (a .1 .1 .0) (a .1 .1 .1 .0 .ptr .0) (a .1 .1 .1 .0 .ptr .1) (a .1 .1 .1 .0 .name) (a .1 .1 .1 .0 .now) C Λ fm known-grugavorn-line (are .0) (are .1 .0 .0 .1) (are .1 .1 .0) (are .1 .1 .1 .0 .0 .1)))
 
 prints-meets : {M : Type 1} (𝓤 : URA M) (H : Heap 𝓤) (A : Atoms 𝓤) → Given 𝓤 H A → (mem : Memory → SProp 𝓤) (run : Routine → Fun 𝓤) (𝓣 : Tables 𝓤 H)
-    → Triple 𝓤 (𝓣 .C #lent-state·grugavorn-line) (c-grugavorn-line 𝓤 H A mem run)
+    → Triple 𝓤 (𝓣 .C #lent-line·grugavorn-line) (c-grugavorn-line 𝓤 H A mem run)
     → Meets 𝓤 H A entry′.signature (WpFn 𝓤 H (𝓣 .C) (𝓣 .Λ) code.function) (entry′.spec 𝓤 H A mem run)
 prints-meets 𝓤 H A W mem run 𝓣 known-grugavorn-line =
     walk-meets 𝓤 H A entry′.ended stayed W (goes-dropped 𝓤 H A W 2 (plain (λ _. Node-t.the-row)) yes (λ κs x f. refl), (goes-dropped 𝓤 H A W 2 (shrSliceOf (0 ∷ []) tt (plain (λ _. Session-t.the-row))) yes (λ κs x f. refl), (goes-dropped 𝓤 H A W 2 (plain (λ _. usize)) yes (λ κs x f. refl), (goes-gave-slice 𝓤 H A W 2 1 tt (plain (λ _. u8)), tt)))) (entry′.clauses 𝓤 H A mem run)
@@ -137,4 +137,4 @@ prints-spec 𝓤 H 𝓜 𝓖 𝓡 =
     entered 𝓤 H (tripleOf 𝓤 H (𝓖 .A) entry′.signature (entry′.spec 𝓤 H (𝓖 .A) (𝓜 .mem) (𝓡 .run)))
     (tables 𝓤 H 𝓜 𝓡 code.env .C) (tables 𝓤 H 𝓜 𝓡 code.env .Λ) #promise_hosts·prints code.function (code.unfolded 𝓤 H 𝓜 𝓡)
     (prints-meets 𝓤 H (𝓖 .A) (givenOf 𝓤 H 𝓜 𝓖) (𝓜 .mem) (𝓡 .run) (tablesOf 𝓤 H 𝓜 (tables 𝓤 H 𝓜 𝓡 code.env))
-    (cited 𝓤 H (c-grugavorn-line 𝓤 H (𝓖 .A) (𝓜 .mem) (𝓡 .run)) 𝓜 𝓡 code.env #lent-state·grugavorn-line c-grugavorn-line-def.routine code.calls-lent-state·grugavorn-line (c-grugavorn-line-thm.met 𝓤 H 𝓜 𝓖 𝓡)))
+    (cited 𝓤 H (c-grugavorn-line 𝓤 H (𝓖 .A) (𝓜 .mem) (𝓡 .run)) 𝓜 𝓡 code.env #lent-line·grugavorn-line c-grugavorn-line-def.routine code.calls-lent-line·grugavorn-line (c-grugavorn-line-thm.met 𝓤 H 𝓜 𝓖 𝓡)))

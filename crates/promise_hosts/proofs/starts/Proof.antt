@@ -13,10 +13,10 @@ use Rattle.unit_session.proofs.Session as Session-t
 use Rattle.call_own.specs.Calls.{freshOf}
 use Rattle.call_own.specs.Outcome.{outcome}
 use Rattle.promise_hosts.specs.Known.{StartedFrom, fresh-known, storing}
-use Rattle.lent_state.proofs.grugavorn_fresh as c-grugavorn-fresh′
-use Rattle.lent_state.proofs.grugavorn_fresh.Symbol as c-grugavorn-fresh-def
-use Rattle.lent_state.proofs.grugavorn_fresh.Symbol.{name as #lent-state·grugavorn-fresh}
-use Rattle.lent_state.proofs.grugavorn_fresh.Met as c-grugavorn-fresh-thm
+use Rattle.lent_fresh.proofs.grugavorn_fresh as c-grugavorn-fresh′
+use Rattle.lent_fresh.proofs.grugavorn_fresh.Symbol as c-grugavorn-fresh-def
+use Rattle.lent_fresh.proofs.grugavorn_fresh.Symbol.{name as #lent-fresh·grugavorn-fresh}
+use Rattle.lent_fresh.proofs.grugavorn_fresh.Met as c-grugavorn-fresh-thm
 use Rattle.promise_hosts.proofs.starts.Key.{name as #promise_hosts·starts}
 use Rattle.promise_hosts.proofs.starts as entry′
 use Rattle.promise_hosts.proofs.starts.Statement as stated
@@ -74,7 +74,7 @@ module _ {M : Type 1} (𝓤 : URA M) (H : Heap 𝓤) (A : Atoms 𝓤) (W : Given
       suffices ! _ (ends-at 𝓤 H A entry′.ended stayed (entry′.clauses 𝓤 H A mem run) W bound w r (tt, (w-recs, tt)) (tt, (l-recs, tt))) $ says ! e $ frame ! $
       nothing ! $ move ! (1 ∷ 0 ∷ []) $ fjoin ! $ nothing ! $ fjoin ! $ done !
 
-  module _ (C : Calls 𝓤 H) (Λ : Loops 𝓤 H) (fm : FmC 𝓤 H (W .laws) C) (known-grugavorn-fresh : Triple 𝓤 (C #lent-state·grugavorn-fresh) (c-grugavorn-fresh 𝓤 H A mem run)) where
+  module _ (C : Calls 𝓤 H) (Λ : Loops 𝓤 H) (fm : FmC 𝓤 H (W .laws) C) (known-grugavorn-fresh : Triple 𝓤 (C #lent-fresh·grugavorn-fresh) (c-grugavorn-fresh 𝓤 H A mem run)) where
     walk : Is Plan-t.the-row plan (v-plan ∷ []) → Room Session-t.the-row (length (recs .now)) → ent 𝓤 (onEntry 𝓤 H A entry′.signature (κ₀, tt) (q₀, tt) a at) (WpFn 𝓤 H C Λ code.function (v-plan ∷ v-recs ∷ []) Post)
     walk is-plan room-recs =
         qed W ((Toks) ∷ ‵ (owns (Plan-t.the-row ∷ (MutSlice (named 0) κ₀ Session-t.the-row) ∷ []) a at) ∷ []) ∵ enter ! C Λ code.function (v-plan ∷ v-recs ∷ []) _ $ alloc1 ! (λ l₀. alloc1 ! (λ l₁. alloc1 ! (λ l₂. alloc1 ! (λ l₃.
@@ -102,7 +102,7 @@ module _ {M : Type 1} (𝓤 : URA M) (H : Heap 𝓤) (A : Atoms 𝓤) (W : Given
         by ! (exits r-grugavorn-fresh w-grugavorn-fresh (z-grugavorn-fresh .1 .0) (fresh-known r-grugavorn-fresh plan ys-recs (z-grugavorn-fresh .1 .0) e-grugavorn-fresh) len-grugavorn-fresh-recs))))))))))))
 
 module _ {M : Type 1} (𝓤 : URA M) (H : Heap 𝓤) (A : Atoms 𝓤) (W : Given 𝓤 H A) (mem : Memory → SProp 𝓤) (run : Routine → Fun 𝓤) where
-  starts-walks : (C : Calls 𝓤 H) (Λ : Loops 𝓤 H) → FmC 𝓤 H (W .laws) C → Triple 𝓤 (C #lent-state·grugavorn-fresh) (c-grugavorn-fresh 𝓤 H A mem run)
+  starts-walks : (C : Calls 𝓤 H) (Λ : Loops 𝓤 H) → FmC 𝓤 H (W .laws) C → Triple 𝓤 (C #lent-fresh·grugavorn-fresh) (c-grugavorn-fresh 𝓤 H A mem run)
       → Walks 𝓤 H A entry′.ended stayed (WpFn 𝓤 H C Λ code.function) (entry′.clauses 𝓤 H A mem run)
   starts-walks C Λ fm known-grugavorn-fresh = walked 𝓤 H A entry′.ended stayed (entry′.clauses 𝓤 H A mem run) (WpFn 𝓤 H C Λ code.function)
       (λ κs. (LL.vals Plan-t.the-type Plan-l.the-laws, (slice-vals, tt))) (λ κs. (LL.tells Plan-t.the-type Plan-l.the-laws, (mut-slice-tells (named 0) (κs .0) Session-t.the-row, tt)))
@@ -110,7 +110,7 @@ module _ {M : Type 1} (𝓤 : URA M) (H : Heap 𝓤) (A : Atoms 𝓤) (W : Given
       (walk 𝓤 H A W mem run (κs .0) (qs .0) (a .0) (a .1 .0 .ptr .0) (a .1 .0 .ptr .1) (a .1 .0 .name) (a .1 .0 .now) C Λ fm known-grugavorn-fresh (are .0) (are .1 .0 .0 .1)))
 
 starts-meets : {M : Type 1} (𝓤 : URA M) (H : Heap 𝓤) (A : Atoms 𝓤) → Given 𝓤 H A → (mem : Memory → SProp 𝓤) (run : Routine → Fun 𝓤) (𝓣 : Tables 𝓤 H)
-    → Triple 𝓤 (𝓣 .C #lent-state·grugavorn-fresh) (c-grugavorn-fresh 𝓤 H A mem run)
+    → Triple 𝓤 (𝓣 .C #lent-fresh·grugavorn-fresh) (c-grugavorn-fresh 𝓤 H A mem run)
     → Meets 𝓤 H A entry′.signature (WpFn 𝓤 H (𝓣 .C) (𝓣 .Λ) code.function) (entry′.spec 𝓤 H A mem run)
 starts-meets 𝓤 H A W mem run 𝓣 known-grugavorn-fresh =
     walk-meets 𝓤 H A entry′.ended stayed W (goes-dropped 𝓤 H A W 1 (plain (λ _. Plan-t.the-row)) yes (λ κs x f. refl), (goes-gave-slice 𝓤 H A W 1 0 tt (plain (λ _. Session-t.the-row)), tt)) (entry′.clauses 𝓤 H A mem run)
@@ -122,4 +122,4 @@ starts-spec 𝓤 H 𝓜 𝓖 𝓡 =
     entered 𝓤 H (tripleOf 𝓤 H (𝓖 .A) entry′.signature (entry′.spec 𝓤 H (𝓖 .A) (𝓜 .mem) (𝓡 .run)))
     (tables 𝓤 H 𝓜 𝓡 code.env .C) (tables 𝓤 H 𝓜 𝓡 code.env .Λ) #promise_hosts·starts code.function (code.unfolded 𝓤 H 𝓜 𝓡)
     (starts-meets 𝓤 H (𝓖 .A) (givenOf 𝓤 H 𝓜 𝓖) (𝓜 .mem) (𝓡 .run) (tablesOf 𝓤 H 𝓜 (tables 𝓤 H 𝓜 𝓡 code.env))
-    (cited 𝓤 H (c-grugavorn-fresh 𝓤 H (𝓖 .A) (𝓜 .mem) (𝓡 .run)) 𝓜 𝓡 code.env #lent-state·grugavorn-fresh c-grugavorn-fresh-def.routine code.calls-lent-state·grugavorn-fresh (c-grugavorn-fresh-thm.met 𝓤 H 𝓜 𝓖 𝓡)))
+    (cited 𝓤 H (c-grugavorn-fresh 𝓤 H (𝓖 .A) (𝓜 .mem) (𝓡 .run)) 𝓜 𝓡 code.env #lent-fresh·grugavorn-fresh c-grugavorn-fresh-def.routine code.calls-lent-fresh·grugavorn-fresh (c-grugavorn-fresh-thm.met 𝓤 H 𝓜 𝓖 𝓡)))

@@ -1,41 +1,17 @@
-// Fresh state from a plan, and what is read of a place (its line, its peer, its address), as firmware asks for them: the caller lends its records. A
-// crate of its own, so that tick, close, send and the user call are compiled without it: what two calls share is not laid into either.
+// What is read of a place, as firmware asks for it: its line, the peer of its session, its address. The caller lends its records. A crate of its own,
+// so that the user call is compiled without it: what two calls share is not laid into either.
 use base_octets::Number;
 use call_own::Answer;
 use call_own::Span;
-use unit_plan::Plan;
 use unit_session::Session;
-use unit_table::Change;
 use unit_table::Node;
 use unit_tunnel::Unit;
-ghost use mathlib.Core.List.{[]};
 ghost use mathlib.Core.Path.{_≡_};
 ghost use lib.Dec.{ltb};
 ghost use Rattle.unit_tunnel.specs.Numbering.{places};
-ghost use Rattle.unit_table.specs.declared.Change.the-variants.{Blank};
 ghost use Rattle.call_own.specs.Outcome.{outcome, back};
-ghost use Rattle.call_own.specs.Calls.{freshOf};
 ghost use Rattle.call_line.specs.Line.{lineBy, lineOf};
 ghost use Rattle.call_line.specs.Where.{peerAt, addressAt};
-
-// What is made of each record.
-fn blanking() -> Change
-    ensures { λ r. ⌜ r ≡ Blank ⌝ }
-{
-    Change::Blank
-}
-
-// Fresh state from a plan.
-#[no_mangle]
-pub extern "C" fn grugavorn_fresh(plan: Plan, recs: &mut [Session]) -> Answer
-    ensures { λ r. ⌜ outcome r (now (recs .exit)) [] ≡ freshOf plan (now (recs .entry)) ⌝ }
-{
-    let count = recs.len();
-    let n = lent_records::whole(count);
-    let c = blanking();
-    lent_records::change_each(recs, c, n);
-    call_own::fresh_by(count, plan)
-}
 
 // The call on one record, once it is known whether the rules are kept.
 pub fn line_by(kept: bool, node: Node, place: usize, s: Session, reply: &mut [u8]) -> Answer

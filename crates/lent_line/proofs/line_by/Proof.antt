@@ -5,10 +5,10 @@ use Rattle.unit_tunnel.specs.Numbering.{places}
 use Rattle.call_own.specs.Outcome.{leastReply}
 use Rattle.call_line.specs.Line.{lineBy}
 use borrow.Author.Needs.{needs}
-use Rattle.lent_state.proofs.line_by.Statement.{statement}
-use Rattle.lent_state.proofs.line_by.Tie as tie
-use Rattle.lent_state.proofs.line_by.Reads as reads
-use Rattle.lent_state.proofs.line_by.Lts as lts
+use Rattle.lent_line.proofs.line_by.Statement.{statement}
+use Rattle.lent_line.proofs.line_by.Tie as tie
+use Rattle.lent_line.proofs.line_by.Reads as reads
+use Rattle.lent_line.proofs.line_by.Lts as lts
 use Rattle.call_own.proofs.Answer.bare.Reads as bare-reads
 use Rattle.call_line.proofs.put_line.Reads as put-line-reads
 
