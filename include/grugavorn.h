@@ -1,4 +1,4 @@
-/* Grugavorn for firmware in C: document 01, version 1.0. The session table is the caller's, each call is
+/* Grugavorn for firmware in C: the session table is the caller's, each call is
  * one function, nothing is kept between calls.
  *
  * A host keeps one grugavorn_unit and makes every call through it:
@@ -25,7 +25,7 @@
  * do not overlap where one of them is written to.
  *
  * Numbers are document 01's (enum grugavorn_number, docs/NUMBERS.md). Every refusal leaves the records,
- * the node and the reply buffer as they were, unless the call's comment or the number's row says
+ * the node and the reply buffer as they were, unless the call's comment or the number's section says
  * otherwise. Octets of the reply buffer past the reply's length are never written. Multi-octet fields
  * below are the processor's own order; datagrams and replies are octets as on the wire.
  *
