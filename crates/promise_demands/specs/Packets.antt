@@ -1,20 +1,18 @@
 -- User packets, on any table that keeps its rules, so after any run: handed up only under a live user number, at the place that has it; never
 -- where there is a refusal or a reply. What is handed up is what was carried: Carried.antt.
 -- Assumes nothing.
-use Prim.Native.Nat.{ℕ, _<_, _≤_}
-use mathlib.Core.Bool.{Bool, true, false, not, _&&_}
+use Prim.Native.Nat.{ℕ, _<_}
+use mathlib.Core.Bool.{true, false, not}
 use mathlib.Core.List.{List}
 use mathlib.Core.Logic.{_≢_}
-use mathlib.Core.Path.{_≡_, refl, sym, _∙_}
+use mathlib.Core.Path.{_≡_, refl}
 use native.Mathlib.Omega.{arith}
 use lib.ListN.{length, getD}
 use lib.Dec.{eqb, ltb}
-use borrow.Author.Tests.{eqb-true, eqb-false, ltb-true, ltb-false}
-use Rattle.base_octets.specs.Choice.{split, or-split, impossible, and-left, and-right}
-use Rattle.unit_tunnel.specs.Numbering.{places, userOffset, user-fits}
-use Rattle.unit_tunnel.specs.declared.Holder.{Holder}
-use Rattle.unit_tunnel.specs.declared.Holder.the-variants as K
-use Rattle.unit_tunnel.specs.Tunnel.{userNumber, holderOf, holder-held}
+use borrow.Author.Tests.{eqb-true, eqb-false, ltb-true, ltb-false, not-true}
+use Rattle.base_octets.specs.Choice.{split, or-split, and-left, and-right}
+use Rattle.unit_tunnel.specs.Numbering.{places, userOffset}
+use Rattle.unit_tunnel.specs.Tunnel.{userNumber}
 use Rattle.unit_session.specs.declared.Session.{Session}
 use Rattle.unit_session.specs.Session.{isFree}
 use Rattle.unit_table.specs.declared.Owner.{Owner}
