@@ -173,8 +173,8 @@ static void receive(int from_socket, void (*take)(size_t size, uint32_t source, 
   }
 }
 
-/* A packet from the carrier's side goes, as a G-PDU, to the user address of its session's peer. Answers the
- * number; -1 for a packet that is too long, and only counted. */
+/* A packet from the carrier's side goes, as a G-PDU, to the user address of its session's peer, if that is
+ * one to hear from. Answers the number; -1 for a packet that is too long, and only counted. */
 static int on_packet(size_t size) {
   if (size > LONGEST) {
     longer++;
@@ -183,7 +183,9 @@ static int on_packet(size_t size) {
   note_datagram('D', packet, size);
   grugavorn_written w = grugavorn_unit_down(&unit, packet, size, gpdu, sizeof gpdu);
   numbers[w.number]++;
-  if (w.number == GRUGAVORN_TAKEN)
+  if (w.number == GRUGAVORN_TAKEN && !is_peer(w.peer))
+    strangers++;
+  else if (w.number == GRUGAVORN_TAKEN)
     post(user_socket, gpdu, w.size, w.peer, USER_PORT);
   return w.number;
 }
