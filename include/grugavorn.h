@@ -65,8 +65,8 @@ extern "C" {
 #define GRUGAVORN_HEAD 8
 /* the octets of one session record */
 #define GRUGAVORN_RECORD 48
-/* the characters of a place's line, at most */
-#define GRUGAVORN_LINE 83
+/* the characters of a place's line, at most: 81, and up to 3 digits of the place */
+#define GRUGAVORN_LINE 84
 
 /* The numbers that come back (docs/NUMBERS.md). */
 enum grugavorn_number {

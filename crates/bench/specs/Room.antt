@@ -1,6 +1,6 @@
--- The program's buffer of 65,536 octets is emptied wherever fewer than 8,192 are left, so that no line's output is ever cut (`run-whole`).
+-- The program's buffer of 65,536 octets is emptied wherever there is no room for a line, so that no line's output is ever cut (`run-whole`).
 -- Assumes nothing.
-use Prim.Native.Nat.{ℕ, _+_, _≤_}
+use Prim.Native.Nat.{ℕ, _+_, _-_, _≤_}
 use mathlib.Core.Bool.{Bool, true, false, not, _||_}
 use mathlib.Core.List.{List, [], _++_}
 use mathlib.Core.Path.{_≡_, refl, ap, _∙_}
@@ -8,13 +8,23 @@ use native.Mathlib.Omega.{arith}
 use lib.ListN.{length, take, drop, getD, length-append}
 use lib.Dec.{eqb}
 use Rattle.base_octets.specs.Choice.{pick, split}
+use Rattle.unit_tunnel.specs.Numbering.{places}
 use Rattle.unit_session.specs.declared.Session.{Session}
+use Rattle.call_own.specs.Outcome.{leastReply}
 use Rattle.bench_unit.specs.declared.Bench.{Bench}
 use Rattle.bench_unit.specs.State.{Ran, ran, firstPhase, plans, runs, benchStart, withLine, withMade}
 use Rattle.bench_unit.specs.Ended.{endOfInput}
-use Rattle.bench_unit.specs.Whole.{Adds, adds-on, adds-within, adds-whole, endPrints, end-adds, end-most}
+use Rattle.bench_unit.specs.Whole.{Adds, adds-on, adds-within, adds-whole, endPrints, placeRoom, end-adds, end-most}
 use Rattle.bench_run.specs.Taken.{lineTaken}
-use Rattle.bench_run.specs.Whole.{linePrints, toldPrints, earlyPrints, line-adds, line-most, first-most}
+use Rattle.bench_run.specs.Whole.{linePrints, toldPrints, earlyPrints, line-adds, line-most, first-most, lineRoom}
+
+-- what may stand in the buffer where a line is taken
+unfoldable pub mostMade : ℕ
+mostMade = 65536 - lineRoom
+
+room-left : mostMade + lineRoom ≤ 65536
+unfolding mostMade lineRoom placeRoom leastReply places
+room-left = omega arith
 
 -- of many runs one after another, N behind the first line ends the run before it
 unfoldable pub goesOn : Bench → Bool → List ℕ → Bool
@@ -57,16 +67,16 @@ module _ (b : Bench) (t : List Session) (many : Bool) (line out : List ℕ) wher
       (λ g. rw (g, ← fresh-prints line (endOfInput b t out .bench .made) (endOfInput b t out .table))
       (adds-on _ _ _ _ _ _ _ _ e (line-adds line (withMade (endOfInput b t out .bench .made) benchStart) (endOfInput b t out .table) (endOfInput b t out .out) (adds-within _ _ _ _ _ e))))
 
-pub runs-most : (b : Bench) (t : List Session) (many : Bool) (line : List ℕ) → length (runPrints b t many line) ≤ 7941
-unfolding runPrints benchStart
+pub runs-most : (b : Bench) (t : List Session) (many : Bool) (line : List ℕ) → length (runPrints b t many line) ≤ lineRoom
+unfolding runPrints benchStart lineRoom placeRoom leastReply
 runs-most b t many line =
     let l = line-most line b t in
     let e = end-most b t in
     let f = first-most line benchStart [] refl in
     split (goesOn b many line) (λ g. rw g (omega arith)) (λ g. rw g (simp length-append (omega arith)))
 
--- ---- with 8,192 octets left nothing is cut
-pub run-whole : (b : Bench) (t : List Session) (many : Bool) (line out : List ℕ) → b .made + 8192 ≤ length out
+-- ---- with room for a line nothing is cut
+pub run-whole : (b : Bench) (t : List Session) (many : Bool) (line out : List ℕ) → b .made + lineRoom ≤ length out
     → (after b t many line out .bench .made ≡ b .made + length (runPrints b t many line))
     × (after b t many line out .out ≡ placed (b .made) (runPrints b t many line) out)
 unfolding placed
@@ -85,35 +95,37 @@ pub anew-off : (b r x : Bench) (t t′ : List Session) (many : Bool) (line out o
 unfolding startAnew
 anew-off b r x t t′ many line out o on e f g h = rw (← e, f, ← g, h)
 
-pub run-placed : (b s c r : Bench) (t t′ t″ : List Session) (many : Bool) (line out o p : List ℕ) → (b .made ≤ 57344) × (65536 ≤ length out)
-    → ran s t′ o ≡ startAnew b t many line out → ran c t″ p ≡ lineTaken line s t′ o → r .made ≤ 57344
-    → (r .made ≤ 57344) × (p ≡ placed (b .made) (runPrints b t many line) out)
+pub run-placed : (b s c r : Bench) (t t′ t″ : List Session) (many : Bool) (line out o p : List ℕ) → (b .made ≤ mostMade) × (65536 ≤ length out)
+    → ran s t′ o ≡ startAnew b t many line out → ran c t″ p ≡ lineTaken line s t′ o → r .made ≤ mostMade
+    → (r .made ≤ mostMade) × (p ≡ placed (b .made) (runPrints b t many line) out)
 run-placed b s c r t t′ t″ many line out o p h e f g =
     let k = h .0 in
     let l = h .1 in
+    let n = room-left in
     let z : p ≡ after b t many line out .out = ap (λ (x : Ran). x .out) f ∙ ap (λ (x : Ran). lineTaken line (x .bench) (x .table) (x .out) .out) e in
     (g, z ∙ run-whole b t many line out (omega arith) .1)
 
-pub end-placed : (b r : Bench) (t t′ : List Session) (out o : List ℕ) → (b .made ≤ 57344) × (65536 ≤ length out) → ran r t′ o ≡ endOfInput b t out
+pub end-placed : (b r : Bench) (t t′ : List Session) (out o : List ℕ) → (b .made ≤ mostMade) × (65536 ≤ length out) → ran r t′ o ≡ endOfInput b t out
     → o ≡ placed (b .made) (endPrints b t) out
-unfolding placed
+unfolding placed lineRoom placeRoom leastReply
 end-placed b r t t′ out o h e =
     let k = h .0 in
     let l = h .1 in
+    let n = room-left in
     let m = end-most b t in
     ap (λ (x : Ran). x .out) e ∙ adds-whole _ _ _ _ _ (end-adds b t out (omega arith)) (omega arith) .1
 
 -- room for a line, carried through the program
-pub room-as : (b c : Bench) (out : List ℕ) → (b .made ≤ 57344) × (65536 ≤ length out) → c ≡ b → (c .made ≤ 57344) × (65536 ≤ length out)
+pub room-as : (b c : Bench) (out : List ℕ) → (b .made ≤ mostMade) × (65536 ≤ length out) → c ≡ b → (c .made ≤ mostMade) × (65536 ≤ length out)
 room-as b c out h e = rw e h
 
-pub made-as : (b c : Bench) → c ≡ b → b .made ≤ 57344 → c .made ≤ 57344
+pub made-as : (b c : Bench) → c ≡ b → b .made ≤ mostMade → c .made ≤ mostMade
 made-as b c e h = rw e h
 
-pub room-of : (b : Bench) (out o : List ℕ) → b .made ≤ 57344 → 65536 ≤ length out → length o ≡ length out → (b .made ≤ 57344) × (65536 ≤ length o)
+pub room-of : (b : Bench) (out o : List ℕ) → b .made ≤ mostMade → 65536 ≤ length out → length o ≡ length out → (b .made ≤ mostMade) × (65536 ≤ length o)
 room-of b out o h k e = (h, rw e k)
 
-pub room-first : (b : Bench) (out : List ℕ) → 65536 ≤ length out → b ≡ benchStart → (b .made ≤ 57344) × (65536 ≤ length out)
+pub room-first : (b : Bench) (out : List ℕ) → 65536 ≤ length out → b ≡ benchStart → (b .made ≤ mostMade) × (65536 ≤ length out)
 unfolding benchStart
 room-first b out h e = rw e (omega arith, h)
 

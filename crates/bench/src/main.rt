@@ -3,12 +3,13 @@
 // the front. Started with any argument, it takes many runs one after another: a line N starts a fresh unit, after the lines at the end of
 // the unit before it.
 use bench_unit::Bench;
+use call_own::Answer;
 use unit_session::Session;
 use unit_tunnel::Unit;
 ghost use mathlib.Core.Path.{_≡_};
 ghost use Prim.Native.Nat.{_≤_};
 ghost use lib.ListN.{length};
-ghost use Rattle.bench.specs.Room.{goesOn, anewOf, startAnew, runPrints, placed};
+ghost use Rattle.bench.specs.Room.{mostMade, goesOn, anewOf, startAnew, runPrints, placed};
 ghost use Rattle.bench_unit.specs.State.{ran};
 ghost use Rattle.bench_unit.specs.Whole.{endPrints};
 
@@ -30,12 +31,18 @@ fn emit(mut b: Bench, out: &[u8]) -> Bench
     b
 }
 
-// After it 8,192 octets are left. No line of input prints more: 4,400 characters at most (`line-most` of bench_run), 7,918 at the end (`end-most` of
-// bench_unit), 7,941 where one run ends and the next starts (`runs-most`); so nothing is ever cut (`run-whole`, and the contract of `run_line`).
+// The room that is kept for a line. No line of input prints more, also where one run ends and the next starts (`runs-most`); so nothing is ever
+// cut (`run-whole`, and the contract of `run_line`).
+const LINE_ROOM: usize = 4400 + (Answer::LEAST_REPLY + 1) * Unit::PLACES;
+
+// What may stand in the buffer where a line is taken.
+const MOST_MADE: usize = 65536 - LINE_ROOM;
+
+// After it there is room for a line.
 fn emit_if_full(b: Bench, out: &[u8]) -> Bench
-    ensures { λ r. ⌜ r .made ≤ 57344 ⌝ }
+    ensures { λ r. ⌜ r .made ≤ mostMade ⌝ }
 {
-    if b.made <= 65536 - 8192 {
+    if b.made <= MOST_MADE {
         return b;
     }
     emit(b, out)
@@ -90,8 +97,8 @@ fn start_anew(b: Bench, recs: &mut [Session], many: bool, line: &[u8], out: &mut
 
 // What the line prints stands whole behind what was printed before; then there is room for the next.
 fn run_line(b: Bench, recs: &mut [Session], many: bool, line: &[u8], out: &mut [u8]) -> Bench
-    requires { ⌜ (b .made ≤ 57344) × (65536 ≤ length (now out)) ⌝ }
-    ensures { λ r. ⌜ (r .made ≤ 57344) × (now (out .exit) ≡ placed (b .made) (runPrints b (now (recs .entry)) many (now (line .entry))) (now (out .entry))) ⌝ }
+    requires { ⌜ (b .made ≤ mostMade) × (65536 ≤ length (now out)) ⌝ }
+    ensures { λ r. ⌜ (r .made ≤ mostMade) × (now (out .exit) ≡ placed (b .made) (runPrints b (now (recs .entry)) many (now (line .entry))) (now (out .entry))) ⌝ }
 {
     let a = start_anew(b, recs, many, line, out);
     let c = bench_run::take_line(a, recs, line, out);
@@ -158,8 +165,8 @@ fn turn_after(b: Bench, s: &[u8], t: Turn) -> Turn
 }
 
 fn take_next(t: Turn, recs: &mut [Session], many: bool, s: &[u8], out: &mut [u8]) -> Turn
-    requires { ⌜ (t .bench .made ≤ 57344) × (65536 ≤ length (now out)) ⌝ }
-    ensures { λ r. ⌜ r .bench .made ≤ 57344 ⌝ }
+    requires { ⌜ (t .bench .made ≤ mostMade) × (65536 ≤ length (now out)) ⌝ }
+    ensures { λ r. ⌜ r .bench .made ≤ mostMade ⌝ }
 {
     let line = line_in(s, t);
     let b = bench_of(t);
@@ -169,8 +176,8 @@ fn take_next(t: Turn, recs: &mut [Session], many: bool, s: &[u8], out: &mut [u8]
 
 // The whole lines taken, up to the end of the run.
 fn lines_in(b: Bench, recs: &mut [Session], many: bool, s: &[u8], out: &mut [u8]) -> Turn
-    requires { ⌜ (b .made ≤ 57344) × (65536 ≤ length (now out)) ⌝ }
-    ensures { λ r. ⌜ r .bench .made ≤ 57344 ⌝ }
+    requires { ⌜ (b .made ≤ mostMade) × (65536 ≤ length (now out)) ⌝ }
+    ensures { λ r. ⌜ r .bench .made ≤ mostMade ⌝ }
 {
     let n = s.len();
     let mut t = turn_at(b, s, 0);
@@ -194,8 +201,8 @@ fn take_lines(
     end: usize,
     out: &mut [u8],
 ) -> Turn
-    requires { ⌜ (b .made ≤ 57344) × (65536 ≤ length (now out)) ⌝ }
-    ensures { λ r. ⌜ r .bench .made ≤ 57344 ⌝ }
+    requires { ⌜ (b .made ≤ mostMade) × (65536 ≤ length (now out)) ⌝ }
+    ensures { λ r. ⌜ r .bench .made ≤ mostMade ⌝ }
 {
     let s = bench_unit::front(buf, end);
     lines_in(b, recs, many, s, out)
@@ -240,8 +247,8 @@ fn keep_rest(buf: &mut [u8], t: Turn, end: usize) -> usize {
 
 // The last line may lack its line end; a buffer that is full holds a line that is too long, which is a bad one.
 fn take_rest(b: Bench, recs: &mut [Session], many: bool, rest: &[u8], out: &mut [u8]) -> Bench
-    requires { ⌜ (b .made ≤ 57344) × (65536 ≤ length (now out)) ⌝ }
-    ensures { λ r. ⌜ r .made ≤ 57344 ⌝ }
+    requires { ⌜ (b .made ≤ mostMade) × (65536 ≤ length (now out)) ⌝ }
+    ensures { λ r. ⌜ r .made ≤ mostMade ⌝ }
 {
     let n = rest.len();
     if n == 0 {
@@ -252,14 +259,14 @@ fn take_rest(b: Bench, recs: &mut [Session], many: bool, rest: &[u8], out: &mut 
 
 // What the end of the input prints stands whole behind what was printed before.
 fn end_run(b: Bench, recs: &mut [Session], out: &mut [u8]) -> Bench
-    requires { ⌜ (b .made ≤ 57344) × (65536 ≤ length (now out)) ⌝ }
+    requires { ⌜ (b .made ≤ mostMade) × (65536 ≤ length (now out)) ⌝ }
     ensures { λ r. ⌜ now (out .exit) ≡ placed (b .made) (endPrints b (now (recs .entry))) (now (out .entry)) ⌝ }
 {
     bench_unit::end_of_input(b, recs, out)
 }
 
 fn finish(b: Bench, recs: &mut [Session], many: bool, buf: &[u8], end: usize, out: &mut [u8])
-    requires { ⌜ (b .made ≤ 57344) × (65536 ≤ length (now out)) ⌝ }
+    requires { ⌜ (b .made ≤ mostMade) × (65536 ≤ length (now out)) ⌝ }
 {
     let rest = bench_unit::front(buf, end);
     let c = take_rest(b, recs, many, rest, out);

@@ -1,6 +1,6 @@
 -- Nothing that the bench prints for a line of input is cut. What a line prints is told as a text without a buffer (`linePrints`); every line lays that
--- text behind what was printed before (`line-adds`), it has at most 4,400 characters (`line-most`), and so it is laid whole wherever 8,192 octets are
--- left (`line-whole`). The same of the lines at the end (`end-whole`). The program `bench` keeps that room.
+-- text behind what was printed before (`line-adds`), and it is laid whole wherever there is room for a line (`lineRoom`, `line-whole`). The same of the
+-- lines at the end (`end-whole`). The program `bench` keeps that room.
 -- Assumes nothing.
 use Prim.Native.Nat.{ℕ, zero, suc, _+_, _*_, _≤_}
 use mathlib.Core.Bool.{true, false, not, _&&_}
@@ -27,7 +27,7 @@ use Rattle.bench_unit.specs.declared.Bench.{Bench}
 use Rattle.bench_unit.specs.State.{Ran, firstPhase, plans, runs, over, lentReply, withLine, withMade, keptIn, printed, answeredShown, unitShown}
 use Rattle.bench_unit.specs.Plans.{firstLine, oneMore, planTaken, startLine}
 use Rattle.bench_unit.specs.Ended.{endOfInput}
-use Rattle.bench_unit.specs.Whole.{Adds, adds-none, adds-on, adds-printed, adds-within, adds-whole, planPrints, endPrints, bad-adds, plan-adds, plan-phase, plan-node, plan-table, plan-lines, plan-most, end-adds, end-most}
+use Rattle.bench_unit.specs.Whole.{Adds, adds-none, adds-on, adds-printed, adds-within, adds-whole, planPrints, endPrints, bad-adds, plan-adds, plan-phase, plan-node, plan-table, plan-lines, plan-most, placeRoom, end-adds, end-most}
 use Rattle.bench_run.specs.declared.Ask.{Ask}
 use Rattle.bench_run.specs.Run.{sendTry, hasDue, sentShown, oneSent, sentTimes, allSent, thenSent, userText, userShown, userRun, downText, downShown, gpduMost, lentOutput, downRun}
 use Rattle.bench_run.specs.Taken.{controlCall, userCall, downCall, tickCall, closeCall, askOf, askRun, runLine, isPoint, pointLine, leavePlan, earlyLine, lentOctets, toldTaken, lineTaken}
@@ -260,8 +260,8 @@ sends-most (suc k) node t =
     let r = sends-most k (sendOf node t lentReply .answer .node) (sendOf node t lentReply .table) in
     split (eqb (sendOf node t lentReply .answer .number) 0) (λ e. rw e (simp length-append (omega arith))) (λ e. rw e (omega arith))
 
-then-most : (x : Outcome) → length (x .reply) ≡ 0 → length (thenPrints x) ≤ 2493
-unfolding thenPrints places
+then-most : (x : Outcome) → length (x .reply) ≡ 0 → length (thenPrints x) ≤ 61 + 38 * places
+unfolding thenPrints
 then-most x h =
     let a = unit-most x 0 h in
     let b = sends-most (places + 1) (x .answer .node) (x .table) in
@@ -290,7 +290,8 @@ output-most x h =
     let q = length-octets 4 (x .written .peer) in
     split (eqb (x .written .number) 0) (λ e. rw e (omega arith)) (λ e. rw e (omega arith))
 
-ask-most : (a : Ask) (octets : List ℕ) (lines : ℕ) (node : Node) (t : List Session) → length octets ≡ 2048 → length (askPrints a octets lines node t) ≤ 4377
+ask-most : (a : Ask) (octets : List ℕ) (lines : ℕ) (node : Node) (t : List Session) → length octets ≡ 2048
+    → length (askPrints a octets lines node t) ≤ 4377 + 38 * places
 unfolding askPrints leastReply
 ask-most a octets lines node t h =
     let d = take (a .size) octets in
@@ -308,7 +309,8 @@ ask-most a octets lines node t h =
     (λ g. rw g (split (eqb (a .kind) tickCall) (λ i. rw i (omega arith))
     (λ i. rw i (split (eqb (a .kind) closeCall) (λ j. rw j (omega arith)) (λ j. rw j (omega arith))))))))))
 
-leave-most : (line : Line) (octets : List ℕ) (b : Bench) (t : List Session) → length octets ≡ 2048 → length (leavePrints line octets b t) ≤ 4400
+leave-most : (line : Line) (octets : List ℕ) (b : Bench) (t : List Session) → length octets ≡ 2048
+    → length (leavePrints line octets b t) ≤ 4400 + 38 * places
 unfolding leavePrints
 leave-most line octets b t h =
     let p = plan-most (freshOf (b .node .plan) t .answer) in
@@ -353,7 +355,7 @@ octets-length : (text : List ℕ) → length (lineRead text lentOctets .octets) 
 unfolding lentOctets
 octets-length text = line-read-length text (replicate 2048 0) ∙ length-replicate {A = ℕ} 2048 0
 
-pub line-most : (text : List ℕ) (b : Bench) (t : List Session) → length (linePrints text b t) ≤ 4400
+pub line-most : (text : List ℕ) (b : Bench) (t : List Session) → length (linePrints text b t) ≤ 4400 + 38 * places
 unfolding linePrints toldPrints
 line-most text b t =
     let line = lineRead text lentOctets .line in
@@ -374,17 +376,23 @@ first-most text b t h =
     let p : eqb (b .phase) 1 ≡ false = rw h in
     rw (r, p) e
 
--- ---- with 8,192 octets left nothing is cut: the text stands whole behind what was printed before, and the rest of the buffer is as it was
-pub line-whole : (text : List ℕ) (b : Bench) (t : List Session) (out : List ℕ) → b .made + 8192 ≤ length out
+-- ---- with room for a line nothing is cut: the text stands whole behind what was printed before, and the rest of the buffer is as it was
+-- for what one line prints, and for the places at the end of a run before it
+unfoldable pub lineRoom : ℕ
+lineRoom = 4400 + placeRoom * places
+
+pub line-whole : (text : List ℕ) (b : Bench) (t : List Session) (out : List ℕ) → b .made + lineRoom ≤ length out
     → (lineTaken text b t out .bench .made ≡ b .made + length (linePrints text b t))
     × (lineTaken text b t out .out ≡ take (b .made) out ++ (linePrints text b t ++ drop (b .made + length (linePrints text b t)) out))
+unfolding lineRoom placeRoom leastReply
 line-whole text b t out h =
     let m = line-most text b t in
     adds-whole _ _ _ _ _ (line-adds text b t out (omega arith)) (omega arith)
 
-pub end-whole : (b : Bench) (t : List Session) (out : List ℕ) → b .made + 8192 ≤ length out
+pub end-whole : (b : Bench) (t : List Session) (out : List ℕ) → b .made + lineRoom ≤ length out
     → (endOfInput b t out .bench .made ≡ b .made + length (endPrints b t))
     × (endOfInput b t out .out ≡ take (b .made) out ++ (endPrints b t ++ drop (b .made + length (endPrints b t)) out))
+unfolding lineRoom placeRoom leastReply
 end-whole b t out h =
     let m = end-most b t in
     adds-whole _ _ _ _ _ (end-adds b t out (omega arith)) (omega arith)

@@ -26,7 +26,7 @@ digits-most (suc k) w n =
     let r = digits-most k (w - 1) (n / 10) in
     split (leb 10 n || ltb 1 w) (λ e. rw e (simp length-append (omega arith))) (λ e. rw e (omega arith))
 
-pub decimal-most : (w n : ℕ) → length (decimal w n) ≤ 20
+decimal-most : (w n : ℕ) → length (decimal w n) ≤ 20
 unfolding decimal
 decimal-most w n = digits-most 20 w n
 

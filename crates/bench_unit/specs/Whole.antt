@@ -1,35 +1,28 @@
 -- Nothing that the bench prints is cut: what a step prints is told as a text without a buffer; every step lays that text behind what was printed
 -- before (`Adds`), and text that fits the rest of the buffer is laid whole (`adds-whole`). Here: the plan and the end of the input, which prints at
--- most 7,918 characters (`end-most`).
+-- most 46 characters and `placeRoom` for each place (`end-most`).
 -- Assumes nothing.
-use Prim.Native.Nat.{ℕ, zero, suc, _+_, _*_, _<_, _≤_, _^_, min}
-use mathlib.Core.Bool.{true}
+use Prim.Native.Nat.{ℕ, zero, suc, _+_, _*_, _≤_, min}
 use mathlib.Core.List.{List, [], _∷_, _++_}
 use mathlib.Core.Path.{_≡_, refl, ap, _∙_}
 use native.Mathlib.Omega.{arith}
 use lib.ListN.{length, take, drop, getD, length-append, length-take}
-use lib.Dec.{eqb, ltb, leb}
-use borrow.Author.Tests.{leb-true, ltb-true}
-use Rattle.base_octets.specs.Choice.{pick, split, and-left, and-right}
+use lib.Dec.{eqb, ltb}
+use Rattle.base_octets.specs.Choice.{pick, split}
 use Rattle.base_octets.specs.Overlay.{overlay-fits}
-use Rattle.base_octets.specs.BigEndian.{octetsOf, length-octets}
-use Rattle.unit_tunnel.specs.Numbering.{places, lastUse}
+use Rattle.unit_tunnel.specs.Numbering.{places}
 use Rattle.base_numerals.specs.Laid.{layAt, laid, written, Written, laid-on, laid-in, laid-most, laid-length}
-use Rattle.base_numerals.specs.Decimal.{decimal-size}
-use Rattle.base_numerals.specs.Hex.{length-hex}
 use Rattle.unit_session.specs.declared.Session.{Session}
-use Rattle.unit_session.specs.Session.{isFree, heldOk, readOk, imsis, lastCreated}
-use Rattle.unit_session.specs.Keep.{live-of, ok-usage}
 use Rattle.unit_table.specs.declared.Node.{Node}
-use Rattle.unit_table.specs.Rules.{keepsRules, boundsOf, rules-of}
-use Rattle.unit_table.specs.Change.{nobody, record-ok}
+use Rattle.unit_table.specs.Rules.{keepsRules}
+use Rattle.unit_table.specs.Change.{nobody}
 use Rattle.unit_table.specs.Room.{sessions}
 use Rattle.call_own.specs.declared.Answer.{Answer}
 use Rattle.call_own.specs.Outcome.{leastReply}
 use Rattle.call_own.specs.Calls.{freshOf}
-use Rattle.call_line.specs.Line.{numberText, imsiText, addressText, heldText, dashes, restText, lineText, lineBy, lineOf}
+use Rattle.call_line.specs.Line.{lineBy, lineOf}
 use Rattle.bench_text.specs.Prints.{answerText, badText, liveText}
-use Rattle.bench_text.specs.Sizes.{decimal-most, answer-most, bad-most, live-most}
+use Rattle.bench_text.specs.Sizes.{answer-most, bad-most, live-most}
 use Rattle.bench_unit.specs.declared.Bench.{Bench}
 use Rattle.bench_unit.specs.State.{Shown, plans, runs, over, lentReply, withLine, withMade, keptIn, phased, badAt, printed, endBad, answeredShown}
 use Rattle.bench_unit.specs.Plans.{planShown, planTaken}
@@ -189,87 +182,33 @@ end-adds b t out h =
     (λ g. rw g (bad-adds (withLine b) out))))))
 
 -- ---- how long the texts are
-number-most : (n : ℕ) → length (numberText n) ≤ 21
-unfolding numberText
-number-most n = let r = decimal-most 1 n in omega arith
+-- a place prints at most a reply buffer of text, and a line end
+unfoldable pub placeRoom : ℕ
+placeRoom = leastReply + 1
 
-number-size : (n m : ℕ) → n < 10 ^ suc m → length (numberText n) ≤ suc (suc m)
-unfolding numberText
-number-size n m h = let r = decimal-size 1 n m (omega arith) h in omega arith
-
-address-size : (n : ℕ) → length (addressText n) ≡ 9
-unfolding addressText
-address-size n =
-    let h = length-hex (octetsOf 4 n) in
-    let l = length-octets 4 n in
-    omega arith
-
-imsi-size : (n : ℕ) → n < 10 ^ 15 → length (imsiText n) ≤ 16
-unfolding imsiText
-imsi-size n h = let r = decimal-size 15 n 14 (omega arith) h in omega arith
-
--- a free place has dashes; of the others the rules bound the IMSI, the EBI and the creating number
-module _ (node : Node) (t : List Session) (kept : keepsRules node t ≡ true) (place : ℕ) where
-  rest-most : length (restText (getD t place nobody)) ≤ 109
-  unfolding restText heldText dashes heldOk readOk imsis lastCreated boundsOf
-  rest-most =
-      let x = getD t place nobody in
-      let r = rules-of node t kept in
-      let ok = record-ok (node .plan) (node .echo) (node .next) t r place in
-      split (isFree x) (λ z. rw z (omega arith))
-      (λ z.
-      let v = live-of (boundsOf (node .plan)) x ok z .held in
-      let i : ltb (x .imsi) 1000000000000000 ≡ true = search (and-left, and-right) depth 9 in
-      let e : leb (x .ebi) 15 ≡ true = search (and-left, and-right) depth 9 in
-      let c : leb (x .created) lastCreated ≡ true = search (and-left, and-right) depth 9 in
-      let i′ = ltb-true (x .imsi) 1000000000000000 i in
-      let e′ = leb-true (x .ebi) 15 e in
-      let c′ = leb-true (x .created) lastCreated c in
-      let a1 = number-most (x .point) in
-      let a2 = imsi-size (x .imsi) (omega arith) in
-      let a3 = number-size (x .ebi) 1 (omega arith) in
-      let a4 = number-most (x .control) in
-      let a5 = address-size (x .controladdr) in
-      let a6 = number-most (x .user) in
-      let a7 = address-size (x .useraddr) in
-      let a8 = number-size (x .created) 7 (omega arith) in
-      rw z (simp length-append (omega arith)))
-
-  line-most : place < places → length (lineText place (getD t place nobody)) ≤ 122
-  unfolding lineText lastUse boundsOf places
-  line-most h =
-      let x = getD t place nobody in
-      let r = rules-of node t kept in
-      let ok = record-ok (node .plan) (node .echo) (node .next) t r place in
-      let u = ok-usage (boundsOf (node .plan)) x ok in
-      let a = decimal-size 1 place 1 (omega arith) (omega arith) in
-      let b = number-size (x .usage) 7 (omega arith) in
-      let d = rest-most in
-      simp length-append (omega arith)
-
-pub place-most : (node : Node) (t : List Session) (place : ℕ) → place < places → length (placePrints node t place) ≤ 123
-unfolding placePrints lineOf lineBy lentReply leastReply laid
-place-most node t place h =
+pub place-most : (node : Node) (t : List Session) (place : ℕ) → length (placePrints node t place) ≤ placeRoom
+unfolding placePrints lineOf lineBy lentReply placeRoom leastReply laid
+place-most node t place =
     split (eqb (getD t place nobody .usage) 0) (λ e. rw e (omega arith))
     (λ e. rw e (split (keepsRules node t)
     (λ k. rw k (split (ltb place (length t))
-    (λ i. let m = line-most node t k place h in rw i (simp (length-append, length-take) (omega arith)))
+    (λ i. rw i (simp (length-append, length-take) (omega arith)))
     (λ i. rw i (simp length-append (omega arith)))))
     (λ k. rw k (simp length-append (omega arith)))))
 
-places-most : (node : Node) (t : List Session) (k : ℕ) → k ≤ places → length (placesPrint node t k) ≤ 123 * k
-unfolding placesPrint
-places-most node t zero h = omega arith
-places-most node t (suc k) h =
-    let r = places-most node t k (omega arith) in
-    let p = place-most node t k (omega arith) in
+places-most : (node : Node) (t : List Session) (k : ℕ) → length (placesPrint node t k) ≤ placeRoom * k
+unfolding placesPrint placeRoom leastReply
+places-most node t zero = omega arith
+places-most node t (suc k) =
+    let r = places-most node t k in
+    let p = place-most node t k in
     simp length-append (omega arith)
 
-pub all-most : (node : Node) (t : List Session) → length (allPrint node t) ≤ 7895
-unfolding allPrint places
+pub all-most : (node : Node) (t : List Session) → length (allPrint node t) ≤ 23 + placeRoom * places
+unfolding allPrint placeRoom leastReply
 all-most node t =
     let a = live-most (sessions (take places t)) in
-    let r = places-most node t places (omega arith) in
+    let r = places-most node t places in
     simp length-append (omega arith)
 
 pub plan-most : (a : Answer) → length (planPrints a) ≤ 23
@@ -279,8 +218,8 @@ plan-most a =
     let z : length (take {A = ℕ} (a .size) []) ≡ 0 = simp length-take (omega arith) in
     split (eqb (a .number) 0) (λ e. rw e (omega arith)) (λ e. rw e (omega arith))
 
-pub end-most : (b : Bench) (t : List Session) → length (endPrints b t) ≤ 7918
-unfolding endPrints planEndPrints
+pub end-most : (b : Bench) (t : List Session) → length (endPrints b t) ≤ 46 + placeRoom * places
+unfolding endPrints planEndPrints placeRoom leastReply
 end-most b t =
     let a = all-most (b .node) t in
     let c = plan-most (freshOf (b .node .plan) t .answer) in

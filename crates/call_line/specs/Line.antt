@@ -16,6 +16,7 @@ use Rattle.base_octets.specs.Overlay.{overlay}
 use Rattle.base_numerals.specs.Laid.{laid, written, laid-front}
 use Rattle.base_numerals.specs.Decimal.{decimal, decimal-size}
 use Rattle.base_numerals.specs.Hex.{hexOf, length-hex}
+use Rattle.unit_tunnel.specs.Numbering.{places}
 use Rattle.unit_session.specs.declared.Session.{Session}
 use Rattle.unit_session.specs.Session.{isFree, isClosing}
 use Rattle.unit_table.specs.declared.Node.{Node}
@@ -69,7 +70,15 @@ unfoldable pub lineOf : Node → List Session → ℕ → List ℕ → Outcome
 lineOf node t place reply = backWith t (lineBy (keepsRules node t) (ltb place (length t)) node place (getD t place nobody) reply)
 
 -- ---- the line that is written
--- ---- no line is longer than 83 characters, so that none is cut: numbers of 32 bits, a use and a creating number of 24
+-- ---- no line is longer than the place's digits and 81 characters, so that none is cut: numbers of 32 bits, a use and a creating number of 24
+-- the digits of a place, at most
+unfoldable pub placeDigits : ℕ
+placeDigits = 3
+
+pub digits-hold : places ≤ 10 ^ placeDigits
+unfolding places placeDigits
+digits-hold = omega arith
+
 number-size : (n m : ℕ) → n < 10 ^ suc m → length (numberText n) ≤ suc (suc m)
 unfolding numberText
 number-size n m h = let r = decimal-size 1 n m (omega arith) h in omega arith
@@ -101,15 +110,16 @@ module _ (s : Session)
       let h = number-size (s .created) 7 created in
       split (isFree s) (λ z. rw z (omega arith)) (λ z. rw z (simp length-append (omega arith)))
 
-  pub line-size : (place : ℕ) → place < 10 ^ 2 → length (lineText place s) ≤ 83
-  unfolding lineText
+  pub line-size : (place : ℕ) → place < places → length (lineText place s) ≤ placeDigits + 81
+  unfolding lineText placeDigits
   line-size place h =
-      let a = decimal-size 1 place 1 (omega arith) h in
+      let d = digits-hold in
+      let a = decimal-size 1 place 2 (omega arith) (omega arith) in
       let b = number-size (s .usage) 7 usage in
       let r = rest-size in
       simp length-append (omega arith)
 
-  pub line-fits : (place : ℕ) (reply : List ℕ) → place < 10 ^ 2 → leastReply ≤ length reply
+  pub line-fits : (place : ℕ) (reply : List ℕ) → place < places → leastReply ≤ length reply
       → laid 0 (lineText place s) reply ≡ written (length (lineText place s)) (overlay (lineText place s) reply)
-  unfolding leastReply
+  unfolding leastReply placeDigits
   line-fits place reply h g = let r = line-size place h in laid-front (lineText place s) reply (omega arith)

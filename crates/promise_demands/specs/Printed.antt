@@ -72,7 +72,7 @@ module _ (b : Bounds) (few : b .parties ≤ 4) (x : Session) (ok : recordOk b x 
   small = split (isFree x) small-free small-live
 
 pub lines-whole : LinesWhole
-unfolding LinesWhole lineOf lineBy leastReply places boundsOf lastUse teids
+unfolding LinesWhole lineOf lineBy leastReply boundsOf lastUse teids
 lines-whole s k i h control user reply room =
     let r = rules-of (s .node) (s .table) k in
     let ok = record-ok (s .node .plan) (s .node .echo) (s .node .next) (s .table) r i in
@@ -83,5 +83,5 @@ lines-whole s k i h control user reply room =
       le-ltb (length reply) leastReply room,
       k,
       lt-ltb i (length (s .table)) (omega arith),
-      line-fits (at s i) (m .imsi) (m .point) (m .ebi) (omega arith) (omega arith) (m .created) (omega arith) i reply (omega arith) room,
+      line-fits (at s i) (m .imsi) (m .point) (m .ebi) (omega arith) (omega arith) (m .created) (omega arith) i reply h room,
     )

@@ -6,11 +6,11 @@
 //
 //   below P   a record: 0 IMSI, 1 use, 2 and 3 peer's control TEID and address, 4 and 5 peer's user TEID and address,
 //             6 creating number, 7 timer, 8 sends, 9 own number, 10 state, 11 access point, 12 EBI
-//   P         what goes with the records: 0 echo's timer, 1 its sends, 2 its number, 3 next number, 4 whether a Recovery is stored,
+//   1000      what goes with the records: 0 echo's timer, 1 its sends, 2 its number, 3 next number, 4 whether a Recovery is stored,
 //             5 which; of the plan: 6 pool base, 7 T, 8 N, 9 E, 10 how many access points
-//   P + 1 ..  an access point's slot: 0 name size, 1 guarantee, 2 ceiling, 3 first octet of the name, 4 its last octet
-//   P + 5     so many places as `field` says, from place 10 on, are live on access point `value`, with an IMSI each
-//   P + 6     no place was ever used
+//   1001 ..   an access point's slot: 0 name size, 1 guarantee, 2 ceiling, 3 first octet of the name, 4 its last octet
+//   1005      so many places as `field` says, from place 10 on, are live on access point `value`, with an IMSI each
+//   1006      no place was ever used
 //
 // The base keeps every rule. Two access points: g 1 and c 3, g 1 and c P; T 3, N 2, E 60; the echo is due in 60 ticks. Place 0 is
 // live on access point 0; place 1 is closing on access point 1 and was sent once, with number 5; place 2 is closing on it and was not
@@ -265,16 +265,18 @@ fn filled(mut t: Table, end: u64, point: u8) -> Table {
     t
 }
 
+// What a case names beside places: the node, the slots of access points, many places at once.
+const BESIDE: u64 = 1000;
+
 fn edited(mut c: Case, place: u64, field: u64, v: u64) -> Case {
-    let places = Unit::PLACES as u64;
-    if place < places {
+    if place < BESIDE {
         c.table = with_record(c.table, place as usize, field, v);
         return c;
     }
-    let past = place - places;
+    let past = place - BESIDE;
     match past {
         0 => c.node = with_node(c.node, field, v),
-        5 => c.table = filled(c.table, field % places + 10, low8(v)),
+        5 => c.table = filled(c.table, field % BESIDE + 10, low8(v)),
         6 => c.table = Table::fresh(),
         _ => {
             let mut n = c.node;

@@ -10,7 +10,7 @@ use Rattle.unit_session.proofs.Session as Session-t
 use Rattle.bench_unit.specs.Ended.{endOfInput}
 use Rattle.bench_unit.specs.State.{ran}
 use Rattle.bench_unit.specs.Whole.{endPrints}
-use Rattle.bench.specs.Room.{end-placed, placed}
+use Rattle.bench.specs.Room.{end-placed, mostMade, placed}
 use Rattle.bench_unit.proofs.end_of_input as c-end-of-input′
 use Rattle.bench_unit.proofs.end_of_input.Symbol as c-end-of-input-def
 use Rattle.bench_unit.proofs.end_of_input.Symbol.{name as #bench-unit·end-of-input}
@@ -85,7 +85,7 @@ module _ {M : Type 1} (𝓤 : URA M) (H : Heap 𝓤) (A : Atoms 𝓤) (W : Given
       nothing ! $ move ! (2 ∷ 0 ∷ []) $ fjoin ! $ move ! (1 ∷ 0 ∷ []) $ fjoin ! $ nothing ! $ fjoin ! $ done !
 
   module _ (C : Calls 𝓤 H) (Λ : Loops 𝓤 H) (fm : FmC 𝓤 H (W .laws) C) (known-end-of-input : Triple 𝓤 (C #bench-unit·end-of-input) (c-end-of-input 𝓤 H A mem run)) where
-    walk : Is Bench-t.the-row b (v-b ∷ []) → Room Session-t.the-row (length (recs .now)) → Room u8 (length (out .now)) → (b .made ≤ 57344) × (65536 ≤ length (now out)) → ent 𝓤 (onEntry 𝓤 H A entry′.signature (κ₀, (κ₁, tt)) (q₀, (q₁, tt)) a at) (WpFn 𝓤 H C Λ code.function (v-b ∷ v-recs ∷ v-out ∷ []) Post)
+    walk : Is Bench-t.the-row b (v-b ∷ []) → Room Session-t.the-row (length (recs .now)) → Room u8 (length (out .now)) → (b .made ≤ mostMade) × (65536 ≤ length (now out)) → ent 𝓤 (onEntry 𝓤 H A entry′.signature (κ₀, (κ₁, tt)) (q₀, (q₁, tt)) a at) (WpFn 𝓤 H C Λ code.function (v-b ∷ v-recs ∷ v-out ∷ []) Post)
     walk is-b room-recs room-out required =
         qed W ((Toks) ∷ ‵ (owns (Bench-t.the-row ∷ (MutSlice (named 0) κ₀ Session-t.the-row) ∷ (MutSlice (named 1) κ₁ u8) ∷ []) a at) ∷ []) ∵ enter ! C Λ code.function (v-b ∷ v-recs ∷ v-out ∷ []) _ $ alloc1 ! (λ l₀. alloc1 ! (λ l₁.
         alloc1 ! (λ l₂. alloc1 ! (λ l₃. alloc1 ! (λ l₄. alloc1 ! (λ l₅. alloc1 ! (λ l₆. alloc1 ! (λ l₇. alloc0 ! $ params1 ! $ pass1 ! (init ! 12 refl (LL.lawful Bench-t.the-type Bench-l.the-laws 𝓤 H A W .typed b _ is-b .0)) $

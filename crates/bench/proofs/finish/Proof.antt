@@ -12,7 +12,7 @@ use Rattle.bench_unit.proofs.Bench.Laws as Bench-l
 use Rattle.unit_session.specs.declared.Session.{Session}
 use Rattle.unit_session.proofs.Session as Session-t
 use Rattle.bench_unit.specs.Whole.{endPrints}
-use Rattle.bench.specs.Room.{placed}
+use Rattle.bench.specs.Room.{mostMade, placed}
 use lib.ListN.{take}
 use Rattle.bench.specs.Room.{room-of}
 use Rattle.bench_unit.proofs.front as c-front′
@@ -126,8 +126,8 @@ module _ {M : Type 1} (𝓤 : URA M) (H : Heap 𝓤) (A : Atoms 𝓤) (W : Given
       nothing ! $ move ! (2 ∷ 0 ∷ []) $ fjoin ! $ nothing ! $ fjoin ! $ nothing ! $ fjoin ! $ nothing ! $ fjoin ! $ move ! (1 ∷ 0 ∷ []) $ fjoin ! $ nothing ! $ fjoin ! $ done !
 
   module _ (C : Calls 𝓤 H) (Λ : Loops 𝓤 H) (fm : FmC 𝓤 H (W .laws) C) (known-front : Triple 𝓤 (C #bench-unit·front) (c-front 𝓤 H A mem run)) (known-take-rest : Triple 𝓤 (C #bench·take-rest) (c-take-rest 𝓤 H A mem run)) (known-end-run : Triple 𝓤 (C #bench·end-run) (c-end-run 𝓤 H A mem run)) (known-emit : Triple 𝓤 (C #bench·emit) (c-emit 𝓤 H A mem run)) where
-    module _ (is-b : Is Bench-t.the-row b (v-b ∷ [])) (room-recs : Room Session-t.the-row (length (recs .now))) (is-many : Is bool many (v-many ∷ [])) (room-buf : Room u8 (length (buf .now))) (is-end : Is usize end (v-end ∷ [])) (room-out : Room u8 (length (out .now))) (required : (b .made ≤ 57344) × (65536 ≤ length (now out))) (l₀ l₁ l₂ l₃ l₄ l₅ l₆ l₇ l₈ l₉ l₁₀ l₁₁ l₁₂ l₁₃ l₁₄ l₁₅ l₁₆ l₁₇ l₁₈ l₁₉ l₂₀ : ℕ) where
-      part-12 : (w-front : Val) → (r-front : (RefT (List ℕ))) → (e-front : now r-front ≡ take end (buf .now)) → (is-front : Is (ShrSlice (named 1) κ₁ u8) r-front (w-front ∷ [])) → (w-take-rest : Val) → (r-take-rest : Bench) → (z-take-rest : (Unit {0}) × ((List Session) × ((Unit {0}) × ((Unit {0}) × ((List ℕ) × Unit {0}))))) → (e-take-rest : r-take-rest .made ≤ 57344) → (is-take-rest : Is Bench-t.the-row r-take-rest (w-take-rest ∷ [])) → (len-take-rest-recs : length (z-take-rest .1 .0) ≡ length (ys-recs)) → (len-take-rest-out : length (z-take-rest .1 .1 .1 .1 .0) ≡ length (ys-out)) → (w-end-run : Val) → (r-end-run : Bench) → (z-end-run : (Unit {0}) × ((List Session) × ((List ℕ) × Unit {0}))) → (e-end-run : (z-end-run .1 .1 .0) ≡ placed (r-take-rest .made) (endPrints r-take-rest ((z-take-rest .1 .0))) ((z-take-rest .1 .1 .1 .1 .0))) → (is-end-run : Is Bench-t.the-row r-end-run (w-end-run ∷ [])) → (len-end-run-recs : length (z-end-run .1 .0) ≡ length ((z-take-rest .1 .0))) → (len-end-run-out : length (z-end-run .1 .1 .0) ≡ length ((z-take-rest .1 .1 .1 .1 .0))) → Sq W (‵ (froom (sliceTy (tyRef erased imm (pointee (u8 .written)))) l₂₀ 0) ∷ ‵ (fdies (sliceTy (tyRef erased imm (pointee (u8 .written)))) l₂₀) ∷ ‵ (froom (tyRef erased imm (pointee (u8 .written))) l₁₉ 0) ∷ ‵ (fdies (tyRef erased imm (pointee (u8 .written))) l₁₉) ∷ ‵ (froom Bench-l.mir l₁₈ 0) ∷ ‵ (fdies Bench-l.mir l₁₈) ∷ ‵ (fat fullShare (sliceTy (tyRef erased mut (pointee (u8 .written)))) l₁₇ 0 v-out) ∷ ‵ (fdies (sliceTy (tyRef erased mut (pointee (u8 .written)))) l₁₇) ∷ ‵ (froom (tyRef erased mut (pointee (u8 .written))) l₁₆ 0) ∷ ‵ (fdies (tyRef erased mut (pointee (u8 .written))) l₁₆) ∷ ‵ (fat fullShare (sliceTy (tyRef erased mut (pointee (Session-t.the-row .written)))) l₁₅ 0 v-recs) ∷ ‵ (fdies (sliceTy (tyRef erased mut (pointee (Session-t.the-row .written)))) l₁₅) ∷ ‵ (froom (tyRef erased mut (pointee (Session-t.the-row .written))) l₁₄ 0) ∷ ‵ (fdies (tyRef erased mut (pointee (Session-t.the-row .written))) l₁₄) ∷ ‵ (fat fullShare (sliceTy (tyRef erased mut (pointee (u8 .written)))) l₁₃ 0 v-out) ∷ ‵ (fdies (sliceTy (tyRef erased mut (pointee (u8 .written)))) l₁₃) ∷ ‵ (froom (tyRef erased mut (pointee (u8 .written))) l₁₂ 0) ∷ ‵ (fdies (tyRef erased mut (pointee (u8 .written))) l₁₂) ∷ ‵ (fat fullShare (sliceTy (tyRef erased mut (pointee (Session-t.the-row .written)))) l₁₁ 0 v-recs) ∷ ‵ (fdies (sliceTy (tyRef erased mut (pointee (Session-t.the-row .written)))) l₁₁) ∷ ‵ (froom (tyRef erased mut (pointee (Session-t.the-row .written))) l₁₀ 0) ∷ ‵ (fdies (tyRef erased mut (pointee (Session-t.the-row .written))) l₁₀) ∷ ‵ (fat fullShare Bench-l.mir l₉ 0 w-end-run) ∷ ‵ (fdies Bench-l.mir l₉) ∷ ‵ (fat fullShare Bench-l.mir l₈ 0 w-take-rest) ∷ ‵ (fdies Bench-l.mir l₈) ∷ ‵ (fat fullShare (sliceTy (tyRef erased imm (pointee (u8 .written)))) l₇ 0 w-front) ∷ ‵ (fdies (sliceTy (tyRef erased imm (pointee (u8 .written)))) l₇) ∷ ‵ (fat fullShare (sliceTy (tyRef (named 2) mut (pointee (u8 .written)))) l₆ 0 v-out) ∷ ‵ (fdies (sliceTy (tyRef (named 2) mut (pointee (u8 .written)))) l₆) ∷ ‵ (fat fullShare (tyInt w64) l₅ 0 v-end) ∷ ‵ (fdies (tyInt w64) l₅) ∷ ‵ (fat fullShare (sliceTy (tyRef (named 1) imm (pointee (u8 .written)))) l₄ 0 v-buf) ∷ ‵ (fdies (sliceTy (tyRef (named 1) imm (pointee (u8 .written)))) l₄) ∷ ‵ (fat fullShare tyBool l₃ 0 v-many) ∷ ‵ (fdies tyBool l₃) ∷ ‵ (fat fullShare (sliceTy (tyRef (named 0) mut (pointee (Session-t.the-row .written)))) l₂ 0 v-recs) ∷ ‵ (fdies (sliceTy (tyRef (named 0) mut (pointee (Session-t.the-row .written)))) l₂) ∷ ‵ (fat fullShare Bench-l.mir l₁ 0 v-b) ∷ ‵ (fdies Bench-l.mir l₁) ∷ ‵ (froom tyUnit l₀ 0) ∷ ‵ (fdies tyUnit l₀) ∷ ‵ (finally Session-t.the-row (recs .name) (z-end-run .1 .0)) ∷ ‵ Own-buf ∷ ‵ (MutSlice (named 2) κ₂ u8 .own (out-at γ-out (z-end-run .1 .1 .0)) (v-out ∷ [])) ∷ ‵ ((ShrSlice (named 1) κ₁ u8) .own r-front (w-front ∷ [])) ∷ ‵ (flft κ₀ q₀) ∷ ‵ (flft κ₁ q₁) ∷ ‵ (flft κ₂ q₂) ∷ []) (runs C Λ (En l₀ l₁ l₂ l₃ l₄ l₅ l₆ l₇ l₈ l₉ l₁₀ l₁₁ l₁₂ l₁₃ l₁₄ l₁₅ l₁₆ l₁₇ l₁₈ l₁₉ l₂₀) mir.t-12 (atRet (En l₀ l₁ l₂ l₃ l₄ l₅ l₆ l₇ l₈ l₉ l₁₀ l₁₁ l₁₂ l₁₃ l₁₄ l₁₅ l₁₆ l₁₇ l₁₈ l₁₉ l₂₀) Post))
+    module _ (is-b : Is Bench-t.the-row b (v-b ∷ [])) (room-recs : Room Session-t.the-row (length (recs .now))) (is-many : Is bool many (v-many ∷ [])) (room-buf : Room u8 (length (buf .now))) (is-end : Is usize end (v-end ∷ [])) (room-out : Room u8 (length (out .now))) (required : (b .made ≤ mostMade) × (65536 ≤ length (now out))) (l₀ l₁ l₂ l₃ l₄ l₅ l₆ l₇ l₈ l₉ l₁₀ l₁₁ l₁₂ l₁₃ l₁₄ l₁₅ l₁₆ l₁₇ l₁₈ l₁₉ l₂₀ : ℕ) where
+      part-12 : (w-front : Val) → (r-front : (RefT (List ℕ))) → (e-front : now r-front ≡ take end (buf .now)) → (is-front : Is (ShrSlice (named 1) κ₁ u8) r-front (w-front ∷ [])) → (w-take-rest : Val) → (r-take-rest : Bench) → (z-take-rest : (Unit {0}) × ((List Session) × ((Unit {0}) × ((Unit {0}) × ((List ℕ) × Unit {0}))))) → (e-take-rest : r-take-rest .made ≤ mostMade) → (is-take-rest : Is Bench-t.the-row r-take-rest (w-take-rest ∷ [])) → (len-take-rest-recs : length (z-take-rest .1 .0) ≡ length (ys-recs)) → (len-take-rest-out : length (z-take-rest .1 .1 .1 .1 .0) ≡ length (ys-out)) → (w-end-run : Val) → (r-end-run : Bench) → (z-end-run : (Unit {0}) × ((List Session) × ((List ℕ) × Unit {0}))) → (e-end-run : (z-end-run .1 .1 .0) ≡ placed (r-take-rest .made) (endPrints r-take-rest ((z-take-rest .1 .0))) ((z-take-rest .1 .1 .1 .1 .0))) → (is-end-run : Is Bench-t.the-row r-end-run (w-end-run ∷ [])) → (len-end-run-recs : length (z-end-run .1 .0) ≡ length ((z-take-rest .1 .0))) → (len-end-run-out : length (z-end-run .1 .1 .0) ≡ length ((z-take-rest .1 .1 .1 .1 .0))) → Sq W (‵ (froom (sliceTy (tyRef erased imm (pointee (u8 .written)))) l₂₀ 0) ∷ ‵ (fdies (sliceTy (tyRef erased imm (pointee (u8 .written)))) l₂₀) ∷ ‵ (froom (tyRef erased imm (pointee (u8 .written))) l₁₉ 0) ∷ ‵ (fdies (tyRef erased imm (pointee (u8 .written))) l₁₉) ∷ ‵ (froom Bench-l.mir l₁₈ 0) ∷ ‵ (fdies Bench-l.mir l₁₈) ∷ ‵ (fat fullShare (sliceTy (tyRef erased mut (pointee (u8 .written)))) l₁₇ 0 v-out) ∷ ‵ (fdies (sliceTy (tyRef erased mut (pointee (u8 .written)))) l₁₇) ∷ ‵ (froom (tyRef erased mut (pointee (u8 .written))) l₁₆ 0) ∷ ‵ (fdies (tyRef erased mut (pointee (u8 .written))) l₁₆) ∷ ‵ (fat fullShare (sliceTy (tyRef erased mut (pointee (Session-t.the-row .written)))) l₁₅ 0 v-recs) ∷ ‵ (fdies (sliceTy (tyRef erased mut (pointee (Session-t.the-row .written)))) l₁₅) ∷ ‵ (froom (tyRef erased mut (pointee (Session-t.the-row .written))) l₁₄ 0) ∷ ‵ (fdies (tyRef erased mut (pointee (Session-t.the-row .written))) l₁₄) ∷ ‵ (fat fullShare (sliceTy (tyRef erased mut (pointee (u8 .written)))) l₁₃ 0 v-out) ∷ ‵ (fdies (sliceTy (tyRef erased mut (pointee (u8 .written)))) l₁₃) ∷ ‵ (froom (tyRef erased mut (pointee (u8 .written))) l₁₂ 0) ∷ ‵ (fdies (tyRef erased mut (pointee (u8 .written))) l₁₂) ∷ ‵ (fat fullShare (sliceTy (tyRef erased mut (pointee (Session-t.the-row .written)))) l₁₁ 0 v-recs) ∷ ‵ (fdies (sliceTy (tyRef erased mut (pointee (Session-t.the-row .written)))) l₁₁) ∷ ‵ (froom (tyRef erased mut (pointee (Session-t.the-row .written))) l₁₀ 0) ∷ ‵ (fdies (tyRef erased mut (pointee (Session-t.the-row .written))) l₁₀) ∷ ‵ (fat fullShare Bench-l.mir l₉ 0 w-end-run) ∷ ‵ (fdies Bench-l.mir l₉) ∷ ‵ (fat fullShare Bench-l.mir l₈ 0 w-take-rest) ∷ ‵ (fdies Bench-l.mir l₈) ∷ ‵ (fat fullShare (sliceTy (tyRef erased imm (pointee (u8 .written)))) l₇ 0 w-front) ∷ ‵ (fdies (sliceTy (tyRef erased imm (pointee (u8 .written)))) l₇) ∷ ‵ (fat fullShare (sliceTy (tyRef (named 2) mut (pointee (u8 .written)))) l₆ 0 v-out) ∷ ‵ (fdies (sliceTy (tyRef (named 2) mut (pointee (u8 .written)))) l₆) ∷ ‵ (fat fullShare (tyInt w64) l₅ 0 v-end) ∷ ‵ (fdies (tyInt w64) l₅) ∷ ‵ (fat fullShare (sliceTy (tyRef (named 1) imm (pointee (u8 .written)))) l₄ 0 v-buf) ∷ ‵ (fdies (sliceTy (tyRef (named 1) imm (pointee (u8 .written)))) l₄) ∷ ‵ (fat fullShare tyBool l₃ 0 v-many) ∷ ‵ (fdies tyBool l₃) ∷ ‵ (fat fullShare (sliceTy (tyRef (named 0) mut (pointee (Session-t.the-row .written)))) l₂ 0 v-recs) ∷ ‵ (fdies (sliceTy (tyRef (named 0) mut (pointee (Session-t.the-row .written)))) l₂) ∷ ‵ (fat fullShare Bench-l.mir l₁ 0 v-b) ∷ ‵ (fdies Bench-l.mir l₁) ∷ ‵ (froom tyUnit l₀ 0) ∷ ‵ (fdies tyUnit l₀) ∷ ‵ (finally Session-t.the-row (recs .name) (z-end-run .1 .0)) ∷ ‵ Own-buf ∷ ‵ (MutSlice (named 2) κ₂ u8 .own (out-at γ-out (z-end-run .1 .1 .0)) (v-out ∷ [])) ∷ ‵ ((ShrSlice (named 1) κ₁ u8) .own r-front (w-front ∷ [])) ∷ ‵ (flft κ₀ q₀) ∷ ‵ (flft κ₁ q₁) ∷ ‵ (flft κ₂ q₂) ∷ []) (runs C Λ (En l₀ l₁ l₂ l₃ l₄ l₅ l₆ l₇ l₈ l₉ l₁₀ l₁₁ l₁₂ l₁₃ l₁₄ l₁₅ l₁₆ l₁₇ l₁₈ l₁₉ l₂₀) mir.t-12 (atRet (En l₀ l₁ l₂ l₃ l₄ l₅ l₆ l₇ l₈ l₉ l₁₀ l₁₁ l₁₂ l₁₃ l₁₄ l₁₅ l₁₆ l₁₇ l₁₈ l₁₉ l₂₀) Post))
       part-12 w-front r-front e-front is-front w-take-rest r-take-rest z-take-rest e-take-rest is-take-rest len-take-rest-recs len-take-rest-out w-end-run r-end-run z-end-run e-end-run is-end-run len-end-run-recs len-end-run-out =
           -- _19 = & _6.0.*
           assigns ! (addr ! (from ! (fld ! refl (hop ! (look-in ! 28 (sub ! 0 refl (whole !))) (stop !))))) (from ! (stop !)) (init ! 2 refl (tt, tt)) $
@@ -158,7 +158,7 @@ module _ {M : Type 1} (𝓤 : URA M) (H : Heap 𝓤) (A : Atoms 𝓤) (W : Given
           move ! (3 ∷ 0 ∷ []) $ join ! $ move ! (7 ∷ 0 ∷ []) $ join ! $ move ! (6 ∷ 0 ∷ []) $ join ! $ keep ! (0 ∷ 3 ∷ 2 ∷ 1 ∷ []) $
           by ! (exits tt vunit (z-end-run .1 .0) (z-end-run .1 .1 .0) (tt) (len-end-run-recs ∙ len-take-rest-recs) (len-end-run-out ∙ len-take-rest-out)))))))))
 
-      part-7 : (w-front : Val) → (r-front : (RefT (List ℕ))) → (e-front : now r-front ≡ take end (buf .now)) → (is-front : Is (ShrSlice (named 1) κ₁ u8) r-front (w-front ∷ [])) → (w-take-rest : Val) → (r-take-rest : Bench) → (z-take-rest : (Unit {0}) × ((List Session) × ((Unit {0}) × ((Unit {0}) × ((List ℕ) × Unit {0}))))) → (e-take-rest : r-take-rest .made ≤ 57344) → (is-take-rest : Is Bench-t.the-row r-take-rest (w-take-rest ∷ [])) → (len-take-rest-recs : length (z-take-rest .1 .0) ≡ length (ys-recs)) → (len-take-rest-out : length (z-take-rest .1 .1 .1 .1 .0) ≡ length (ys-out)) → Sq W (‵ (froom (sliceTy (tyRef erased imm (pointee (u8 .written)))) l₂₀ 0) ∷ ‵ (fdies (sliceTy (tyRef erased imm (pointee (u8 .written)))) l₂₀) ∷ ‵ (froom (tyRef erased imm (pointee (u8 .written))) l₁₉ 0) ∷ ‵ (fdies (tyRef erased imm (pointee (u8 .written))) l₁₉) ∷ ‵ (froom Bench-l.mir l₁₈ 0) ∷ ‵ (fdies Bench-l.mir l₁₈) ∷ ‵ (froom (sliceTy (tyRef erased mut (pointee (u8 .written)))) l₁₇ 0) ∷ ‵ (fdies (sliceTy (tyRef erased mut (pointee (u8 .written)))) l₁₇) ∷ ‵ (froom (tyRef erased mut (pointee (u8 .written))) l₁₆ 0) ∷ ‵ (fdies (tyRef erased mut (pointee (u8 .written))) l₁₆) ∷ ‵ (froom (sliceTy (tyRef erased mut (pointee (Session-t.the-row .written)))) l₁₅ 0) ∷ ‵ (fdies (sliceTy (tyRef erased mut (pointee (Session-t.the-row .written)))) l₁₅) ∷ ‵ (froom (tyRef erased mut (pointee (Session-t.the-row .written))) l₁₄ 0) ∷ ‵ (fdies (tyRef erased mut (pointee (Session-t.the-row .written))) l₁₄) ∷ ‵ (fat fullShare (sliceTy (tyRef erased mut (pointee (u8 .written)))) l₁₃ 0 v-out) ∷ ‵ (fdies (sliceTy (tyRef erased mut (pointee (u8 .written)))) l₁₃) ∷ ‵ (froom (tyRef erased mut (pointee (u8 .written))) l₁₂ 0) ∷ ‵ (fdies (tyRef erased mut (pointee (u8 .written))) l₁₂) ∷ ‵ (fat fullShare (sliceTy (tyRef erased mut (pointee (Session-t.the-row .written)))) l₁₁ 0 v-recs) ∷ ‵ (fdies (sliceTy (tyRef erased mut (pointee (Session-t.the-row .written)))) l₁₁) ∷ ‵ (froom (tyRef erased mut (pointee (Session-t.the-row .written))) l₁₀ 0) ∷ ‵ (fdies (tyRef erased mut (pointee (Session-t.the-row .written))) l₁₀) ∷ ‵ (froom Bench-l.mir l₉ 0) ∷ ‵ (fdies Bench-l.mir l₉) ∷ ‵ (fat fullShare Bench-l.mir l₈ 0 w-take-rest) ∷ ‵ (fdies Bench-l.mir l₈) ∷ ‵ (fat fullShare (sliceTy (tyRef erased imm (pointee (u8 .written)))) l₇ 0 w-front) ∷ ‵ (fdies (sliceTy (tyRef erased imm (pointee (u8 .written)))) l₇) ∷ ‵ (fat fullShare (sliceTy (tyRef (named 2) mut (pointee (u8 .written)))) l₆ 0 v-out) ∷ ‵ (fdies (sliceTy (tyRef (named 2) mut (pointee (u8 .written)))) l₆) ∷ ‵ (fat fullShare (tyInt w64) l₅ 0 v-end) ∷ ‵ (fdies (tyInt w64) l₅) ∷ ‵ (fat fullShare (sliceTy (tyRef (named 1) imm (pointee (u8 .written)))) l₄ 0 v-buf) ∷ ‵ (fdies (sliceTy (tyRef (named 1) imm (pointee (u8 .written)))) l₄) ∷ ‵ (fat fullShare tyBool l₃ 0 v-many) ∷ ‵ (fdies tyBool l₃) ∷ ‵ (fat fullShare (sliceTy (tyRef (named 0) mut (pointee (Session-t.the-row .written)))) l₂ 0 v-recs) ∷ ‵ (fdies (sliceTy (tyRef (named 0) mut (pointee (Session-t.the-row .written)))) l₂) ∷ ‵ (fat fullShare Bench-l.mir l₁ 0 v-b) ∷ ‵ (fdies Bench-l.mir l₁) ∷ ‵ (froom tyUnit l₀ 0) ∷ ‵ (fdies tyUnit l₀) ∷ ‵ Own-buf ∷ ‵ (MutSlice (named 2) κ₂ u8 .own (out-at γ-out (z-take-rest .1 .1 .1 .1 .0)) (v-out ∷ [])) ∷ ‵ ((ShrSlice (named 1) κ₁ u8) .own r-front (w-front ∷ [])) ∷ ‵ (MutSlice (named 0) κ₀ Session-t.the-row .own (recs-at γ-recs (z-take-rest .1 .0)) (v-recs ∷ [])) ∷ ‵ (flft κ₀ q₀) ∷ ‵ (flft κ₁ q₁) ∷ ‵ (flft κ₂ q₂) ∷ []) (runs C Λ (En l₀ l₁ l₂ l₃ l₄ l₅ l₆ l₇ l₈ l₉ l₁₀ l₁₁ l₁₂ l₁₃ l₁₄ l₁₅ l₁₆ l₁₇ l₁₈ l₁₉ l₂₀) mir.t-7 (atRet (En l₀ l₁ l₂ l₃ l₄ l₅ l₆ l₇ l₈ l₉ l₁₀ l₁₁ l₁₂ l₁₃ l₁₄ l₁₅ l₁₆ l₁₇ l₁₈ l₁₉ l₂₀) Post))
+      part-7 : (w-front : Val) → (r-front : (RefT (List ℕ))) → (e-front : now r-front ≡ take end (buf .now)) → (is-front : Is (ShrSlice (named 1) κ₁ u8) r-front (w-front ∷ [])) → (w-take-rest : Val) → (r-take-rest : Bench) → (z-take-rest : (Unit {0}) × ((List Session) × ((Unit {0}) × ((Unit {0}) × ((List ℕ) × Unit {0}))))) → (e-take-rest : r-take-rest .made ≤ mostMade) → (is-take-rest : Is Bench-t.the-row r-take-rest (w-take-rest ∷ [])) → (len-take-rest-recs : length (z-take-rest .1 .0) ≡ length (ys-recs)) → (len-take-rest-out : length (z-take-rest .1 .1 .1 .1 .0) ≡ length (ys-out)) → Sq W (‵ (froom (sliceTy (tyRef erased imm (pointee (u8 .written)))) l₂₀ 0) ∷ ‵ (fdies (sliceTy (tyRef erased imm (pointee (u8 .written)))) l₂₀) ∷ ‵ (froom (tyRef erased imm (pointee (u8 .written))) l₁₉ 0) ∷ ‵ (fdies (tyRef erased imm (pointee (u8 .written))) l₁₉) ∷ ‵ (froom Bench-l.mir l₁₈ 0) ∷ ‵ (fdies Bench-l.mir l₁₈) ∷ ‵ (froom (sliceTy (tyRef erased mut (pointee (u8 .written)))) l₁₇ 0) ∷ ‵ (fdies (sliceTy (tyRef erased mut (pointee (u8 .written)))) l₁₇) ∷ ‵ (froom (tyRef erased mut (pointee (u8 .written))) l₁₆ 0) ∷ ‵ (fdies (tyRef erased mut (pointee (u8 .written))) l₁₆) ∷ ‵ (froom (sliceTy (tyRef erased mut (pointee (Session-t.the-row .written)))) l₁₅ 0) ∷ ‵ (fdies (sliceTy (tyRef erased mut (pointee (Session-t.the-row .written)))) l₁₅) ∷ ‵ (froom (tyRef erased mut (pointee (Session-t.the-row .written))) l₁₄ 0) ∷ ‵ (fdies (tyRef erased mut (pointee (Session-t.the-row .written))) l₁₄) ∷ ‵ (fat fullShare (sliceTy (tyRef erased mut (pointee (u8 .written)))) l₁₃ 0 v-out) ∷ ‵ (fdies (sliceTy (tyRef erased mut (pointee (u8 .written)))) l₁₃) ∷ ‵ (froom (tyRef erased mut (pointee (u8 .written))) l₁₂ 0) ∷ ‵ (fdies (tyRef erased mut (pointee (u8 .written))) l₁₂) ∷ ‵ (fat fullShare (sliceTy (tyRef erased mut (pointee (Session-t.the-row .written)))) l₁₁ 0 v-recs) ∷ ‵ (fdies (sliceTy (tyRef erased mut (pointee (Session-t.the-row .written)))) l₁₁) ∷ ‵ (froom (tyRef erased mut (pointee (Session-t.the-row .written))) l₁₀ 0) ∷ ‵ (fdies (tyRef erased mut (pointee (Session-t.the-row .written))) l₁₀) ∷ ‵ (froom Bench-l.mir l₉ 0) ∷ ‵ (fdies Bench-l.mir l₉) ∷ ‵ (fat fullShare Bench-l.mir l₈ 0 w-take-rest) ∷ ‵ (fdies Bench-l.mir l₈) ∷ ‵ (fat fullShare (sliceTy (tyRef erased imm (pointee (u8 .written)))) l₇ 0 w-front) ∷ ‵ (fdies (sliceTy (tyRef erased imm (pointee (u8 .written)))) l₇) ∷ ‵ (fat fullShare (sliceTy (tyRef (named 2) mut (pointee (u8 .written)))) l₆ 0 v-out) ∷ ‵ (fdies (sliceTy (tyRef (named 2) mut (pointee (u8 .written)))) l₆) ∷ ‵ (fat fullShare (tyInt w64) l₅ 0 v-end) ∷ ‵ (fdies (tyInt w64) l₅) ∷ ‵ (fat fullShare (sliceTy (tyRef (named 1) imm (pointee (u8 .written)))) l₄ 0 v-buf) ∷ ‵ (fdies (sliceTy (tyRef (named 1) imm (pointee (u8 .written)))) l₄) ∷ ‵ (fat fullShare tyBool l₃ 0 v-many) ∷ ‵ (fdies tyBool l₃) ∷ ‵ (fat fullShare (sliceTy (tyRef (named 0) mut (pointee (Session-t.the-row .written)))) l₂ 0 v-recs) ∷ ‵ (fdies (sliceTy (tyRef (named 0) mut (pointee (Session-t.the-row .written)))) l₂) ∷ ‵ (fat fullShare Bench-l.mir l₁ 0 v-b) ∷ ‵ (fdies Bench-l.mir l₁) ∷ ‵ (froom tyUnit l₀ 0) ∷ ‵ (fdies tyUnit l₀) ∷ ‵ Own-buf ∷ ‵ (MutSlice (named 2) κ₂ u8 .own (out-at γ-out (z-take-rest .1 .1 .1 .1 .0)) (v-out ∷ [])) ∷ ‵ ((ShrSlice (named 1) κ₁ u8) .own r-front (w-front ∷ [])) ∷ ‵ (MutSlice (named 0) κ₀ Session-t.the-row .own (recs-at γ-recs (z-take-rest .1 .0)) (v-recs ∷ [])) ∷ ‵ (flft κ₀ q₀) ∷ ‵ (flft κ₁ q₁) ∷ ‵ (flft κ₂ q₂) ∷ []) (runs C Λ (En l₀ l₁ l₂ l₃ l₄ l₅ l₆ l₇ l₈ l₉ l₁₀ l₁₁ l₁₂ l₁₃ l₁₄ l₁₅ l₁₆ l₁₇ l₁₈ l₁₉ l₂₀) mir.t-7 (atRet (En l₀ l₁ l₂ l₃ l₄ l₅ l₆ l₇ l₈ l₉ l₁₀ l₁₁ l₁₂ l₁₃ l₁₄ l₁₅ l₁₆ l₁₇ l₁₈ l₁₉ l₂₀) Post))
       part-7 w-front r-front e-front is-front w-take-rest r-take-rest z-take-rest e-take-rest is-take-rest len-take-rest-recs len-take-rest-out =
           -- _14 = & _2.0.*
           assigns ! (addr ! (from ! (fld ! refl (hop ! (look-in ! 36 (sub ! 0 refl (whole !))) (stop !))))) (from ! (stop !)) (init ! 12 refl (tt, tt)) $
@@ -212,10 +212,10 @@ module _ {M : Type 1} (𝓤 : URA M) (H : Heap 𝓤) (A : Atoms 𝓤) (W : Given
           calls-at ! fm (c-take-rest 𝓤 H A mem run) known-take-rest ((((ν-recs ∷ []), (κ₁, ((ν-out ∷ []), tt))), (fullShare, (q₁, (fullShare, tt))), tt, (b, ((recs-at δ-take-rest-recs ys-recs), (many, (r-front, ((out-at δ-take-rest-out ys-out), tt))))), (v-b ∷ [], (v-recs ∷ [], (v-many ∷ [], (w-front ∷ [], (v-out ∷ [], tt)))))), tt) (and-then ! (load ! (from ! (stop !)) (look ! 42 refl)) (and-then ! (load ! (from ! (stop !)) (look ! 22 refl)) (and-then ! (load ! (from ! (stop !)) (look ! 38 refl)) (and-then ! (load ! (from ! (stop !)) (look ! 30 refl)) (and-then ! (load ! (from ! (stop !)) (look ! 18 refl)) (no-more !)))))) (λ w-take-rest.
           use1 W (later (some (λ (r-take-rest : Bench). ((‵ (flft (ν-recs ∷ []) fullShare) ⊛ ‵ (flft κ₁ q₁) ⊛ ‵ (flft (ν-out ∷ []) fullShare) ⊛ ‵ ftrue) ⊛ ‵ (Bench-t.the-row .own r-take-rest (w-take-rest ∷ []))) ⊛ raw (ensured 𝓤 H A c-take-rest′.ended (c-take-rest′.clauses 𝓤 H A mem run) ((ν-recs ∷ []), (κ₁, ((ν-out ∷ []), tt))) (b, ((recs-at δ-take-rest-recs ys-recs), (many, (r-front, ((out-at δ-take-rest-out ys-out), tt))))) tt r-take-rest)))) (id⊢ 𝓤 _) $ await ! tt $
           pick ! (λ r-take-rest. split ! $ move ! (1 ∷ []) $
-          use1 W (some (λ (z-take-rest : (Unit {0}) × ((List Session) × ((Unit {0}) × ((Unit {0}) × ((List ℕ) × Unit {0}))))). ‵ (lasts c-take-rest′.ended ((ν-recs ∷ []), (κ₁, ((ν-out ∷ []), tt))) (b, ((recs-at δ-take-rest-recs ys-recs), (many, (r-front, ((out-at δ-take-rest-out ys-out), tt))))) z-take-rest) ⊛ raw (fact 𝓤 (r-take-rest .made ≤ 57344)))) (id⊢ 𝓤 _) $
-          pick ! (λ z-take-rest. split ! $ move ! (1 ∷ []) $ heard ! (r-take-rest .made ≤ 57344) (λ e-take-rest. fsplit ! $ drop ! $ fsplit ! $ fsplit ! $ move ! (1 ∷ []) $ feqL ! (λ len-take-rest-recs. move ! (1 ∷ []) $ fsplit ! $ drop ! $
-          fsplit ! $ drop ! $ fsplit ! $ fsplit ! $ move ! (1 ∷ []) $ feqL ! (λ len-take-rest-out. move ! (1 ∷ []) $ drop ! $ move ! (2 ∷ []) $ split ! $ split ! $ move ! (1 ∷ []) $ split ! $ move ! (1 ∷ []) $ split ! $ move ! (1 ∷ []) $
-          drop ! $ move ! (3 ∷ []) $ peeks ! Bench-t.the-row (Is Bench-t.the-row) (shows 𝓤 H A Bench-t.the-row) r-take-rest (w-take-rest ∷ []) (λ is-take-rest.
+          use1 W (some (λ (z-take-rest : (Unit {0}) × ((List Session) × ((Unit {0}) × ((Unit {0}) × ((List ℕ) × Unit {0}))))). ‵ (lasts c-take-rest′.ended ((ν-recs ∷ []), (κ₁, ((ν-out ∷ []), tt))) (b, ((recs-at δ-take-rest-recs ys-recs), (many, (r-front, ((out-at δ-take-rest-out ys-out), tt))))) z-take-rest) ⊛ raw (fact 𝓤 (r-take-rest .made ≤ mostMade)))) (id⊢ 𝓤 _) $
+          pick ! (λ z-take-rest. split ! $ move ! (1 ∷ []) $ heard ! (r-take-rest .made ≤ mostMade) (λ e-take-rest. fsplit ! $ drop ! $ fsplit ! $ fsplit ! $ move ! (1 ∷ []) $ feqL ! (λ len-take-rest-recs. move ! (1 ∷ []) $ fsplit ! $
+          drop ! $ fsplit ! $ drop ! $ fsplit ! $ fsplit ! $ move ! (1 ∷ []) $ feqL ! (λ len-take-rest-out. move ! (1 ∷ []) $ drop ! $ move ! (2 ∷ []) $ split ! $ split ! $ move ! (1 ∷ []) $ split ! $ move ! (1 ∷ []) $ split ! $
+          move ! (1 ∷ []) $ drop ! $ move ! (3 ∷ []) $ peeks ! Bench-t.the-row (Is Bench-t.the-row) (shows 𝓤 H A Bench-t.the-row) r-take-rest (w-take-rest ∷ []) (λ is-take-rest.
           land ! (from ! (stop !)) (init ! 33 refl (LL.lawful Bench-t.the-type Bench-l.the-laws 𝓤 H A W .typed r-take-rest _ is-take-rest .0)) $ drop ! $ move ! (2 ∷ []) $ lft-end ! tt $ move ! (0 ∷ 7 ∷ 4 ∷ []) $
           use3 W (later (‵ (MutSlice (named 0) κ₀ Session-t.the-row .own (recs-at γ-recs (z-take-rest .1 .0)) (v-recs ∷ [])) ⊛ ‵ (flft κ₀ q₀))) (back-again Session-t.the-row κ₀ (ν-recs ∷ []) q₀ γ-recs b-recs o-recs 𝓤 H A W (named 0) (named 0) ys-recs δ-take-rest-recs (z-take-rest .1 .0) room-recs len-take-rest-recs) $ await ! tt $ split ! $
           move ! (2 ∷ []) $ lft-end ! tt $ move ! (0 ∷ 5 ∷ 4 ∷ []) $
@@ -240,7 +240,7 @@ module _ {M : Type 1} (𝓤 : URA M) (H : Heap 𝓤) (A : Atoms 𝓤) (W : Given
           keep ! (3 ∷ 4 ∷ 5 ∷ 6 ∷ 7 ∷ 8 ∷ 9 ∷ 10 ∷ 11 ∷ 12 ∷ 13 ∷ 14 ∷ 15 ∷ 16 ∷ 17 ∷ 18 ∷ 19 ∷ 20 ∷ 21 ∷ 22 ∷ 23 ∷ 24 ∷ 25 ∷ 26 ∷ 27 ∷ 28 ∷ 29 ∷ 30 ∷ 31 ∷ 32 ∷ 33 ∷ 34 ∷ 35 ∷ 36 ∷ 37 ∷ 38 ∷ 39 ∷ 40 ∷ 41 ∷ 42 ∷ 43 ∷ 44 ∷ 2 ∷ 45 ∷ 0 ∷ 46 ∷ 47 ∷ 1 ∷ 48 ∷ []) $
           part-2 w-front r-front e-front is-front)))))
 
-    walk : Is Bench-t.the-row b (v-b ∷ []) → Room Session-t.the-row (length (recs .now)) → Is bool many (v-many ∷ []) → Room u8 (length (buf .now)) → Is usize end (v-end ∷ []) → Room u8 (length (out .now)) → (b .made ≤ 57344) × (65536 ≤ length (now out)) → ent 𝓤 (onEntry 𝓤 H A entry′.signature (κ₀, (κ₁, (κ₂, tt))) (q₀, (q₁, (q₂, tt))) a at) (WpFn 𝓤 H C Λ code.function (v-b ∷ v-recs ∷ v-many ∷ v-buf ∷ v-end ∷ v-out ∷ []) Post)
+    walk : Is Bench-t.the-row b (v-b ∷ []) → Room Session-t.the-row (length (recs .now)) → Is bool many (v-many ∷ []) → Room u8 (length (buf .now)) → Is usize end (v-end ∷ []) → Room u8 (length (out .now)) → (b .made ≤ mostMade) × (65536 ≤ length (now out)) → ent 𝓤 (onEntry 𝓤 H A entry′.signature (κ₀, (κ₁, (κ₂, tt))) (q₀, (q₁, (q₂, tt))) a at) (WpFn 𝓤 H C Λ code.function (v-b ∷ v-recs ∷ v-many ∷ v-buf ∷ v-end ∷ v-out ∷ []) Post)
     walk is-b room-recs is-many room-buf is-end room-out required =
         qed W ((Toks) ∷ ‵ (owns (Bench-t.the-row ∷ (MutSlice (named 0) κ₀ Session-t.the-row) ∷ bool ∷ (ShrSlice (named 1) κ₁ u8) ∷ usize ∷ (MutSlice (named 2) κ₂ u8) ∷ []) a at) ∷ []) ∵ enter ! C Λ code.function (v-b ∷ v-recs ∷ v-many ∷ v-buf ∷ v-end ∷ v-out ∷ []) _ $
         alloc1 ! (λ l₀. alloc1 ! (λ l₁. alloc1 ! (λ l₂. alloc1 ! (λ l₃. alloc1 ! (λ l₄. alloc1 ! (λ l₅. alloc1 ! (λ l₆. alloc1 ! (λ l₇. alloc1 ! (λ l₈. alloc1 ! (λ l₉. alloc1 ! (λ l₁₀. alloc1 ! (λ l₁₁. alloc1 ! (λ l₁₂. alloc1 ! (λ l₁₃.

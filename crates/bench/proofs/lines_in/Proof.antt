@@ -14,6 +14,7 @@ use Rattle.bench_unit.proofs.Bench as Bench-t
 use Rattle.bench_unit.proofs.Bench.Laws as Bench-l
 use Rattle.unit_session.specs.declared.Session.{Session}
 use Rattle.unit_session.proofs.Session as Session-t
+use Rattle.bench.specs.Room.{mostMade}
 use Rattle.bench.specs.Room.{room-as, room-of}
 use Rattle.bench.proofs.turn_at as c-turn-at′
 use Rattle.bench.proofs.turn_at.Symbol as c-turn-at-def
@@ -109,7 +110,7 @@ module _ {M : Type 1} (𝓤 : URA M) (H : Heap 𝓤) (A : Atoms 𝓤) (W : Given
 
   -- what the contract says of the answer and of the last values
   abbrev Said : Turn → List Session → List ℕ → Type 0
-  Said r w-recs w-out = r .bench .made ≤ 57344
+  Said r w-recs w-out = r .bench .made ≤ mostMade
 
   exits : (r : Turn) (w : Val) (w-recs : List Session) (w-out : List ℕ) → Said r w-recs w-out → length w-recs ≡ length (recs .now) → length w-out ≡ length (out .now)
       → ent 𝓤 (⋆ 𝓤 H A (Toks ∷ ‵ (finally Session-t.the-row (recs .name) w-recs) ∷ ‵ (finally u8 (out .name) w-out) ∷ ‵ (Turn-t.the-row .own r (w ∷ [])) ∷ [])) (Post w)
@@ -118,7 +119,7 @@ module _ {M : Type 1} (𝓤 : URA M) (H : Heap 𝓤) (A : Atoms 𝓤) (W : Given
       suffices ! _ (ends-at 𝓤 H A entry′.ended stayed (entry′.clauses 𝓤 H A mem run) W bound w r (tt, (w-recs, (tt, (tt, (w-out, tt))))) (tt, (l-recs, (tt, (tt, (l-out, tt)))))) $ says ! e $ frame ! $
       nothing ! $ move ! (2 ∷ 0 ∷ []) $ fjoin ! $ nothing ! $ fjoin ! $ nothing ! $ fjoin ! $ move ! (1 ∷ 0 ∷ []) $ fjoin ! $ nothing ! $ fjoin ! $ done !
 
-  module _ (𝓣 : Tables 𝓤 H) (known-turn-at : Triple 𝓤 (𝓣 .C #bench·turn-at) (c-turn-at 𝓤 H A mem run)) (known-is-taken : Triple 𝓤 (𝓣 .C #bench·is-taken) (c-is-taken 𝓤 H A mem run)) (known-take-next : Triple 𝓤 (𝓣 .C #bench·take-next) (c-take-next 𝓤 H A mem run)) (is-b : Is Bench-t.the-row b (v-b ∷ [])) (room-recs : Room Session-t.the-row (length (recs .now))) (is-many : Is bool many (v-many ∷ [])) (room-s : Room u8 (length (s .now))) (room-out : Room u8 (length (out .now))) (required : (b .made ≤ 57344) × (65536 ≤ length (now out))) (l₀ l₁ l₂ l₃ l₄ l₅ l₆ l₇ l₈ l₉ l₁₀ l₁₁ l₁₂ l₁₃ l₁₄ : ℕ) where
+  module _ (𝓣 : Tables 𝓤 H) (known-turn-at : Triple 𝓤 (𝓣 .C #bench·turn-at) (c-turn-at 𝓤 H A mem run)) (known-is-taken : Triple 𝓤 (𝓣 .C #bench·is-taken) (c-is-taken 𝓤 H A mem run)) (known-take-next : Triple 𝓤 (𝓣 .C #bench·take-next) (c-take-next 𝓤 H A mem run)) (is-b : Is Bench-t.the-row b (v-b ∷ [])) (room-recs : Room Session-t.the-row (length (recs .now))) (is-many : Is bool many (v-many ∷ [])) (room-s : Room u8 (length (s .now))) (room-out : Room u8 (length (out .now))) (required : (b .made ≤ mostMade) × (65536 ≤ length (now out))) (l₀ l₁ l₂ l₃ l₄ l₅ l₆ l₇ l₈ l₉ l₁₀ l₁₁ l₁₂ l₁₃ l₁₄ : ℕ) where
     abbrev C : Calls 𝓤 H
     C = 𝓣 .C
 
@@ -140,7 +141,7 @@ module _ {M : Type 1} (𝓤 : URA M) (H : Heap 𝓤) (A : Atoms 𝓤) (W : Given
         pub len-at-recs : length at-recs ≡ length ys-recs
         pub at-out : List ℕ
         pub len-at-out : length at-out ≡ length ys-out
-        pub held : (at-t .bench .made ≤ 57344) × (65536 ≤ length at-out)
+        pub held : (at-t .bench .made ≤ mostMade) × (65536 ≤ length at-out)
 
       abbrev Nearer : St → St → Type 0
       Nearer u v = (length (s .now)) - u .i < (length (s .now)) - v .i
@@ -208,8 +209,8 @@ module _ {M : Type 1} (𝓤 : URA M) (H : Heap 𝓤) (A : Atoms 𝓤) (W : Given
           calls-at ! fm (c-take-next 𝓤 H A mem run) known-take-next ((((ν-recs ∷ []), (κ₁, ((ν-out ∷ []), tt))), (fullShare, (q₁, (fullShare, tt))), tt, ((u .at-t), ((recs-at δ-take-next-recs (u .at-recs)), (many, (s, ((out-at δ-take-next-out (u .at-out)), tt))))), ((u .val-at-t) ∷ [], (v-recs ∷ [], (v-many ∷ [], (v-s ∷ [], (v-out ∷ [], tt)))))), tt) (and-then ! (load ! (from ! (stop !)) (look ! 18 refl)) (and-then ! (load ! (from ! (stop !)) (look ! 8 refl)) (and-then ! (load ! (from ! (stop !)) (look ! 26 refl)) (and-then ! (load ! (from ! (stop !)) (look ! 24 refl)) (and-then ! (load ! (from ! (stop !)) (look ! 4 refl)) (no-more !)))))) (λ w-take-next.
           use1 W (later (some (λ (r-take-next : Turn). ((‵ (flft (ν-recs ∷ []) fullShare) ⊛ ‵ (flft κ₁ q₁) ⊛ ‵ (flft (ν-out ∷ []) fullShare) ⊛ ‵ ftrue) ⊛ ‵ (Turn-t.the-row .own r-take-next (w-take-next ∷ []))) ⊛ raw (ensured 𝓤 H A c-take-next′.ended (c-take-next′.clauses 𝓤 H A mem run) ((ν-recs ∷ []), (κ₁, ((ν-out ∷ []), tt))) ((u .at-t), ((recs-at δ-take-next-recs (u .at-recs)), (many, (s, ((out-at δ-take-next-out (u .at-out)), tt))))) tt r-take-next)))) (id⊢ 𝓤 _) $ await ! tt $
           pick ! (λ r-take-next. split ! $ move ! (1 ∷ []) $
-          use1 W (some (λ (z-take-next : (Unit {0}) × ((List Session) × ((Unit {0}) × ((Unit {0}) × ((List ℕ) × Unit {0}))))). ‵ (lasts c-take-next′.ended ((ν-recs ∷ []), (κ₁, ((ν-out ∷ []), tt))) ((u .at-t), ((recs-at δ-take-next-recs (u .at-recs)), (many, (s, ((out-at δ-take-next-out (u .at-out)), tt))))) z-take-next) ⊛ raw (fact 𝓤 (r-take-next .bench .made ≤ 57344)))) (id⊢ 𝓤 _) $
-          pick ! (λ z-take-next. split ! $ move ! (1 ∷ []) $ heard ! (r-take-next .bench .made ≤ 57344) (λ e-take-next. fsplit ! $ drop ! $ fsplit ! $ fsplit ! $ move ! (1 ∷ []) $ feqL ! (λ len-take-next-recs. move ! (1 ∷ []) $ fsplit ! $
+          use1 W (some (λ (z-take-next : (Unit {0}) × ((List Session) × ((Unit {0}) × ((Unit {0}) × ((List ℕ) × Unit {0}))))). ‵ (lasts c-take-next′.ended ((ν-recs ∷ []), (κ₁, ((ν-out ∷ []), tt))) ((u .at-t), ((recs-at δ-take-next-recs (u .at-recs)), (many, (s, ((out-at δ-take-next-out (u .at-out)), tt))))) z-take-next) ⊛ raw (fact 𝓤 (r-take-next .bench .made ≤ mostMade)))) (id⊢ 𝓤 _) $
+          pick ! (λ z-take-next. split ! $ move ! (1 ∷ []) $ heard ! (r-take-next .bench .made ≤ mostMade) (λ e-take-next. fsplit ! $ drop ! $ fsplit ! $ fsplit ! $ move ! (1 ∷ []) $ feqL ! (λ len-take-next-recs. move ! (1 ∷ []) $ fsplit ! $
           drop ! $ fsplit ! $ drop ! $ fsplit ! $ fsplit ! $ move ! (1 ∷ []) $ feqL ! (λ len-take-next-out. move ! (1 ∷ []) $ drop ! $ move ! (2 ∷ []) $ split ! $ split ! $ move ! (1 ∷ []) $ split ! $ move ! (1 ∷ []) $ split ! $
           move ! (1 ∷ []) $ drop ! $ move ! (3 ∷ []) $ peeks ! Turn-t.the-row (Is Turn-t.the-row) (shows 𝓤 H A Turn-t.the-row) r-take-next (w-take-next ∷ []) (λ is-take-next.
           land ! (from ! (stop !)) (overwrite ! 23 refl (LL.lawful Turn-t.the-type Turn-l.the-laws 𝓤 H A W .typed r-take-next _ is-take-next .0)) $ drop ! $ move ! (2 ∷ []) $ lft-end ! tt $ move ! (0 ∷ 7 ∷ 4 ∷ []) $
@@ -259,7 +260,7 @@ module _ {M : Type 1} (𝓤 : URA M) (H : Heap 𝓤) (A : Atoms 𝓤) (W : Given
         move ! (2 ∷ 3 ∷ 4 ∷ 5 ∷ 6 ∷ 7 ∷ 8 ∷ 9 ∷ 10 ∷ 11 ∷ 12 ∷ 13 ∷ 14 ∷ 15 ∷ 16 ∷ 17 ∷ 18 ∷ 19 ∷ 20 ∷ 21 ∷ 22 ∷ 23 ∷ 24 ∷ 25 ∷ 26 ∷ 27 ∷ 28 ∷ 29 ∷ 30 ∷ 31 ∷ 32 ∷ 33 ∷ 1 ∷ 34 ∷ 0 ∷ 35 ∷ []) $
         first ! $ blocks ! $ loops ! 𝓣 (Nearer w-turn-at r-turn-at e-turn-at is-turn-at) (Nearer-wf w-turn-at r-turn-at e-turn-at is-turn-at) (At w-turn-at r-turn-at e-turn-at is-turn-at) (turns w-turn-at r-turn-at e-turn-at is-turn-at) (record { i = 0; le = zero-le; at-t = r-turn-at; val-at-t = w-turn-at; is-at-t = is-turn-at; at-recs = ys-recs; len-at-recs = refl; at-out = ys-out; len-at-out = refl; held = room-as b (r-turn-at .bench) ys-out required e-turn-at }))))))
 
-  walk : (𝓣 : Tables 𝓤 H) → Triple 𝓤 (𝓣 .C #bench·turn-at) (c-turn-at 𝓤 H A mem run) → Triple 𝓤 (𝓣 .C #bench·is-taken) (c-is-taken 𝓤 H A mem run) → Triple 𝓤 (𝓣 .C #bench·take-next) (c-take-next 𝓤 H A mem run) → Is Bench-t.the-row b (v-b ∷ []) → Room Session-t.the-row (length (recs .now)) → Is bool many (v-many ∷ []) → Room u8 (length (s .now)) → Room u8 (length (out .now)) → (b .made ≤ 57344) × (65536 ≤ length (now out)) → ent 𝓤 (onEntry 𝓤 H A entry′.signature (κ₀, (κ₁, (κ₂, tt))) (q₀, (q₁, (q₂, tt))) a at) (WpFn 𝓤 H (𝓣 .C) (𝓣 .Λ) code.function (v-b ∷ v-recs ∷ v-many ∷ v-s ∷ v-out ∷ []) Post)
+  walk : (𝓣 : Tables 𝓤 H) → Triple 𝓤 (𝓣 .C #bench·turn-at) (c-turn-at 𝓤 H A mem run) → Triple 𝓤 (𝓣 .C #bench·is-taken) (c-is-taken 𝓤 H A mem run) → Triple 𝓤 (𝓣 .C #bench·take-next) (c-take-next 𝓤 H A mem run) → Is Bench-t.the-row b (v-b ∷ []) → Room Session-t.the-row (length (recs .now)) → Is bool many (v-many ∷ []) → Room u8 (length (s .now)) → Room u8 (length (out .now)) → (b .made ≤ mostMade) × (65536 ≤ length (now out)) → ent 𝓤 (onEntry 𝓤 H A entry′.signature (κ₀, (κ₁, (κ₂, tt))) (q₀, (q₁, (q₂, tt))) a at) (WpFn 𝓤 H (𝓣 .C) (𝓣 .Λ) code.function (v-b ∷ v-recs ∷ v-many ∷ v-s ∷ v-out ∷ []) Post)
   walk 𝓣 known-turn-at known-is-taken known-take-next is-b room-recs is-many room-s room-out required =
       qed W ((Toks) ∷ ‵ (owns (Bench-t.the-row ∷ (MutSlice (named 0) κ₀ Session-t.the-row) ∷ bool ∷ (ShrSlice (named 1) κ₁ u8) ∷ (MutSlice (named 2) κ₂ u8) ∷ []) a at) ∷ []) ∵ enter ! (𝓣 .C) (𝓣 .Λ) code.function (v-b ∷ v-recs ∷ v-many ∷ v-s ∷ v-out ∷ []) _ $
       alloc1 ! (λ l₀. alloc1 ! (λ l₁. alloc1 ! (λ l₂. alloc1 ! (λ l₃. alloc1 ! (λ l₄. alloc1 ! (λ l₅. alloc1 ! (λ l₆. alloc1 ! (λ l₇. alloc1 ! (λ l₈. alloc1 ! (λ l₉. alloc1 ! (λ l₁₀. alloc1 ! (λ l₁₁. alloc1 ! (λ l₁₂. alloc1 ! (λ l₁₃.

@@ -17,6 +17,7 @@ use Rattle.bench.specs.declared.Turn.{Turn}
 use Rattle.bench.proofs.Turn as Turn-t
 use Rattle.bench.proofs.Turn.Laws as Turn-l
 use Rattle.bench_unit.specs.State.{benchStart}
+use Rattle.bench.specs.Room.{mostMade}
 use Rattle.bench.specs.Room.{room-first, room-of, made-as}
 use Rattle.bench.proofs.is_many as c-is-many′
 use Rattle.bench.proofs.is_many.Symbol as c-is-many-def
@@ -197,7 +198,7 @@ module _ {M : Type 1} (𝓤 : URA M) (H : Heap 𝓤) (A : Atoms 𝓤) (W : Given
         pub len-at-buf : length at-buf ≡ length ys-buf
         pub at-out : List ℕ
         pub len-at-out : length at-out ≡ length ys-out
-        pub held : (at-b .made ≤ 57344) × (65536 ≤ length at-out)
+        pub held : (at-b .made ≤ mostMade) × (65536 ≤ length at-out)
 
       abbrev Nearer : St → St → Type 0
       Nearer u v = r-turns-most - u .i < r-turns-most - v .i
@@ -312,8 +313,8 @@ module _ {M : Type 1} (𝓤 : URA M) (H : Heap 𝓤) (A : Atoms 𝓤) (W : Given
           calls-at ! fm (c-take-lines 𝓤 H A mem run) known-take-lines ((((ν-recs ∷ []), ((ν-buf ∷ []), ((ν-out ∷ []), tt))), (fullShare, (fullShare, (fullShare, tt))), tt, ((u .at-b), ((recs-at δ-take-lines-recs (u .at-recs)), (r-is-many, ((buf-at δ-take-lines-buf (z-fill .0)), (r-fill, ((out-at δ-take-lines-out (u .at-out)), tt)))))), ((u .val-at-b) ∷ [], (v-recs ∷ [], (w-is-many ∷ [], (v-buf ∷ [], ((vint w64 r-fill) ∷ [], (v-out ∷ [], tt))))))), tt) (and-then ! (load ! (from ! (stop !)) (look ! 56 refl)) (and-then ! (load ! (from ! (stop !)) (look ! 22 refl)) (and-then ! (load ! (from ! (stop !)) (look ! 60 refl)) (and-then ! (load ! (from ! (stop !)) (look ! 18 refl)) (and-then ! (load ! (from ! (stop !)) (look ! 50 refl)) (and-then ! (load ! (from ! (stop !)) (look ! 14 refl)) (no-more !))))))) (λ w-take-lines.
           use1 W (later (some (λ (r-take-lines : Turn). ((‵ (flft (ν-recs ∷ []) fullShare) ⊛ ‵ (flft (ν-buf ∷ []) fullShare) ⊛ ‵ (flft (ν-out ∷ []) fullShare) ⊛ ‵ ftrue) ⊛ ‵ (Turn-t.the-row .own r-take-lines (w-take-lines ∷ []))) ⊛ raw (ensured 𝓤 H A c-take-lines′.ended (c-take-lines′.clauses 𝓤 H A mem run) ((ν-recs ∷ []), ((ν-buf ∷ []), ((ν-out ∷ []), tt))) ((u .at-b), ((recs-at δ-take-lines-recs (u .at-recs)), (r-is-many, ((buf-at δ-take-lines-buf (z-fill .0)), (r-fill, ((out-at δ-take-lines-out (u .at-out)), tt)))))) tt r-take-lines)))) (id⊢ 𝓤 _) $ await ! tt $
           pick ! (λ r-take-lines. split ! $ move ! (1 ∷ []) $
-          use1 W (some (λ (z-take-lines : (Unit {0}) × ((List Session) × ((Unit {0}) × ((Unit {0}) × ((Unit {0}) × ((List ℕ) × Unit {0})))))). ‵ (lasts c-take-lines′.ended ((ν-recs ∷ []), ((ν-buf ∷ []), ((ν-out ∷ []), tt))) ((u .at-b), ((recs-at δ-take-lines-recs (u .at-recs)), (r-is-many, ((buf-at δ-take-lines-buf (z-fill .0)), (r-fill, ((out-at δ-take-lines-out (u .at-out)), tt)))))) z-take-lines) ⊛ raw (fact 𝓤 (r-take-lines .bench .made ≤ 57344)))) (id⊢ 𝓤 _) $
-          pick ! (λ z-take-lines. split ! $ move ! (1 ∷ []) $ heard ! (r-take-lines .bench .made ≤ 57344) (λ e-take-lines. fsplit ! $ drop ! $ fsplit ! $ fsplit ! $ move ! (1 ∷ []) $ feqL ! (λ len-take-lines-recs. move ! (1 ∷ []) $
+          use1 W (some (λ (z-take-lines : (Unit {0}) × ((List Session) × ((Unit {0}) × ((Unit {0}) × ((Unit {0}) × ((List ℕ) × Unit {0})))))). ‵ (lasts c-take-lines′.ended ((ν-recs ∷ []), ((ν-buf ∷ []), ((ν-out ∷ []), tt))) ((u .at-b), ((recs-at δ-take-lines-recs (u .at-recs)), (r-is-many, ((buf-at δ-take-lines-buf (z-fill .0)), (r-fill, ((out-at δ-take-lines-out (u .at-out)), tt)))))) z-take-lines) ⊛ raw (fact 𝓤 (r-take-lines .bench .made ≤ mostMade)))) (id⊢ 𝓤 _) $
+          pick ! (λ z-take-lines. split ! $ move ! (1 ∷ []) $ heard ! (r-take-lines .bench .made ≤ mostMade) (λ e-take-lines. fsplit ! $ drop ! $ fsplit ! $ fsplit ! $ move ! (1 ∷ []) $ feqL ! (λ len-take-lines-recs. move ! (1 ∷ []) $
           fsplit ! $ drop ! $ fsplit ! $ drop ! $ fsplit ! $ drop ! $ fsplit ! $ fsplit ! $ move ! (1 ∷ []) $ feqL ! (λ len-take-lines-out. move ! (1 ∷ []) $ drop ! $ move ! (2 ∷ []) $ split ! $ split ! $ move ! (1 ∷ []) $ split ! $
           move ! (1 ∷ []) $ split ! $ move ! (1 ∷ []) $ drop ! $ move ! (3 ∷ []) $ peeks ! Turn-t.the-row (Is Turn-t.the-row) (shows 𝓤 H A Turn-t.the-row) r-take-lines (w-take-lines ∷ []) (λ is-take-lines.
           land ! (from ! (stop !)) (init ! 53 refl (LL.lawful Turn-t.the-type Turn-l.the-laws 𝓤 H A W .typed r-take-lines _ is-take-lines .0)) $ drop ! $ move ! (2 ∷ []) $ lft-end ! tt $ move ! (0 ∷ 7 ∷ 4 ∷ []) $

@@ -12,7 +12,7 @@ use Rattle.unit_session.specs.declared.Session.{Session}
 use Rattle.unit_session.proofs.Session as Session-t
 use Rattle.bench_run.specs.Taken.{lineTaken}
 use Rattle.bench_unit.specs.State.{ran}
-use Rattle.bench.specs.Room.{placed, run-placed, runPrints, startAnew}
+use Rattle.bench.specs.Room.{mostMade, placed, run-placed, runPrints, startAnew}
 use Rattle.bench.proofs.start_anew as c-start-anew′
 use Rattle.bench.proofs.start_anew.Symbol as c-start-anew-def
 use Rattle.bench.proofs.start_anew.Symbol.{name as #bench·start-anew}
@@ -104,7 +104,7 @@ module _ {M : Type 1} (𝓤 : URA M) (H : Heap 𝓤) (A : Atoms 𝓤) (W : Given
 
   -- what the contract says of the answer and of the last values
   abbrev Said : Bench → List Session → List ℕ → Type 0
-  Said r w-recs w-out = (r .made ≤ 57344) × (w-out ≡ placed (b .made) (runPrints b (recs .now) many (line .now)) (out .now))
+  Said r w-recs w-out = (r .made ≤ mostMade) × (w-out ≡ placed (b .made) (runPrints b (recs .now) many (line .now)) (out .now))
 
   exits : (r : Bench) (w : Val) (w-recs : List Session) (w-out : List ℕ) → Said r w-recs w-out → length w-recs ≡ length (recs .now) → length w-out ≡ length (out .now)
       → ent 𝓤 (⋆ 𝓤 H A (Toks ∷ ‵ (finally Session-t.the-row (recs .name) w-recs) ∷ ‵ (finally u8 (out .name) w-out) ∷ ‵ (Bench-t.the-row .own r (w ∷ [])) ∷ [])) (Post w)
@@ -114,7 +114,7 @@ module _ {M : Type 1} (𝓤 : URA M) (H : Heap 𝓤) (A : Atoms 𝓤) (W : Given
       nothing ! $ move ! (2 ∷ 0 ∷ []) $ fjoin ! $ nothing ! $ fjoin ! $ nothing ! $ fjoin ! $ move ! (1 ∷ 0 ∷ []) $ fjoin ! $ nothing ! $ fjoin ! $ done !
 
   module _ (C : Calls 𝓤 H) (Λ : Loops 𝓤 H) (fm : FmC 𝓤 H (W .laws) C) (known-start-anew : Triple 𝓤 (C #bench·start-anew) (c-start-anew 𝓤 H A mem run)) (known-take-line : Triple 𝓤 (C #bench-run·take-line) (c-take-line 𝓤 H A mem run)) (known-emit-if-full : Triple 𝓤 (C #bench·emit-if-full) (c-emit-if-full 𝓤 H A mem run)) where
-    module _ (is-b : Is Bench-t.the-row b (v-b ∷ [])) (room-recs : Room Session-t.the-row (length (recs .now))) (is-many : Is bool many (v-many ∷ [])) (room-line : Room u8 (length (line .now))) (room-out : Room u8 (length (out .now))) (required : (b .made ≤ 57344) × (65536 ≤ length (now out))) (l₀ l₁ l₂ l₃ l₄ l₅ l₆ l₇ l₈ l₉ l₁₀ l₁₁ l₁₂ l₁₃ l₁₄ l₁₅ l₁₆ l₁₇ : ℕ) where
+    module _ (is-b : Is Bench-t.the-row b (v-b ∷ [])) (room-recs : Room Session-t.the-row (length (recs .now))) (is-many : Is bool many (v-many ∷ [])) (room-line : Room u8 (length (line .now))) (room-out : Room u8 (length (out .now))) (required : (b .made ≤ mostMade) × (65536 ≤ length (now out))) (l₀ l₁ l₂ l₃ l₄ l₅ l₆ l₇ l₈ l₉ l₁₀ l₁₁ l₁₂ l₁₃ l₁₄ l₁₅ l₁₆ l₁₇ : ℕ) where
       part-11 : (w-start-anew : Val) → (r-start-anew : Bench) → (z-start-anew : (Unit {0}) × ((List Session) × ((Unit {0}) × ((Unit {0}) × ((List ℕ) × Unit {0}))))) → (e-start-anew : ran r-start-anew (z-start-anew .1 .0) (z-start-anew .1 .1 .1 .1 .0) ≡ startAnew b (ys-recs) many (line .now) (ys-out)) → (is-start-anew : Is Bench-t.the-row r-start-anew (w-start-anew ∷ [])) → (len-start-anew-recs : length (z-start-anew .1 .0) ≡ length (ys-recs)) → (len-start-anew-out : length (z-start-anew .1 .1 .1 .1 .0) ≡ length (ys-out)) → (w-take-line : Val) → (r-take-line : Bench) → (z-take-line : (Unit {0}) × ((List Session) × ((Unit {0}) × ((List ℕ) × Unit {0})))) → (e-take-line : ran r-take-line (z-take-line .1 .0) (z-take-line .1 .1 .1 .0) ≡ lineTaken (line .now) r-start-anew ((z-start-anew .1 .0)) ((z-start-anew .1 .1 .1 .1 .0))) → (is-take-line : Is Bench-t.the-row r-take-line (w-take-line ∷ [])) → (len-take-line-recs : length (z-take-line .1 .0) ≡ length ((z-start-anew .1 .0))) → (len-take-line-out : length (z-take-line .1 .1 .1 .0) ≡ length ((z-start-anew .1 .1 .1 .1 .0))) → Sq W (‵ (froom (sliceTy (tyRef erased imm (pointee (u8 .written)))) l₁₇ 0) ∷ ‵ (fdies (sliceTy (tyRef erased imm (pointee (u8 .written)))) l₁₇) ∷ ‵ (froom (tyRef erased imm (pointee (u8 .written))) l₁₆ 0) ∷ ‵ (fdies (tyRef erased imm (pointee (u8 .written))) l₁₆) ∷ ‵ (fat fullShare (sliceTy (tyRef erased mut (pointee (u8 .written)))) l₁₅ 0 v-out) ∷ ‵ (fdies (sliceTy (tyRef erased mut (pointee (u8 .written)))) l₁₅) ∷ ‵ (froom (tyRef erased mut (pointee (u8 .written))) l₁₄ 0) ∷ ‵ (fdies (tyRef erased mut (pointee (u8 .written))) l₁₄) ∷ ‵ (fat fullShare (sliceTy (tyRef erased mut (pointee (Session-t.the-row .written)))) l₁₃ 0 v-recs) ∷ ‵ (fdies (sliceTy (tyRef erased mut (pointee (Session-t.the-row .written)))) l₁₃) ∷ ‵ (froom (tyRef erased mut (pointee (Session-t.the-row .written))) l₁₂ 0) ∷ ‵ (fdies (tyRef erased mut (pointee (Session-t.the-row .written))) l₁₂) ∷ ‵ (fat fullShare (sliceTy (tyRef erased mut (pointee (u8 .written)))) l₁₁ 0 v-out) ∷ ‵ (fdies (sliceTy (tyRef erased mut (pointee (u8 .written)))) l₁₁) ∷ ‵ (froom (tyRef erased mut (pointee (u8 .written))) l₁₀ 0) ∷ ‵ (fdies (tyRef erased mut (pointee (u8 .written))) l₁₀) ∷ ‵ (fat fullShare (sliceTy (tyRef erased mut (pointee (Session-t.the-row .written)))) l₉ 0 v-recs) ∷ ‵ (fdies (sliceTy (tyRef erased mut (pointee (Session-t.the-row .written)))) l₉) ∷ ‵ (froom (tyRef erased mut (pointee (Session-t.the-row .written))) l₈ 0) ∷ ‵ (fdies (tyRef erased mut (pointee (Session-t.the-row .written))) l₈) ∷ ‵ (fat fullShare Bench-l.mir l₇ 0 w-take-line) ∷ ‵ (fdies Bench-l.mir l₇) ∷ ‵ (fat fullShare Bench-l.mir l₆ 0 w-start-anew) ∷ ‵ (fdies Bench-l.mir l₆) ∷ ‵ (fat fullShare (sliceTy (tyRef (named 2) mut (pointee (u8 .written)))) l₅ 0 v-out) ∷ ‵ (fdies (sliceTy (tyRef (named 2) mut (pointee (u8 .written)))) l₅) ∷ ‵ (fat fullShare (sliceTy (tyRef (named 1) imm (pointee (u8 .written)))) l₄ 0 v-line) ∷ ‵ (fdies (sliceTy (tyRef (named 1) imm (pointee (u8 .written)))) l₄) ∷ ‵ (fat fullShare tyBool l₃ 0 v-many) ∷ ‵ (fdies tyBool l₃) ∷ ‵ (fat fullShare (sliceTy (tyRef (named 0) mut (pointee (Session-t.the-row .written)))) l₂ 0 v-recs) ∷ ‵ (fdies (sliceTy (tyRef (named 0) mut (pointee (Session-t.the-row .written)))) l₂) ∷ ‵ (fat fullShare Bench-l.mir l₁ 0 v-b) ∷ ‵ (fdies Bench-l.mir l₁) ∷ ‵ (froom Bench-l.mir l₀ 0) ∷ ‵ (fdies Bench-l.mir l₀) ∷ ‵ (finally Session-t.the-row (recs .name) (z-take-line .1 .0)) ∷ ‵ Own-line ∷ ‵ (MutSlice (named 2) κ₂ u8 .own (out-at γ-out (z-take-line .1 .1 .1 .0)) (v-out ∷ [])) ∷ ‵ (flft κ₀ q₀) ∷ ‵ (flft κ₁ q₁) ∷ ‵ (flft κ₂ q₂) ∷ []) (runs C Λ (En l₀ l₁ l₂ l₃ l₄ l₅ l₆ l₇ l₈ l₉ l₁₀ l₁₁ l₁₂ l₁₃ l₁₄ l₁₅ l₁₆ l₁₇) mir.t-11 (atRet (En l₀ l₁ l₂ l₃ l₄ l₅ l₆ l₇ l₈ l₉ l₁₀ l₁₁ l₁₂ l₁₃ l₁₄ l₁₅ l₁₆ l₁₇) Post))
       part-11 w-start-anew r-start-anew z-start-anew e-start-anew is-start-anew len-start-anew-recs len-start-anew-out w-take-line r-take-line z-take-line e-take-line is-take-line len-take-line-recs len-take-line-out =
           -- _16 = & _5.0.*
@@ -131,8 +131,8 @@ module _ {M : Type 1} (𝓤 : URA M) (H : Heap 𝓤) (A : Atoms 𝓤) (W : Given
           calls-at ! fm (c-emit-if-full 𝓤 H A mem run) known-emit-if-full ((((ν ∷ []), tt), (fullShare, tt), tt, (r-take-line, ((out-at δ-emit-if-full (z-take-line .1 .1 .1 .0)), tt)), (w-take-line ∷ [], (v-out ∷ [], tt))), tt) (and-then ! (load ! (from ! (stop !)) (look ! 22 refl)) (and-then ! (load ! (from ! (stop !)) (look ! 2 refl)) (no-more !))) (λ w-emit-if-full.
           use1 W (later (some (λ (r-emit-if-full : Bench). ((‵ (flft (ν ∷ []) fullShare) ⊛ ‵ ftrue) ⊛ ‵ (Bench-t.the-row .own r-emit-if-full (w-emit-if-full ∷ []))) ⊛ raw (ensured 𝓤 H A c-emit-if-full′.ended (c-emit-if-full′.clauses 𝓤 H A mem run) ((ν ∷ []), tt) (r-take-line, ((out-at δ-emit-if-full (z-take-line .1 .1 .1 .0)), tt)) tt r-emit-if-full)))) (id⊢ 𝓤 _) $ await ! tt $
           pick ! (λ r-emit-if-full. split ! $ move ! (1 ∷ []) $
-          use1 W (some (λ (z-emit-if-full : (Unit {0}) × ((Unit {0}) × Unit {0})). ‵ (lasts c-emit-if-full′.ended ((ν ∷ []), tt) (r-take-line, ((out-at δ-emit-if-full (z-take-line .1 .1 .1 .0)), tt)) z-emit-if-full) ⊛ raw (fact 𝓤 (r-emit-if-full .made ≤ 57344)))) (id⊢ 𝓤 _) $
-          pick ! (λ z-emit-if-full. split ! $ move ! (1 ∷ []) $ heard ! (r-emit-if-full .made ≤ 57344) (λ e-emit-if-full. fsplit ! $ drop ! $ fsplit ! $ drop ! $ drop ! $ split ! $ split ! $ move ! (1 ∷ []) $ drop ! $ move ! (1 ∷ []) $
+          use1 W (some (λ (z-emit-if-full : (Unit {0}) × ((Unit {0}) × Unit {0})). ‵ (lasts c-emit-if-full′.ended ((ν ∷ []), tt) (r-take-line, ((out-at δ-emit-if-full (z-take-line .1 .1 .1 .0)), tt)) z-emit-if-full) ⊛ raw (fact 𝓤 (r-emit-if-full .made ≤ mostMade)))) (id⊢ 𝓤 _) $
+          pick ! (λ z-emit-if-full. split ! $ move ! (1 ∷ []) $ heard ! (r-emit-if-full .made ≤ mostMade) (λ e-emit-if-full. fsplit ! $ drop ! $ fsplit ! $ drop ! $ drop ! $ split ! $ split ! $ move ! (1 ∷ []) $ drop ! $ move ! (1 ∷ []) $
           peeks ! Bench-t.the-row (Is Bench-t.the-row) (shows 𝓤 H A Bench-t.the-row) r-emit-if-full (w-emit-if-full ∷ []) (λ is-emit-if-full.
           land ! (from ! (stop !)) (init ! 37 refl (LL.lawful Bench-t.the-type Bench-l.the-laws 𝓤 H A W .typed r-emit-if-full _ is-emit-if-full .0)) $ drop ! $ lft-end ! tt $
           use2 W (later (‵ (MutSlice (named 2) κ₂ u8 .own (out-at γ-out (z-take-line .1 .1 .1 .0)) ((sliceVal (b-out, o-out) (length (z-take-line .1 .1 .1 .0))) ∷ [])) ⊛ ‵ (flft κ₂ q₂))) (comes-back u8 κ₂ (ν ∷ []) q₂ γ-out b-out o-out (z-take-line .1 .1 .1 .0) 𝓤 H A W (named 2) (named 2) (subst (Room u8) (sym (len-take-line-out ∙ len-start-anew-out)) room-out)) $ await ! tt $ split ! $
@@ -213,7 +213,7 @@ module _ {M : Type 1} (𝓤 : URA M) (H : Heap 𝓤) (A : Atoms 𝓤) (W : Given
           keep ! (6 ∷ 7 ∷ 8 ∷ 9 ∷ 10 ∷ 11 ∷ 12 ∷ 13 ∷ 14 ∷ 15 ∷ 16 ∷ 17 ∷ 18 ∷ 19 ∷ 20 ∷ 21 ∷ 22 ∷ 23 ∷ 24 ∷ 25 ∷ 26 ∷ 27 ∷ 28 ∷ 29 ∷ 30 ∷ 31 ∷ 32 ∷ 33 ∷ 34 ∷ 35 ∷ 36 ∷ 37 ∷ 38 ∷ 39 ∷ 40 ∷ 41 ∷ 5 ∷ 0 ∷ 2 ∷ 3 ∷ 4 ∷ 1 ∷ []) $
           part-6 w-start-anew r-start-anew z-start-anew e-start-anew is-start-anew len-start-anew-recs len-start-anew-out)))))))))))
 
-    walk : Is Bench-t.the-row b (v-b ∷ []) → Room Session-t.the-row (length (recs .now)) → Is bool many (v-many ∷ []) → Room u8 (length (line .now)) → Room u8 (length (out .now)) → (b .made ≤ 57344) × (65536 ≤ length (now out)) → ent 𝓤 (onEntry 𝓤 H A entry′.signature (κ₀, (κ₁, (κ₂, tt))) (q₀, (q₁, (q₂, tt))) a at) (WpFn 𝓤 H C Λ code.function (v-b ∷ v-recs ∷ v-many ∷ v-line ∷ v-out ∷ []) Post)
+    walk : Is Bench-t.the-row b (v-b ∷ []) → Room Session-t.the-row (length (recs .now)) → Is bool many (v-many ∷ []) → Room u8 (length (line .now)) → Room u8 (length (out .now)) → (b .made ≤ mostMade) × (65536 ≤ length (now out)) → ent 𝓤 (onEntry 𝓤 H A entry′.signature (κ₀, (κ₁, (κ₂, tt))) (q₀, (q₁, (q₂, tt))) a at) (WpFn 𝓤 H C Λ code.function (v-b ∷ v-recs ∷ v-many ∷ v-line ∷ v-out ∷ []) Post)
     walk is-b room-recs is-many room-line room-out required =
         qed W ((Toks) ∷ ‵ (owns (Bench-t.the-row ∷ (MutSlice (named 0) κ₀ Session-t.the-row) ∷ bool ∷ (ShrSlice (named 1) κ₁ u8) ∷ (MutSlice (named 2) κ₂ u8) ∷ []) a at) ∷ []) ∵ enter ! C Λ code.function (v-b ∷ v-recs ∷ v-many ∷ v-line ∷ v-out ∷ []) _ $
         alloc1 ! (λ l₀. alloc1 ! (λ l₁. alloc1 ! (λ l₂. alloc1 ! (λ l₃. alloc1 ! (λ l₄. alloc1 ! (λ l₅. alloc1 ! (λ l₆. alloc1 ! (λ l₇. alloc1 ! (λ l₈. alloc1 ! (λ l₉. alloc1 ! (λ l₁₀. alloc1 ! (λ l₁₁. alloc1 ! (λ l₁₂. alloc1 ! (λ l₁₃.

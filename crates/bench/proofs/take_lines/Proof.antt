@@ -10,6 +10,7 @@ use Rattle.bench_unit.proofs.Bench as Bench-t
 use Rattle.bench_unit.proofs.Bench.Laws as Bench-l
 use Rattle.unit_session.specs.declared.Session.{Session}
 use Rattle.unit_session.proofs.Session as Session-t
+use Rattle.bench.specs.Room.{mostMade}
 use lib.ListN.{take}
 use Rattle.bench_unit.proofs.front as c-front′
 use Rattle.bench_unit.proofs.front.Symbol as c-front-def
@@ -98,7 +99,7 @@ module _ {M : Type 1} (𝓤 : URA M) (H : Heap 𝓤) (A : Atoms 𝓤) (W : Given
 
   -- what the contract says of the answer and of the last values
   abbrev Said : Turn → List Session → List ℕ → Type 0
-  Said r w-recs w-out = r .bench .made ≤ 57344
+  Said r w-recs w-out = r .bench .made ≤ mostMade
 
   exits : (r : Turn) (w : Val) (w-recs : List Session) (w-out : List ℕ) → Said r w-recs w-out → length w-recs ≡ length (recs .now) → length w-out ≡ length (out .now)
       → ent 𝓤 (⋆ 𝓤 H A (Toks ∷ ‵ (finally Session-t.the-row (recs .name) w-recs) ∷ ‵ (finally u8 (out .name) w-out) ∷ ‵ (Turn-t.the-row .own r (w ∷ [])) ∷ [])) (Post w)
@@ -108,7 +109,7 @@ module _ {M : Type 1} (𝓤 : URA M) (H : Heap 𝓤) (A : Atoms 𝓤) (W : Given
       nothing ! $ move ! (2 ∷ 0 ∷ []) $ fjoin ! $ nothing ! $ fjoin ! $ nothing ! $ fjoin ! $ nothing ! $ fjoin ! $ move ! (1 ∷ 0 ∷ []) $ fjoin ! $ nothing ! $ fjoin ! $ done !
 
   module _ (C : Calls 𝓤 H) (Λ : Loops 𝓤 H) (fm : FmC 𝓤 H (W .laws) C) (known-front : Triple 𝓤 (C #bench-unit·front) (c-front 𝓤 H A mem run)) (known-lines-in : Triple 𝓤 (C #bench·lines-in) (c-lines-in 𝓤 H A mem run)) where
-    module _ (is-b : Is Bench-t.the-row b (v-b ∷ [])) (room-recs : Room Session-t.the-row (length (recs .now))) (is-many : Is bool many (v-many ∷ [])) (room-buf : Room u8 (length (buf .now))) (is-end : Is usize end (v-end ∷ [])) (room-out : Room u8 (length (out .now))) (required : (b .made ≤ 57344) × (65536 ≤ length (now out))) (l₀ l₁ l₂ l₃ l₄ l₅ l₆ l₇ l₈ l₉ l₁₀ l₁₁ : ℕ) where
+    module _ (is-b : Is Bench-t.the-row b (v-b ∷ [])) (room-recs : Room Session-t.the-row (length (recs .now))) (is-many : Is bool many (v-many ∷ [])) (room-buf : Room u8 (length (buf .now))) (is-end : Is usize end (v-end ∷ [])) (room-out : Room u8 (length (out .now))) (required : (b .made ≤ mostMade) × (65536 ≤ length (now out))) (l₀ l₁ l₂ l₃ l₄ l₅ l₆ l₇ l₈ l₉ l₁₀ l₁₁ : ℕ) where
       part-2 : (w-front : Val) → (r-front : (RefT (List ℕ))) → (e-front : now r-front ≡ take end (buf .now)) → (is-front : Is (ShrSlice (named 1) κ₁ u8) r-front (w-front ∷ [])) → Sq W (‵ (froom (sliceTy (tyRef erased mut (pointee (u8 .written)))) l₁₁ 0) ∷ ‵ (fdies (sliceTy (tyRef erased mut (pointee (u8 .written)))) l₁₁) ∷ ‵ (froom (tyRef erased mut (pointee (u8 .written))) l₁₀ 0) ∷ ‵ (fdies (tyRef erased mut (pointee (u8 .written))) l₁₀) ∷ ‵ (froom (sliceTy (tyRef erased mut (pointee (Session-t.the-row .written)))) l₉ 0) ∷ ‵ (fdies (sliceTy (tyRef erased mut (pointee (Session-t.the-row .written)))) l₉) ∷ ‵ (froom (tyRef erased mut (pointee (Session-t.the-row .written))) l₈ 0) ∷ ‵ (fdies (tyRef erased mut (pointee (Session-t.the-row .written))) l₈) ∷ ‵ (fat fullShare (sliceTy (tyRef erased imm (pointee (u8 .written)))) l₇ 0 w-front) ∷ ‵ (fdies (sliceTy (tyRef erased imm (pointee (u8 .written)))) l₇) ∷ ‵ (fat fullShare (sliceTy (tyRef (named 2) mut (pointee (u8 .written)))) l₆ 0 v-out) ∷ ‵ (fdies (sliceTy (tyRef (named 2) mut (pointee (u8 .written)))) l₆) ∷ ‵ (fat fullShare (tyInt w64) l₅ 0 v-end) ∷ ‵ (fdies (tyInt w64) l₅) ∷ ‵ (fat fullShare (sliceTy (tyRef (named 1) imm (pointee (u8 .written)))) l₄ 0 v-buf) ∷ ‵ (fdies (sliceTy (tyRef (named 1) imm (pointee (u8 .written)))) l₄) ∷ ‵ (fat fullShare tyBool l₃ 0 v-many) ∷ ‵ (fdies tyBool l₃) ∷ ‵ (fat fullShare (sliceTy (tyRef (named 0) mut (pointee (Session-t.the-row .written)))) l₂ 0 v-recs) ∷ ‵ (fdies (sliceTy (tyRef (named 0) mut (pointee (Session-t.the-row .written)))) l₂) ∷ ‵ (fat fullShare Bench-l.mir l₁ 0 v-b) ∷ ‵ (fdies Bench-l.mir l₁) ∷ ‵ (froom Turn-l.mir l₀ 0) ∷ ‵ (fdies Turn-l.mir l₀) ∷ ‵ Own-buf ∷ ‵ Own-out ∷ ‵ ((ShrSlice (named 1) κ₁ u8) .own r-front (w-front ∷ [])) ∷ ‵ Own-recs ∷ ‵ (flft κ₀ q₀) ∷ ‵ (flft κ₁ q₁) ∷ ‵ (flft κ₂ q₂) ∷ []) (runs C Λ (En l₀ l₁ l₂ l₃ l₄ l₅ l₆ l₇ l₈ l₉ l₁₀ l₁₁) mir.t-2 (atRet (En l₀ l₁ l₂ l₃ l₄ l₅ l₆ l₇ l₈ l₉ l₁₀ l₁₁) Post))
       part-2 w-front r-front e-front is-front =
           -- _8 = & _2.0.*
@@ -128,8 +129,8 @@ module _ {M : Type 1} (𝓤 : URA M) (H : Heap 𝓤) (A : Atoms 𝓤) (W : Given
           calls-at ! fm (c-lines-in 𝓤 H A mem run) known-lines-in (((κ₀, (κ₁, (κ₂, tt))), (q₀, (q₁, (q₂, tt))), tt, (b, (recs, (many, (r-front, (out, tt))))), (v-b ∷ [], (v-recs ∷ [], (v-many ∷ [], (w-front ∷ [], (v-out ∷ [], tt)))))), tt) (and-then ! (load ! (from ! (stop !)) (look ! 22 refl)) (and-then ! (load ! (from ! (stop !)) (look ! 6 refl)) (and-then ! (load ! (from ! (stop !)) (look ! 18 refl)) (and-then ! (load ! (from ! (stop !)) (look ! 10 refl)) (and-then ! (load ! (from ! (stop !)) (look ! 2 refl)) (no-more !)))))) (λ w-lines-in.
           use1 W (later (some (λ (r-lines-in : Turn). ((‵ (flft κ₀ q₀) ⊛ ‵ (flft κ₁ q₁) ⊛ ‵ (flft κ₂ q₂) ⊛ ‵ ftrue) ⊛ ‵ (Turn-t.the-row .own r-lines-in (w-lines-in ∷ []))) ⊛ raw (ensured 𝓤 H A c-lines-in′.ended (c-lines-in′.clauses 𝓤 H A mem run) (κ₀, (κ₁, (κ₂, tt))) (b, (recs, (many, (r-front, (out, tt))))) tt r-lines-in)))) (id⊢ 𝓤 _) $ await ! tt $
           pick ! (λ r-lines-in. split ! $ move ! (1 ∷ []) $
-          use1 W (some (λ (z-lines-in : (Unit {0}) × ((List Session) × ((Unit {0}) × ((Unit {0}) × ((List ℕ) × Unit {0}))))). ‵ (lasts c-lines-in′.ended (κ₀, (κ₁, (κ₂, tt))) (b, (recs, (many, (r-front, (out, tt))))) z-lines-in) ⊛ raw (fact 𝓤 (r-lines-in .bench .made ≤ 57344)))) (id⊢ 𝓤 _) $
-          pick ! (λ z-lines-in. split ! $ move ! (1 ∷ []) $ heard ! (r-lines-in .bench .made ≤ 57344) (λ e-lines-in. fsplit ! $ drop ! $ fsplit ! $ fsplit ! $ move ! (1 ∷ []) $ feqL ! (λ len-lines-in-recs. move ! (1 ∷ []) $ fsplit ! $
+          use1 W (some (λ (z-lines-in : (Unit {0}) × ((List Session) × ((Unit {0}) × ((Unit {0}) × ((List ℕ) × Unit {0}))))). ‵ (lasts c-lines-in′.ended (κ₀, (κ₁, (κ₂, tt))) (b, (recs, (many, (r-front, (out, tt))))) z-lines-in) ⊛ raw (fact 𝓤 (r-lines-in .bench .made ≤ mostMade)))) (id⊢ 𝓤 _) $
+          pick ! (λ z-lines-in. split ! $ move ! (1 ∷ []) $ heard ! (r-lines-in .bench .made ≤ mostMade) (λ e-lines-in. fsplit ! $ drop ! $ fsplit ! $ fsplit ! $ move ! (1 ∷ []) $ feqL ! (λ len-lines-in-recs. move ! (1 ∷ []) $ fsplit ! $
           drop ! $ fsplit ! $ drop ! $ fsplit ! $ fsplit ! $ move ! (1 ∷ []) $ feqL ! (λ len-lines-in-out. move ! (1 ∷ []) $ drop ! $ move ! (2 ∷ []) $ split ! $ split ! $ move ! (1 ∷ []) $ split ! $ move ! (1 ∷ []) $ split ! $
           move ! (1 ∷ []) $ drop ! $ move ! (3 ∷ []) $ peeks ! Turn-t.the-row (Is Turn-t.the-row) (shows 𝓤 H A Turn-t.the-row) r-lines-in (w-lines-in ∷ []) (λ is-lines-in.
           land ! (from ! (stop !)) (init ! 29 refl (LL.lawful Turn-t.the-type Turn-l.the-laws 𝓤 H A W .typed r-lines-in _ is-lines-in .0)) $ drop ! $
@@ -155,7 +156,7 @@ module _ {M : Type 1} (𝓤 : URA M) (H : Heap 𝓤) (A : Atoms 𝓤) (W : Given
           land ! (from ! (stop !)) (init ! 11 refl (shr-slice-lawful 𝓤 H A W (named 1) κ₁ u8 .typed r-front _ is-front .0)) $
           keep ! (3 ∷ 4 ∷ 5 ∷ 6 ∷ 7 ∷ 8 ∷ 9 ∷ 10 ∷ 11 ∷ 12 ∷ 13 ∷ 14 ∷ 15 ∷ 16 ∷ 17 ∷ 18 ∷ 19 ∷ 20 ∷ 21 ∷ 22 ∷ 23 ∷ 24 ∷ 25 ∷ 26 ∷ 2 ∷ 27 ∷ 0 ∷ 28 ∷ 29 ∷ 1 ∷ 30 ∷ []) $ part-2 w-front r-front e-front is-front)))))
 
-    walk : Is Bench-t.the-row b (v-b ∷ []) → Room Session-t.the-row (length (recs .now)) → Is bool many (v-many ∷ []) → Room u8 (length (buf .now)) → Is usize end (v-end ∷ []) → Room u8 (length (out .now)) → (b .made ≤ 57344) × (65536 ≤ length (now out)) → ent 𝓤 (onEntry 𝓤 H A entry′.signature (κ₀, (κ₁, (κ₂, tt))) (q₀, (q₁, (q₂, tt))) a at) (WpFn 𝓤 H C Λ code.function (v-b ∷ v-recs ∷ v-many ∷ v-buf ∷ v-end ∷ v-out ∷ []) Post)
+    walk : Is Bench-t.the-row b (v-b ∷ []) → Room Session-t.the-row (length (recs .now)) → Is bool many (v-many ∷ []) → Room u8 (length (buf .now)) → Is usize end (v-end ∷ []) → Room u8 (length (out .now)) → (b .made ≤ mostMade) × (65536 ≤ length (now out)) → ent 𝓤 (onEntry 𝓤 H A entry′.signature (κ₀, (κ₁, (κ₂, tt))) (q₀, (q₁, (q₂, tt))) a at) (WpFn 𝓤 H C Λ code.function (v-b ∷ v-recs ∷ v-many ∷ v-buf ∷ v-end ∷ v-out ∷ []) Post)
     walk is-b room-recs is-many room-buf is-end room-out required =
         qed W ((Toks) ∷ ‵ (owns (Bench-t.the-row ∷ (MutSlice (named 0) κ₀ Session-t.the-row) ∷ bool ∷ (ShrSlice (named 1) κ₁ u8) ∷ usize ∷ (MutSlice (named 2) κ₂ u8) ∷ []) a at) ∷ []) ∵ enter ! C Λ code.function (v-b ∷ v-recs ∷ v-many ∷ v-buf ∷ v-end ∷ v-out ∷ []) _ $
         alloc1 ! (λ l₀. alloc1 ! (λ l₁. alloc1 ! (λ l₂. alloc1 ! (λ l₃. alloc1 ! (λ l₄. alloc1 ! (λ l₅. alloc1 ! (λ l₆. alloc1 ! (λ l₇. alloc1 ! (λ l₈. alloc1 ! (λ l₉. alloc1 ! (λ l₁₀. alloc1 ! (λ l₁₁. alloc0 ! $ params1 ! $

@@ -10,7 +10,7 @@ use Rattle.unit_session.proofs.Session as Session-t
 use Rattle.bench_unit.specs.declared.Bench.{Bench}
 use Rattle.bench_unit.proofs.Bench as Bench-t
 use Rattle.bench_unit.proofs.Bench.Laws as Bench-l
-use Rattle.bench.specs.Room.{made-as, placed, runPrints}
+use Rattle.bench.specs.Room.{made-as, mostMade, placed, runPrints}
 use Rattle.bench.specs.Room.{room-as}
 use Rattle.bench.proofs.line_in as c-line-in′
 use Rattle.bench.proofs.line_in.Symbol as c-line-in-def
@@ -110,7 +110,7 @@ module _ {M : Type 1} (𝓤 : URA M) (H : Heap 𝓤) (A : Atoms 𝓤) (W : Given
 
   -- what the contract says of the answer and of the last values
   abbrev Said : Turn → List Session → List ℕ → Type 0
-  Said r w-recs w-out = r .bench .made ≤ 57344
+  Said r w-recs w-out = r .bench .made ≤ mostMade
 
   exits : (r : Turn) (w : Val) (w-recs : List Session) (w-out : List ℕ) → Said r w-recs w-out → length w-recs ≡ length (recs .now) → length w-out ≡ length (out .now)
       → ent 𝓤 (⋆ 𝓤 H A (Toks ∷ ‵ (finally Session-t.the-row (recs .name) w-recs) ∷ ‵ (finally u8 (out .name) w-out) ∷ ‵ (Turn-t.the-row .own r (w ∷ [])) ∷ [])) (Post w)
@@ -120,8 +120,8 @@ module _ {M : Type 1} (𝓤 : URA M) (H : Heap 𝓤) (A : Atoms 𝓤) (W : Given
       nothing ! $ move ! (2 ∷ 0 ∷ []) $ fjoin ! $ nothing ! $ fjoin ! $ nothing ! $ fjoin ! $ move ! (1 ∷ 0 ∷ []) $ fjoin ! $ nothing ! $ fjoin ! $ done !
 
   module _ (C : Calls 𝓤 H) (Λ : Loops 𝓤 H) (fm : FmC 𝓤 H (W .laws) C) (known-line-in : Triple 𝓤 (C #bench·line-in) (c-line-in 𝓤 H A mem run)) (known-bench-of : Triple 𝓤 (C #bench·bench-of) (c-bench-of 𝓤 H A mem run)) (known-run-line : Triple 𝓤 (C #bench·run-line) (c-run-line 𝓤 H A mem run)) (known-turn-after : Triple 𝓤 (C #bench·turn-after) (c-turn-after 𝓤 H A mem run)) where
-    module _ (is-t : Is Turn-t.the-row t (v-t ∷ [])) (room-recs : Room Session-t.the-row (length (recs .now))) (is-many : Is bool many (v-many ∷ [])) (room-s : Room u8 (length (s .now))) (room-out : Room u8 (length (out .now))) (required : (t .bench .made ≤ 57344) × (65536 ≤ length (now out))) (l₀ l₁ l₂ l₃ l₄ l₅ l₆ l₇ l₈ l₉ l₁₀ l₁₁ l₁₂ : ℕ) where
-      part-8 : (w-line-in : Val) → (r-line-in : (RefT (List ℕ))) → (is-line-in : Is (ShrSlice (named 1) κ₁ u8) r-line-in (w-line-in ∷ [])) → (w-bench-of : Val) → (r-bench-of : Bench) → (e-bench-of : r-bench-of ≡ t .bench) → (is-bench-of : Is Bench-t.the-row r-bench-of (w-bench-of ∷ [])) → (w-run-line : Val) → (r-run-line : Bench) → (z-run-line : (Unit {0}) × ((List Session) × ((Unit {0}) × ((Unit {0}) × ((List ℕ) × Unit {0}))))) → (e-run-line : (r-run-line .made ≤ 57344) × ((z-run-line .1 .1 .1 .1 .0) ≡ placed (r-bench-of .made) (runPrints r-bench-of (ys-recs) many (r-line-in .now)) (ys-out))) → (is-run-line : Is Bench-t.the-row r-run-line (w-run-line ∷ [])) → (len-run-line-recs : length (z-run-line .1 .0) ≡ length (ys-recs)) → (len-run-line-out : length (z-run-line .1 .1 .1 .1 .0) ≡ length (ys-out)) → Sq W (‵ (fat fullShare (sliceTy (tyRef erased mut (pointee (u8 .written)))) l₁₂ 0 v-out) ∷ ‵ (fdies (sliceTy (tyRef erased mut (pointee (u8 .written)))) l₁₂) ∷ ‵ (froom (tyRef erased mut (pointee (u8 .written))) l₁₁ 0) ∷ ‵ (fdies (tyRef erased mut (pointee (u8 .written))) l₁₁) ∷ ‵ (fat fullShare (sliceTy (tyRef erased mut (pointee (Session-t.the-row .written)))) l₁₀ 0 v-recs) ∷ ‵ (fdies (sliceTy (tyRef erased mut (pointee (Session-t.the-row .written)))) l₁₀) ∷ ‵ (froom (tyRef erased mut (pointee (Session-t.the-row .written))) l₉ 0) ∷ ‵ (fdies (tyRef erased mut (pointee (Session-t.the-row .written))) l₉) ∷ ‵ (fat fullShare Bench-l.mir l₈ 0 w-run-line) ∷ ‵ (fdies Bench-l.mir l₈) ∷ ‵ (fat fullShare Bench-l.mir l₇ 0 w-bench-of) ∷ ‵ (fdies Bench-l.mir l₇) ∷ ‵ (fat fullShare (sliceTy (tyRef erased imm (pointee (u8 .written)))) l₆ 0 w-line-in) ∷ ‵ (fdies (sliceTy (tyRef erased imm (pointee (u8 .written)))) l₆) ∷ ‵ (fat fullShare (sliceTy (tyRef (named 2) mut (pointee (u8 .written)))) l₅ 0 v-out) ∷ ‵ (fdies (sliceTy (tyRef (named 2) mut (pointee (u8 .written)))) l₅) ∷ ‵ (fat fullShare (sliceTy (tyRef (named 1) imm (pointee (u8 .written)))) l₄ 0 v-s) ∷ ‵ (fdies (sliceTy (tyRef (named 1) imm (pointee (u8 .written)))) l₄) ∷ ‵ (fat fullShare tyBool l₃ 0 v-many) ∷ ‵ (fdies tyBool l₃) ∷ ‵ (fat fullShare (sliceTy (tyRef (named 0) mut (pointee (Session-t.the-row .written)))) l₂ 0 v-recs) ∷ ‵ (fdies (sliceTy (tyRef (named 0) mut (pointee (Session-t.the-row .written)))) l₂) ∷ ‵ (fat fullShare Turn-l.mir l₁ 0 v-t) ∷ ‵ (fdies Turn-l.mir l₁) ∷ ‵ (froom Turn-l.mir l₀ 0) ∷ ‵ (fdies Turn-l.mir l₀) ∷ ‵ (finally u8 (out .name) (z-run-line .1 .1 .1 .1 .0)) ∷ ‵ (finally Session-t.the-row (recs .name) (z-run-line .1 .0)) ∷ ‵ ((ShrSlice (named 1) κ₁ u8) .own r-line-in (w-line-in ∷ [])) ∷ ‵ Own-s ∷ ‵ (flft κ₀ q₀) ∷ ‵ (flft κ₁ q₁) ∷ ‵ (flft κ₂ q₂) ∷ []) (runs C Λ (En l₀ l₁ l₂ l₃ l₄ l₅ l₆ l₇ l₈ l₉ l₁₀ l₁₁ l₁₂) mir.t-8 (atRet (En l₀ l₁ l₂ l₃ l₄ l₅ l₆ l₇ l₈ l₉ l₁₀ l₁₁ l₁₂) Post))
+    module _ (is-t : Is Turn-t.the-row t (v-t ∷ [])) (room-recs : Room Session-t.the-row (length (recs .now))) (is-many : Is bool many (v-many ∷ [])) (room-s : Room u8 (length (s .now))) (room-out : Room u8 (length (out .now))) (required : (t .bench .made ≤ mostMade) × (65536 ≤ length (now out))) (l₀ l₁ l₂ l₃ l₄ l₅ l₆ l₇ l₈ l₉ l₁₀ l₁₁ l₁₂ : ℕ) where
+      part-8 : (w-line-in : Val) → (r-line-in : (RefT (List ℕ))) → (is-line-in : Is (ShrSlice (named 1) κ₁ u8) r-line-in (w-line-in ∷ [])) → (w-bench-of : Val) → (r-bench-of : Bench) → (e-bench-of : r-bench-of ≡ t .bench) → (is-bench-of : Is Bench-t.the-row r-bench-of (w-bench-of ∷ [])) → (w-run-line : Val) → (r-run-line : Bench) → (z-run-line : (Unit {0}) × ((List Session) × ((Unit {0}) × ((Unit {0}) × ((List ℕ) × Unit {0}))))) → (e-run-line : (r-run-line .made ≤ mostMade) × ((z-run-line .1 .1 .1 .1 .0) ≡ placed (r-bench-of .made) (runPrints r-bench-of (ys-recs) many (r-line-in .now)) (ys-out))) → (is-run-line : Is Bench-t.the-row r-run-line (w-run-line ∷ [])) → (len-run-line-recs : length (z-run-line .1 .0) ≡ length (ys-recs)) → (len-run-line-out : length (z-run-line .1 .1 .1 .1 .0) ≡ length (ys-out)) → Sq W (‵ (fat fullShare (sliceTy (tyRef erased mut (pointee (u8 .written)))) l₁₂ 0 v-out) ∷ ‵ (fdies (sliceTy (tyRef erased mut (pointee (u8 .written)))) l₁₂) ∷ ‵ (froom (tyRef erased mut (pointee (u8 .written))) l₁₁ 0) ∷ ‵ (fdies (tyRef erased mut (pointee (u8 .written))) l₁₁) ∷ ‵ (fat fullShare (sliceTy (tyRef erased mut (pointee (Session-t.the-row .written)))) l₁₀ 0 v-recs) ∷ ‵ (fdies (sliceTy (tyRef erased mut (pointee (Session-t.the-row .written)))) l₁₀) ∷ ‵ (froom (tyRef erased mut (pointee (Session-t.the-row .written))) l₉ 0) ∷ ‵ (fdies (tyRef erased mut (pointee (Session-t.the-row .written))) l₉) ∷ ‵ (fat fullShare Bench-l.mir l₈ 0 w-run-line) ∷ ‵ (fdies Bench-l.mir l₈) ∷ ‵ (fat fullShare Bench-l.mir l₇ 0 w-bench-of) ∷ ‵ (fdies Bench-l.mir l₇) ∷ ‵ (fat fullShare (sliceTy (tyRef erased imm (pointee (u8 .written)))) l₆ 0 w-line-in) ∷ ‵ (fdies (sliceTy (tyRef erased imm (pointee (u8 .written)))) l₆) ∷ ‵ (fat fullShare (sliceTy (tyRef (named 2) mut (pointee (u8 .written)))) l₅ 0 v-out) ∷ ‵ (fdies (sliceTy (tyRef (named 2) mut (pointee (u8 .written)))) l₅) ∷ ‵ (fat fullShare (sliceTy (tyRef (named 1) imm (pointee (u8 .written)))) l₄ 0 v-s) ∷ ‵ (fdies (sliceTy (tyRef (named 1) imm (pointee (u8 .written)))) l₄) ∷ ‵ (fat fullShare tyBool l₃ 0 v-many) ∷ ‵ (fdies tyBool l₃) ∷ ‵ (fat fullShare (sliceTy (tyRef (named 0) mut (pointee (Session-t.the-row .written)))) l₂ 0 v-recs) ∷ ‵ (fdies (sliceTy (tyRef (named 0) mut (pointee (Session-t.the-row .written)))) l₂) ∷ ‵ (fat fullShare Turn-l.mir l₁ 0 v-t) ∷ ‵ (fdies Turn-l.mir l₁) ∷ ‵ (froom Turn-l.mir l₀ 0) ∷ ‵ (fdies Turn-l.mir l₀) ∷ ‵ (finally u8 (out .name) (z-run-line .1 .1 .1 .1 .0)) ∷ ‵ (finally Session-t.the-row (recs .name) (z-run-line .1 .0)) ∷ ‵ ((ShrSlice (named 1) κ₁ u8) .own r-line-in (w-line-in ∷ [])) ∷ ‵ Own-s ∷ ‵ (flft κ₀ q₀) ∷ ‵ (flft κ₁ q₁) ∷ ‵ (flft κ₂ q₂) ∷ []) (runs C Λ (En l₀ l₁ l₂ l₃ l₄ l₅ l₆ l₇ l₈ l₉ l₁₀ l₁₁ l₁₂) mir.t-8 (atRet (En l₀ l₁ l₂ l₃ l₄ l₅ l₆ l₇ l₈ l₉ l₁₀ l₁₁ l₁₂) Post))
       part-8 w-line-in r-line-in is-line-in w-bench-of r-bench-of e-bench-of is-bench-of w-run-line r-run-line z-run-line e-run-line is-run-line len-run-line-recs len-run-line-out =
           -- _0 = turn_after(_8, _4, _1)
           move ! (29 ∷ []) $ use1 W (‵ Own-s ⊛ ‵ Own-s) (shr-slice-copy 𝓤 H A W (named 1) κ₁ u8 .twice s (v-s ∷ [])) $ split ! $ nothing ! $ move ! (33 ∷ 0 ∷ []) $ join ! $ nothing ! $
@@ -162,8 +162,8 @@ module _ {M : Type 1} (𝓤 : URA M) (H : Heap 𝓤) (A : Atoms 𝓤) (W : Given
           calls-at ! fm (c-run-line 𝓤 H A mem run) known-run-line (((κ₀, (κ₁, (κ₂, tt))), (q₀, (q₁, (q₂, tt))), tt, (r-bench-of, (recs, (many, (r-line-in, (out, tt))))), (w-bench-of ∷ [], (v-recs ∷ [], (v-many ∷ [], (w-line-in ∷ [], (v-out ∷ [], tt)))))), tt) (and-then ! (load ! (from ! (stop !)) (look ! 12 refl)) (and-then ! (load ! (from ! (stop !)) (look ! 6 refl)) (and-then ! (load ! (from ! (stop !)) (look ! 20 refl)) (and-then ! (load ! (from ! (stop !)) (look ! 14 refl)) (and-then ! (load ! (from ! (stop !)) (look ! 2 refl)) (no-more !)))))) (λ w-run-line.
           use1 W (later (some (λ (r-run-line : Bench). ((‵ (flft κ₀ q₀) ⊛ ‵ (flft κ₁ q₁) ⊛ ‵ (flft κ₂ q₂) ⊛ ‵ ftrue) ⊛ ‵ (Bench-t.the-row .own r-run-line (w-run-line ∷ []))) ⊛ raw (ensured 𝓤 H A c-run-line′.ended (c-run-line′.clauses 𝓤 H A mem run) (κ₀, (κ₁, (κ₂, tt))) (r-bench-of, (recs, (many, (r-line-in, (out, tt))))) tt r-run-line)))) (id⊢ 𝓤 _) $ await ! tt $
           pick ! (λ r-run-line. split ! $ move ! (1 ∷ []) $
-          use1 W (some (λ (z-run-line : (Unit {0}) × ((List Session) × ((Unit {0}) × ((Unit {0}) × ((List ℕ) × Unit {0}))))). ‵ (lasts c-run-line′.ended (κ₀, (κ₁, (κ₂, tt))) (r-bench-of, (recs, (many, (r-line-in, (out, tt))))) z-run-line) ⊛ raw (fact 𝓤 ((r-run-line .made ≤ 57344) × ((z-run-line .1 .1 .1 .1 .0) ≡ placed (r-bench-of .made) (runPrints r-bench-of (ys-recs) many (r-line-in .now)) (ys-out)))))) (id⊢ 𝓤 _) $
-          pick ! (λ z-run-line. split ! $ move ! (1 ∷ []) $ heard ! ((r-run-line .made ≤ 57344) × ((z-run-line .1 .1 .1 .1 .0) ≡ placed (r-bench-of .made) (runPrints r-bench-of (ys-recs) many (r-line-in .now)) (ys-out))) (λ e-run-line.
+          use1 W (some (λ (z-run-line : (Unit {0}) × ((List Session) × ((Unit {0}) × ((Unit {0}) × ((List ℕ) × Unit {0}))))). ‵ (lasts c-run-line′.ended (κ₀, (κ₁, (κ₂, tt))) (r-bench-of, (recs, (many, (r-line-in, (out, tt))))) z-run-line) ⊛ raw (fact 𝓤 ((r-run-line .made ≤ mostMade) × ((z-run-line .1 .1 .1 .1 .0) ≡ placed (r-bench-of .made) (runPrints r-bench-of (ys-recs) many (r-line-in .now)) (ys-out)))))) (id⊢ 𝓤 _) $
+          pick ! (λ z-run-line. split ! $ move ! (1 ∷ []) $ heard ! ((r-run-line .made ≤ mostMade) × ((z-run-line .1 .1 .1 .1 .0) ≡ placed (r-bench-of .made) (runPrints r-bench-of (ys-recs) many (r-line-in .now)) (ys-out))) (λ e-run-line.
           fsplit ! $ drop ! $ fsplit ! $ fsplit ! $ move ! (1 ∷ []) $ feqL ! (λ len-run-line-recs. move ! (1 ∷ []) $ fsplit ! $ drop ! $ fsplit ! $ drop ! $ fsplit ! $ fsplit ! $ move ! (1 ∷ []) $ feqL ! (λ len-run-line-out.
           move ! (1 ∷ []) $ drop ! $ move ! (2 ∷ []) $ split ! $ split ! $ move ! (1 ∷ []) $ split ! $ move ! (1 ∷ []) $ split ! $ move ! (1 ∷ []) $ drop ! $ move ! (3 ∷ []) $
           peeks ! Bench-t.the-row (Is Bench-t.the-row) (shows 𝓤 H A Bench-t.the-row) r-run-line (w-run-line ∷ []) (λ is-run-line.
@@ -199,7 +199,7 @@ module _ {M : Type 1} (𝓤 : URA M) (H : Heap 𝓤) (A : Atoms 𝓤) (W : Given
           land ! (from ! (stop !)) (init ! 15 refl (shr-slice-lawful 𝓤 H A W (named 1) κ₁ u8 .typed r-line-in _ is-line-in .0)) $
           keep ! (3 ∷ 4 ∷ 5 ∷ 6 ∷ 7 ∷ 8 ∷ 9 ∷ 10 ∷ 11 ∷ 12 ∷ 13 ∷ 14 ∷ 15 ∷ 16 ∷ 17 ∷ 18 ∷ 19 ∷ 20 ∷ 21 ∷ 22 ∷ 23 ∷ 24 ∷ 25 ∷ 26 ∷ 27 ∷ 28 ∷ 29 ∷ 0 ∷ 30 ∷ 2 ∷ 31 ∷ 1 ∷ 32 ∷ []) $ part-2 w-line-in r-line-in is-line-in))))
 
-    walk : Is Turn-t.the-row t (v-t ∷ []) → Room Session-t.the-row (length (recs .now)) → Is bool many (v-many ∷ []) → Room u8 (length (s .now)) → Room u8 (length (out .now)) → (t .bench .made ≤ 57344) × (65536 ≤ length (now out)) → ent 𝓤 (onEntry 𝓤 H A entry′.signature (κ₀, (κ₁, (κ₂, tt))) (q₀, (q₁, (q₂, tt))) a at) (WpFn 𝓤 H C Λ code.function (v-t ∷ v-recs ∷ v-many ∷ v-s ∷ v-out ∷ []) Post)
+    walk : Is Turn-t.the-row t (v-t ∷ []) → Room Session-t.the-row (length (recs .now)) → Is bool many (v-many ∷ []) → Room u8 (length (s .now)) → Room u8 (length (out .now)) → (t .bench .made ≤ mostMade) × (65536 ≤ length (now out)) → ent 𝓤 (onEntry 𝓤 H A entry′.signature (κ₀, (κ₁, (κ₂, tt))) (q₀, (q₁, (q₂, tt))) a at) (WpFn 𝓤 H C Λ code.function (v-t ∷ v-recs ∷ v-many ∷ v-s ∷ v-out ∷ []) Post)
     walk is-t room-recs is-many room-s room-out required =
         qed W ((Toks) ∷ ‵ (owns (Turn-t.the-row ∷ (MutSlice (named 0) κ₀ Session-t.the-row) ∷ bool ∷ (ShrSlice (named 1) κ₁ u8) ∷ (MutSlice (named 2) κ₂ u8) ∷ []) a at) ∷ []) ∵ enter ! C Λ code.function (v-t ∷ v-recs ∷ v-many ∷ v-s ∷ v-out ∷ []) _ $
         alloc1 ! (λ l₀. alloc1 ! (λ l₁. alloc1 ! (λ l₂. alloc1 ! (λ l₃. alloc1 ! (λ l₄. alloc1 ! (λ l₅. alloc1 ! (λ l₆. alloc1 ! (λ l₇. alloc1 ! (λ l₈. alloc1 ! (λ l₉. alloc1 ! (λ l₁₀. alloc1 ! (λ l₁₁. alloc1 ! (λ l₁₂.

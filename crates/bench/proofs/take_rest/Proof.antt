@@ -9,7 +9,7 @@ use Rattle.bench_unit.proofs.Bench as Bench-t
 use Rattle.bench_unit.proofs.Bench.Laws as Bench-l
 use Rattle.unit_session.specs.declared.Session.{Session}
 use Rattle.unit_session.proofs.Session as Session-t
-use Rattle.bench.specs.Room.{placed, runPrints}
+use Rattle.bench.specs.Room.{mostMade, placed, runPrints}
 use Rattle.bench.proofs.run_line as c-run-line′
 use Rattle.bench.proofs.run_line.Symbol as c-run-line-def
 use Rattle.bench.proofs.run_line.Symbol.{name as #bench·run-line}
@@ -84,7 +84,7 @@ module _ {M : Type 1} (𝓤 : URA M) (H : Heap 𝓤) (A : Atoms 𝓤) (W : Given
 
   -- what the contract says of the answer and of the last values
   abbrev Said : Bench → List Session → List ℕ → Type 0
-  Said r w-recs w-out = r .made ≤ 57344
+  Said r w-recs w-out = r .made ≤ mostMade
 
   exits : (r : Bench) (w : Val) (w-recs : List Session) (w-out : List ℕ) → Said r w-recs w-out → length w-recs ≡ length (recs .now) → length w-out ≡ length (out .now)
       → ent 𝓤 (⋆ 𝓤 H A (Toks ∷ ‵ (finally Session-t.the-row (recs .name) w-recs) ∷ ‵ (finally u8 (out .name) w-out) ∷ ‵ (Bench-t.the-row .own r (w ∷ [])) ∷ [])) (Post w)
@@ -94,7 +94,7 @@ module _ {M : Type 1} (𝓤 : URA M) (H : Heap 𝓤) (A : Atoms 𝓤) (W : Given
       nothing ! $ move ! (2 ∷ 0 ∷ []) $ fjoin ! $ nothing ! $ fjoin ! $ nothing ! $ fjoin ! $ move ! (1 ∷ 0 ∷ []) $ fjoin ! $ nothing ! $ fjoin ! $ done !
 
   module _ (C : Calls 𝓤 H) (Λ : Loops 𝓤 H) (fm : FmC 𝓤 H (W .laws) C) (known-run-line : Triple 𝓤 (C #bench·run-line) (c-run-line 𝓤 H A mem run)) where
-    walk : Is Bench-t.the-row b (v-b ∷ []) → Room Session-t.the-row (length (recs .now)) → Is bool many (v-many ∷ []) → Room u8 (length (rest .now)) → Room u8 (length (out .now)) → (b .made ≤ 57344) × (65536 ≤ length (now out)) → ent 𝓤 (onEntry 𝓤 H A entry′.signature (κ₀, (κ₁, (κ₂, tt))) (q₀, (q₁, (q₂, tt))) a at) (WpFn 𝓤 H C Λ code.function (v-b ∷ v-recs ∷ v-many ∷ v-rest ∷ v-out ∷ []) Post)
+    walk : Is Bench-t.the-row b (v-b ∷ []) → Room Session-t.the-row (length (recs .now)) → Is bool many (v-many ∷ []) → Room u8 (length (rest .now)) → Room u8 (length (out .now)) → (b .made ≤ mostMade) × (65536 ≤ length (now out)) → ent 𝓤 (onEntry 𝓤 H A entry′.signature (κ₀, (κ₁, (κ₂, tt))) (q₀, (q₁, (q₂, tt))) a at) (WpFn 𝓤 H C Λ code.function (v-b ∷ v-recs ∷ v-many ∷ v-rest ∷ v-out ∷ []) Post)
     walk is-b room-recs is-many room-rest room-out required =
         qed W ((Toks) ∷ ‵ (owns (Bench-t.the-row ∷ (MutSlice (named 0) κ₀ Session-t.the-row) ∷ bool ∷ (ShrSlice (named 1) κ₁ u8) ∷ (MutSlice (named 2) κ₂ u8) ∷ []) a at) ∷ []) ∵ enter ! C Λ code.function (v-b ∷ v-recs ∷ v-many ∷ v-rest ∷ v-out ∷ []) _ $
         alloc1 ! (λ l₀. alloc1 ! (λ l₁. alloc1 ! (λ l₂. alloc1 ! (λ l₃. alloc1 ! (λ l₄. alloc1 ! (λ l₅. alloc1 ! (λ l₆. alloc1 ! (λ l₇. alloc1 ! (λ l₈. alloc1 ! (λ l₉. alloc1 ! (λ l₁₀. alloc1 ! (λ l₁₁. alloc0 ! $ params1 ! $
@@ -133,8 +133,8 @@ module _ {M : Type 1} (𝓤 : URA M) (H : Heap 𝓤) (A : Atoms 𝓤) (W : Given
         calls-at ! fm (c-run-line 𝓤 H A mem run) known-run-line (((κ₀, (κ₁, (κ₂, tt))), (q₀, (q₁, (q₂, tt))), tt, (b, (recs, (many, (rest, (out, tt))))), (v-b ∷ [], (v-recs ∷ [], (v-many ∷ [], (v-rest ∷ [], (v-out ∷ [], tt)))))), tt) (and-then ! (load ! (from ! (stop !)) (look ! 22 refl)) (and-then ! (load ! (from ! (stop !)) (look ! 6 refl)) (and-then ! (load ! (from ! (stop !)) (look ! 18 refl)) (and-then ! (load ! (from ! (stop !)) (look ! 16 refl)) (and-then ! (load ! (from ! (stop !)) (look ! 2 refl)) (no-more !)))))) (λ w-run-line.
         use1 W (later (some (λ (r-run-line : Bench). ((‵ (flft κ₀ q₀) ⊛ ‵ (flft κ₁ q₁) ⊛ ‵ (flft κ₂ q₂) ⊛ ‵ ftrue) ⊛ ‵ (Bench-t.the-row .own r-run-line (w-run-line ∷ []))) ⊛ raw (ensured 𝓤 H A c-run-line′.ended (c-run-line′.clauses 𝓤 H A mem run) (κ₀, (κ₁, (κ₂, tt))) (b, (recs, (many, (rest, (out, tt))))) tt r-run-line)))) (id⊢ 𝓤 _) $ await ! tt $
         pick ! (λ r-run-line. split ! $ move ! (1 ∷ []) $
-        use1 W (some (λ (z-run-line : (Unit {0}) × ((List Session) × ((Unit {0}) × ((Unit {0}) × ((List ℕ) × Unit {0}))))). ‵ (lasts c-run-line′.ended (κ₀, (κ₁, (κ₂, tt))) (b, (recs, (many, (rest, (out, tt))))) z-run-line) ⊛ raw (fact 𝓤 ((r-run-line .made ≤ 57344) × ((z-run-line .1 .1 .1 .1 .0) ≡ placed (b .made) (runPrints b (ys-recs) many (rest .now)) (ys-out)))))) (id⊢ 𝓤 _) $
-        pick ! (λ z-run-line. split ! $ move ! (1 ∷ []) $ heard ! ((r-run-line .made ≤ 57344) × ((z-run-line .1 .1 .1 .1 .0) ≡ placed (b .made) (runPrints b (ys-recs) many (rest .now)) (ys-out))) (λ e-run-line. fsplit ! $ drop ! $
+        use1 W (some (λ (z-run-line : (Unit {0}) × ((List Session) × ((Unit {0}) × ((Unit {0}) × ((List ℕ) × Unit {0}))))). ‵ (lasts c-run-line′.ended (κ₀, (κ₁, (κ₂, tt))) (b, (recs, (many, (rest, (out, tt))))) z-run-line) ⊛ raw (fact 𝓤 ((r-run-line .made ≤ mostMade) × ((z-run-line .1 .1 .1 .1 .0) ≡ placed (b .made) (runPrints b (ys-recs) many (rest .now)) (ys-out)))))) (id⊢ 𝓤 _) $
+        pick ! (λ z-run-line. split ! $ move ! (1 ∷ []) $ heard ! ((r-run-line .made ≤ mostMade) × ((z-run-line .1 .1 .1 .1 .0) ≡ placed (b .made) (runPrints b (ys-recs) many (rest .now)) (ys-out))) (λ e-run-line. fsplit ! $ drop ! $
         fsplit ! $ fsplit ! $ move ! (1 ∷ []) $ feqL ! (λ len-run-line-recs. move ! (1 ∷ []) $ fsplit ! $ drop ! $ fsplit ! $ drop ! $ fsplit ! $ fsplit ! $ move ! (1 ∷ []) $ feqL ! (λ len-run-line-out. move ! (1 ∷ []) $ drop ! $
         move ! (2 ∷ []) $ split ! $ split ! $ move ! (1 ∷ []) $ split ! $ move ! (1 ∷ []) $ split ! $ move ! (1 ∷ []) $ drop ! $ move ! (3 ∷ []) $
         peeks ! Bench-t.the-row (Is Bench-t.the-row) (shows 𝓤 H A Bench-t.the-row) r-run-line (w-run-line ∷ []) (λ is-run-line.
