@@ -5,7 +5,7 @@
 #include "../reading/reading.h"
 
 /* records and octets that a side has, and the octets of no meaning around each buffer */
-enum { ROOM = 80, MOST = 640, BUFFER = 256, AROUND = 64 };
+enum { ROOM = GRUGAVORN_PLACES + 16, MOST = 640, BUFFER = 256, AROUND = 64 };
 
 /* what one side works on */
 typedef struct {
