@@ -184,6 +184,8 @@ struct Ask {
 }
 
 impl Ask {
+    pub const NONE: u8 = 0;
+
     pub const CONTROL: u8 = 1;
 
     pub const USER: u8 = 2;
@@ -210,7 +212,7 @@ fn ask_of(line: Line) -> Ask
         Line::Down { size } => asking(Ask::DOWN, size, 0),
         Line::Tick => asking(Ask::TICK, 0, 0),
         Line::Close { place } => asking(Ask::CLOSE, 0, place as usize),
-        _ => asking(0, 0, 0),
+        _ => asking(Ask::NONE, 0, 0),
     }
 }
 
