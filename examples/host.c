@@ -1,12 +1,12 @@
-/* A host in C: one session is created, one packet of it is unwrapped, its line is printed, its place is
- * closed, and what is then due is sent. Prints each call's number and octets. `examples/build` builds and
- * runs it. */
+/* A host in C: one session is created, one packet of it is unwrapped, one for it is wrapped, its line is
+ * printed, its place is closed, and what is then due is sent. Prints each call's number and octets.
+ * `examples/build` builds and runs it. */
 #include "../include/grugavorn.h"
 #include <stdio.h>
 #include <string.h>
 
 static grugavorn_unit unit;
-static uint8_t reply[GRUGAVORN_REPLY];
+static uint8_t reply[GRUGAVORN_REPLY], out[1500 + GRUGAVORN_HEAD];
 
 static void show(const char *call, unsigned number, const uint8_t *octets, size_t size) {
   printf("%s %u ", call, number);
@@ -34,6 +34,10 @@ static const uint8_t create[] = {
 
 /* a G-PDU for place 0 in its first use, with four octets of payload */
 static const uint8_t packet[] = { 0x30, 0xFF, 0, 4, 0, 0, 1, 0x80, 0x45, 0, 0, 0 };
+
+/* an IPv4 packet of 24 octets from the carrier's side, for the address of place 0 */
+static const uint8_t down[] = { 0x45, 0,  0,   24, 0,   0,  0, 0, 64,  17,  0,   0,
+                                198,  51, 100, 7,  100, 64, 0, 1, 'd', 'o', 'w', 'n' };
 
 /* the echo of document 01's whole case */
 static const uint8_t echo[] = { 0x40, 0x01, 0, 9, 0, 0, 1, 0, 3, 0, 1, 0, 5 };
@@ -71,6 +75,10 @@ int main(void) {
 
   grugavorn_handed h = grugavorn_unit_user(&unit, packet, sizeof packet, reply, sizeof reply);
   show("user", h.number, packet + h.start, h.octets);
+
+  grugavorn_written w = grugavorn_unit_down(&unit, down, sizeof down, out, sizeof out);
+  show("down", w.number, out, w.size);
+  printf("to %08X\n", w.peer);
 
   a = grugavorn_unit_line(&unit, h.place, reply, sizeof reply);
   printf("line %u %.*s\n", a.number, (int)a.size, (const char *)reply);

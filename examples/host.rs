@@ -2,11 +2,13 @@
 // field; here the library's own calls are made, with the node by value.
 #![allow(dead_code)]
 
-// the figures of the header: places, access points, octets of a name, octets of the least reply buffer and of a record
+// the figures of the header: places, access points, octets of a name, octets of the least reply buffer, of what a G-PDU
+// has before its packet, and of a record
 const PLACES: usize = 64;
 const POINTS: usize = 4;
 const NAME: usize = 63;
 const REPLY: usize = 128;
+const HEAD: usize = 8;
 const RECORD: usize = 48;
 // the state of a free record
 const FREE: u8 = 0;
@@ -86,6 +88,14 @@ struct Handed {
     octets: usize,
 }
 
+#[repr(C)]
+struct Written {
+    number: u8,
+    place: usize,
+    size: usize,
+    peer: u32,
+}
+
 // the library's layout
 const _: () = {
     use std::mem::{offset_of, size_of};
@@ -97,12 +107,14 @@ const _: () = {
     assert!(size_of::<Left>() == 344 && offset_of!(Left, size) == 8 && offset_of!(Left, node) == 16);
     assert!(offset_of!(Left, from) == 328 && offset_of!(Left, to) == 336);
     assert!(size_of::<Handed>() == 40 && offset_of!(Handed, place) == 8 && offset_of!(Handed, octets) == 32);
+    assert!(size_of::<Written>() == 32 && offset_of!(Written, place) == 8 && offset_of!(Written, size) == 16 && offset_of!(Written, peer) == 24);
 };
 
 extern "C" {
     fn grugavorn_fresh(plan: Plan, records: *mut Session, count: usize) -> Left;
     fn grugavorn_control(node: Node, records: *mut Session, count: usize, datagram: *const u8, length: usize, reply: *mut u8, room: usize) -> Left;
     fn grugavorn_user(node: Node, records: *const Session, count: usize, datagram: *const u8, length: usize, reply: *mut u8, room: usize) -> Handed;
+    fn grugavorn_down(node: Node, records: *const Session, count: usize, packet: *const u8, length: usize, out: *mut u8, room: usize) -> Written;
     fn grugavorn_tick(node: Node, records: *mut Session, count: usize) -> Left;
     fn grugavorn_send(node: Node, records: *mut Session, count: usize, reply: *mut u8, room: usize) -> Left;
     fn grugavorn_line(node: Node, records: *const Session, count: usize, place: usize, reply: *mut u8, room: usize) -> Left;
@@ -142,6 +154,11 @@ impl Unit {
     fn user<'a>(&mut self, d: &'a [u8]) -> (u8, usize, &'a [u8]) {
         let h = unsafe { grugavorn_user(self.node, self.records.as_ptr(), PLACES, d.as_ptr(), d.len(), self.reply.as_mut_ptr(), REPLY) };
         (h.number, h.place, &d[h.start..h.start + h.octets])
+    }
+    // the G-PDU in `out`, and the peer's user address; empty and 0 where the packet is refused
+    fn down<'a>(&self, packet: &[u8], out: &'a mut [u8]) -> (u8, &'a [u8], u32) {
+        let w = unsafe { grugavorn_down(self.node, self.records.as_ptr(), PLACES, packet.as_ptr(), packet.len(), out.as_mut_ptr(), out.len()) };
+        (w.number, &out[..w.size], w.peer)
     }
     fn tick(&mut self) -> (u8, &[u8]) {
         let a = unsafe { grugavorn_tick(self.node, self.records.as_mut_ptr(), PLACES) };
@@ -190,6 +207,9 @@ const CREATE: [u8; 113] = [
 // a G-PDU for place 0 in its first use, with four octets of payload
 const PACKET: [u8; 12] = [0x30, 0xFF, 0, 4, 0, 0, 1, 0x80, 0x45, 0, 0, 0];
 
+// an IPv4 packet of 24 octets from the carrier's side, for the address of place 0
+const DOWN: [u8; 24] = [0x45, 0, 0, 24, 0, 0, 0, 0, 64, 17, 0, 0, 198, 51, 100, 7, 100, 64, 0, 1, b'd', b'o', b'w', b'n'];
+
 // the echo of document 01's whole case
 const ECHO: [u8; 13] = [0x40, 0x01, 0, 9, 0, 0, 1, 0, 3, 0, 1, 0, 5];
 
@@ -226,6 +246,10 @@ fn main() {
     }
     let (number, place, payload) = unit.user(&PACKET);
     show("user", number, payload);
+    let mut out = [0; 1500 + HEAD];
+    let (number, gpdu, peer) = unit.down(&DOWN, &mut out);
+    show("down", number, gpdu);
+    println!("to {peer:08X}");
     let (number, line) = unit.line(place);
     println!("line {number} {}", String::from_utf8_lossy(line));
     let (number, reply) = unit.close(place);

@@ -162,7 +162,7 @@ int signals_of(void) {
 
 int tun_of(const char *name) {
   struct ifreq device = { .ifr_flags = IFF_TUN | IFF_NO_PI };
-  int tun = open("/dev/net/tun", O_RDWR | O_CLOEXEC);
+  int tun = open("/dev/net/tun", O_RDWR | O_CLOEXEC | O_NONBLOCK);
   if (strlen(name) >= sizeof device.ifr_name)
     fail(name);
   strcpy(device.ifr_name, name);

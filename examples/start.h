@@ -13,11 +13,12 @@
  *     -r FILE           keeps the restart counter, which goes into the plan in place of its Recovery
  *     -u                use numbers begin at the restart counter times 65,536 (needs -r)
  *     -j FILE           the journal: all that goes in is put behind what the file has, as bench lines
- *     -a ADDRESS        takes datagrams from this address only; up to 16 times; the first is the exchange
+ *     -a ADDRESS        takes datagrams from this address only, and sends packets down to no other; up to 16
+ *                       times; the first is the exchange
  *     -s                hands a packet up only if it came from the address that its session named
  *     -w                answers go to ports 2123 and 2152, whatever port was asked from
  *     -e                the exchange answers no echo: the unit's own are not sent, and count as answered
- *     -t NAME           payloads go to this TUN device, not to standard output */
+ *     -t NAME           the carrier's side is this TUN device; else payloads go to standard output */
 typedef struct {
   const char *plan, *counter, *journal, *device;
   uint32_t peers[PEERS];
@@ -46,7 +47,7 @@ int clock_of(long milliseconds);
 /* SIGTERM and SIGINT, as a descriptor that can be read */
 int signals_of(void);
 
-/* a TUN device, made where there is none of the name */
+/* a TUN device, made where there is none of the name; where nothing waits, a read of it ends at once */
 int tun_of(const char *name);
 
 #endif

@@ -1,10 +1,11 @@
 /* A unit on the wire: a host for Linux with two UDP sockets, 2123 for control and 2152 for user datagrams,
- * bound to the addresses of its plan. One thread, one poll; a tick is one expiry of a clock. To be copied,
- * with start.c, which has the options and opens what is polled here.
+ * bound to the addresses of its plan, and the carrier's side: a TUN device, both ways, or standard output up
+ * and orders down. One thread, one poll; a tick is one expiry of a clock. To be copied, with start.c, which
+ * has the options and opens what is polled here.
  *
- * Standard input takes orders: `close N`, `places`, and `quit`, which ends at once and closes nothing.
- * SIGTERM and SIGINT close all places, a few a tick, and end once every place is free; a second one ends at
- * once. */
+ * Standard input takes orders: `close N`, `down HEX`, a packet from the carrier's side, `places`, and `quit`,
+ * which ends at once and closes nothing. SIGTERM and SIGINT close all places, a few a tick, and end once
+ * every place is free; a second one ends at once. */
 #define _GNU_SOURCE
 #include "start.h"
 #include <arpa/inet.h>
@@ -17,16 +18,20 @@
 #include <sys/signalfd.h>
 #include <unistd.h>
 
-/* LONGEST: octets of a datagram, at most, as on the bench. BATCH: datagrams that a port may bring before the
- * clock is looked at again. CLOSES: of a tick, at the end, since an exchange may not bear 64 at once. USES:
- * the use numbers that each start has for itself; 256 times this is one more than the last of them. */
+/* LONGEST: octets of a datagram or of a packet, at most, as on the bench. BATCH: how many of them a port or
+ * the TUN device may bring before the clock is looked at again. CLOSES: of a tick, at the end, since an
+ * exchange may not bear 64 at once. USES: the use numbers that each start has for itself; 256 times this is
+ * one more than the last of them. */
 enum { CONTROL_PORT = 2123, USER_PORT = 2152, LONGEST = 2048, BATCH = 64, CLOSES = 4, USES = 65536 };
 
 /* the message types that the host looks at */
 enum { ECHO_RESPONSE = 2, CREATE = 32, PACKET = 255 };
 
 static grugavorn_unit unit;
-static uint8_t reply[GRUGAVORN_REPLY], datagram[LONGEST];
+/* What came: a datagram, or a packet from the carrier's side; by one octet more a longer one is known. What
+ * goes out: a reply or an own request, or a G-PDU. */
+static uint8_t datagram[LONGEST], packet[LONGEST + 1];
+static uint8_t reply[GRUGAVORN_REPLY], gpdu[LONGEST + GRUGAVORN_HEAD];
 static options with;
 static uint32_t exchange, first_use;
 static int control_socket, user_socket, tun = -1, ending, ended;
@@ -70,10 +75,10 @@ static void flush(void) {
 }
 
 /* ---- what goes out */
-static void post(int from, size_t size, uint32_t address, uint16_t port) {
+static void post(int from, const uint8_t *octets, size_t size, uint32_t address, uint16_t port) {
   struct sockaddr_in to = { .sin_family = AF_INET, .sin_port = htons(port) };
   to.sin_addr.s_addr = htonl(address);
-  if (address == 0 || sendto(from, reply, size, 0, (struct sockaddr *)&to, sizeof to) != (ssize_t)size)
+  if (address == 0 || sendto(from, octets, size, 0, (struct sockaddr *)&to, sizeof to) != (ssize_t)size)
     unsent++;
 }
 
@@ -92,19 +97,19 @@ static void send_due(void) {
   grugavorn_answer a;
   while ((a = grugavorn_unit_send(&unit, reply, sizeof reply)).number == GRUGAVORN_TAKEN) {
     if (a.from < a.to) {
-      post(control_socket, a.size, grugavorn_unit_peer(&unit, a.from), CONTROL_PORT);
+      post(control_socket, reply, a.size, grugavorn_unit_peer(&unit, a.from), CONTROL_PORT);
     } else if (with.no_echo) {
       memcpy(answer + 4, reply + 4, 3);
       answered = 1;
     } else {
-      post(control_socket, a.size, exchange, CONTROL_PORT);
+      post(control_socket, reply, a.size, exchange, CONTROL_PORT);
     }
   }
   if (answered)
     take_control(answer, sizeof answer);
 }
 
-/* ---- what comes in: datagrams, ticks, orders */
+/* ---- what comes in: datagrams, packets from the carrier's side, ticks, orders */
 static void on_control(size_t size, uint32_t source, uint16_t port) {
   if (ending && size > 1 && datagram[1] == CREATE) {
     late++;
@@ -114,7 +119,7 @@ static void on_control(size_t size, uint32_t source, uint16_t port) {
   if (a.number == GRUGAVORN_TAKEN && with.peer_count == 0)
     exchange = source;
   if (a.size != 0)
-    post(control_socket, a.size, source, with.known_ports ? CONTROL_PORT : port);
+    post(control_socket, reply, a.size, source, with.known_ports ? CONTROL_PORT : port);
 }
 
 static void hand_up(size_t place, const uint8_t *payload, size_t size) {
@@ -140,7 +145,7 @@ static void on_user(size_t size, uint32_t source, uint16_t port) {
   }
   /* an Error Indication goes to the port of GTP-U, an echo's answer to where the echo came from */
   if (h.size != 0)
-    post(user_socket, h.size, source,
+    post(user_socket, reply, h.size, source,
          with.known_ports || h.number == GRUGAVORN_USER_NOT_LIVE ? USER_PORT : port);
 }
 
@@ -166,6 +171,34 @@ static void receive(int from_socket, void (*take)(size_t size, uint32_t source, 
     else
       take((size_t)size, ntohl(from.sin_addr.s_addr), ntohs(from.sin_port));
   }
+}
+
+/* A packet from the carrier's side goes, as a G-PDU, to the user address of its session's peer, if that is
+ * one to hear from. Answers the number; -1 for a packet that is too long, and only counted. */
+static int on_packet(size_t size) {
+  if (size > LONGEST) {
+    longer++;
+    return -1;
+  }
+  note_datagram('D', packet, size);
+  grugavorn_written w = grugavorn_unit_down(&unit, packet, size, gpdu, sizeof gpdu);
+  numbers[w.number]++;
+  if (w.number == GRUGAVORN_TAKEN && !is_peer(w.peer))
+    strangers++;
+  else if (w.number == GRUGAVORN_TAKEN)
+    post(user_socket, gpdu, w.size, w.peer, USER_PORT);
+  return w.number;
+}
+
+/* Takes what the TUN device has; answers whether there may be more: not of one that was taken away. */
+static int read_tun(void) {
+  for (int i = 0; i < BATCH; i++) {
+    ssize_t size = read(tun, packet, sizeof packet);
+    if (size < 0)
+      return errno == EAGAIN || errno == EINTR;
+    on_packet((size_t)size);
+  }
+  return 1;
 }
 
 /* One tick, however often the clock ran out meanwhile: ticks that were missed would only give up requests. */
@@ -220,24 +253,40 @@ static void print_places(void) {
   printf("\nstrangers %lu, longer %lu, late %lu, unsent %lu\n", strangers, longer, late, unsent);
 }
 
+/* the octets of a text in hex go into `packet`, as many as it takes; answers how many; -1 for another text */
+static ssize_t packet_in(const char *text) {
+  static const char digits[] = "0123456789ABCDEF";
+  size_t size = strlen(text) / 2;
+  if (strlen(text) % 2 != 0 || strspn(text, digits) != 2 * size)
+    return -1;
+  if (size > sizeof packet)
+    size = sizeof packet;
+  for (size_t i = 0; i < 2 * size; i++)
+    packet[i / 2] = (uint8_t)(packet[i / 2] << 4 | (strchr(digits, text[i]) - digits));
+  return (ssize_t)size;
+}
+
 static void on_order(const char *order) {
   unsigned place;
   char more;
+  ssize_t size;
   if (sscanf(order, "close %3u%c", &place, &more) == 1 && place <= UINT8_MAX)
     printf("close %u: %u\n", place, close_place(place));
+  else if (strncmp(order, "down ", 5) == 0 && (size = packet_in(order + 5)) >= 0)
+    printf("down: %d\n", on_packet((size_t)size));
   else if (strcmp(order, "places") == 0)
     print_places();
   else if (strcmp(order, "quit") == 0)
     ended = 1;
   else
-    puts("orders: close N, places, quit");
+    puts("orders: close N, down HEX, places, quit");
 }
 
 /* Takes what standard input has, and the orders in it that are whole; answers whether there may be more. */
 static int read_orders(void) {
-  static char order[64];
+  static char order[2 * LONGEST + 64];
   static size_t have;
-  char octets[256];
+  char octets[4096];
   ssize_t got = read(STDIN_FILENO, octets, sizeof octets);
   for (ssize_t i = 0; i < got; i++) {
     if (octets[i] != '\n') {
@@ -253,11 +302,9 @@ static int read_orders(void) {
 }
 
 static void serve(int clock, int signals) {
-  struct pollfd on[] = { { clock, POLLIN, 0 },
-                         { signals, POLLIN, 0 },
-                         { control_socket, POLLIN, 0 },
-                         { user_socket, POLLIN, 0 },
-                         { STDIN_FILENO, POLLIN, 0 } };
+  struct pollfd on[] = { { clock, POLLIN, 0 },          { signals, POLLIN, 0 },
+                         { control_socket, POLLIN, 0 }, { user_socket, POLLIN, 0 },
+                         { STDIN_FILENO, POLLIN, 0 },   { tun, POLLIN, 0 } };
   while (!ended) {
     if (poll(on, sizeof on / sizeof on[0], -1) < 0)
       fail("poll");
@@ -267,6 +314,8 @@ static void serve(int clock, int signals) {
       receive(control_socket, on_control);
     if (on[3].revents != 0)
       receive(user_socket, on_user);
+    if (on[5].revents != 0 && !read_tun())
+      on[5].fd = -1;
     if (on[4].revents != 0 && !read_orders())
       on[4].fd = -1;
     if (on[1].revents != 0) {

@@ -12,7 +12,7 @@
  *     for (size_t i = a.from; i < a.to; i++) look(&unit.records[i]);
  *
  * The unit is document 01's table: 64 session records, and the node, which is all that goes with them. The
- * calls on a unit stand at the end of this file. Each is a few lines over one of the library's own seven
+ * calls on a unit stand at the end of this file. Each is a few lines over one of the library's own eight
  * calls, which take the node by value, answer the node to keep, and are lent the records. A host may make
  * those itself, where records and node lie apart; it has to store the answer's node before the next call,
  * whatever the number is.
@@ -21,13 +21,14 @@
  * table, a plan or a datagram that makes no sense. It allocates nothing, keeps no static state, calls
  * nothing outside (but memcpy and memset) and writes only to what a call's comment says. What it takes on
  * trust is the C side: that each pointer has as many elements behind it as the count beside it says and is
- * not null, not even for a count of 0, and that the records, the datagram and the reply buffer of one call
- * do not overlap where one of them is written to.
+ * not null, not even for a count of 0, and that the records, the datagram or packet and the reply or output
+ * buffer of one call do not overlap where one of them is written to: a packet is not wrapped where it lies.
  *
- * Numbers are document 01's (enum grugavorn_number, docs/NUMBERS.md). Every refusal leaves the records,
- * the node and the reply buffer as they were, unless the call's comment or the number's section says
- * otherwise. Octets of the reply buffer past the reply's length are never written. Multi-octet fields
- * below are the processor's own order; datagrams and replies are octets as on the wire.
+ * Numbers are those of documents 01 and 02 (enum grugavorn_number, docs/NUMBERS.md). Every refusal leaves
+ * the records, the node and the reply or output buffer as they were, unless the call's comment or the
+ * number's section says otherwise. Octets of a buffer past the length that was answered are never written.
+ * Multi-octet fields below are the processor's own order; datagrams, packets and replies are octets as on
+ * the wire.
  *
  * Each call that may change records answers where: those of the places from `from` on and below `to`, which
  * is never over 64; every other record is as it was, and where no record changed mostly both are 0. A host
@@ -49,10 +50,10 @@ extern "C" {
 
 /* The version: document 01 is 1.0. A change of the exported names, of their arguments or of a struct's
  * layout raises the major number; what is only added raises the minor one. 2.0: answers have from and to;
- * grugavorn_peer and grugavorn_address are new. */
+ * grugavorn_peer and grugavorn_address are new. 2.1: grugavorn_down, with numbers 18 to 20. */
 #define GRUGAVORN_VERSION_MAJOR 2
-#define GRUGAVORN_VERSION_MINOR 0
-#define GRUGAVORN_VERSION "2.0"
+#define GRUGAVORN_VERSION_MINOR 1
+#define GRUGAVORN_VERSION "2.1"
 
 /* the places of a unit, numbered from 0; the most access points of a plan; the most octets of a name */
 #define GRUGAVORN_PLACES 64
@@ -60,6 +61,8 @@ extern "C" {
 #define GRUGAVORN_NAME 63
 /* the least reply buffer: a shorter one is number 1 */
 #define GRUGAVORN_REPLY 128
+/* the octets of a G-PDU before its packet: the output buffer has at least so many more than the packet */
+#define GRUGAVORN_HEAD 8
 /* the octets of one session record */
 #define GRUGAVORN_RECORD 48
 /* the characters of a place's line, at most: 81, and up to 3 digits of the place */
@@ -100,6 +103,12 @@ enum grugavorn_number {
   /* the plan breaks a limit */
   GRUGAVORN_PLAN_BREAKS = 16,
   GRUGAVORN_NOTHING_DUE = 17,
+  /* a packet that is not one whole IPv4 packet */
+  GRUGAVORN_PACKET_UNFIT = 18,
+  /* no session has the destination address */
+  GRUGAVORN_NO_SESSION = 19,
+  /* the output buffer is under the packet plus 8 */
+  GRUGAVORN_OUTPUT_SHORT = 20,
   /* the causes: the reply has that cause. No such session */
   GRUGAVORN_NOT_LIVE = 64,
   /* a field is short, or overruns */
@@ -199,6 +208,16 @@ typedef struct {
   size_t octets;
 } grugavorn_handed;
 
+/* What a packet from the carrier's side comes to: the number, the place of its session, the length of the
+ * G-PDU in the output buffer, and the user address of the session's peer, to which it goes. Where nothing is
+ * written, all but the number are 0. */
+typedef struct {
+  uint8_t number;
+  size_t place;
+  size_t size;
+  uint32_t peer;
+} grugavorn_written;
+
 GRUGAVORN_LAID(sizeof(grugavorn_point) == 68 && offsetof(grugavorn_point, name) == 0
                && offsetof(grugavorn_point, size) == 63 && offsetof(grugavorn_point, guarantee) == 64
                && offsetof(grugavorn_point, ceiling) == 66);
@@ -224,6 +243,9 @@ GRUGAVORN_LAID(sizeof(grugavorn_left) == 344 && offsetof(grugavorn_left, number)
 GRUGAVORN_LAID(sizeof(grugavorn_handed) == 40 && offsetof(grugavorn_handed, number) == 0
                && offsetof(grugavorn_handed, place) == 8 && offsetof(grugavorn_handed, size) == 16
                && offsetof(grugavorn_handed, start) == 24 && offsetof(grugavorn_handed, octets) == 32);
+GRUGAVORN_LAID(sizeof(grugavorn_written) == 32 && offsetof(grugavorn_written, number) == 0
+               && offsetof(grugavorn_written, place) == 8 && offsetof(grugavorn_written, size) == 16
+               && offsetof(grugavorn_written, peer) == 24);
 
 /* ---- the library's own calls: the node goes in by value, and the one that comes back is to be stored */
 
@@ -258,6 +280,20 @@ grugavorn_left grugavorn_control(grugavorn_node node, grugavorn_session *records
  * The payload is a part of the caller's datagram: nothing is copied. */
 grugavorn_handed grugavorn_user(grugavorn_node node, const grugavorn_session *records, size_t count,
                                 const uint8_t *datagram, size_t length, uint8_t *reply, size_t room);
+
+/* Downlink: `length` octets from the carrier's side, one whole IPv4 packet, go into the output buffer of
+ * `room` octets as a G-PDU under the user TEID of the peer whose session has the destination address: pool
+ * base + 1 + place. A closing session counts. The table is only read, so no node comes back; the packet is
+ * never written to.
+ *   0   written: 30 FF, the packet's length, the TEID, then the packet; `size` is length + 8
+ *   2   the table breaks its rules, or `count` is not 64
+ *   18  under 20 octets, a version other than 4, a header length under 20 octets or over the total length, or
+ *       a total length other than `length`; nothing else of the header is read
+ *   19  no live or closing session has the destination address
+ *   20  room under length + 8
+ * There is no number 1, and all refusals are silent: nothing is written, place, size and peer are 0. */
+grugavorn_written grugavorn_down(grugavorn_node node, const grugavorn_session *records, size_t count,
+                                 const uint8_t *packet, size_t length, uint8_t *out, size_t room);
 
 /* Tick: what was sent and is unanswered counts down from T, and is due again, or given up after N sends:
  * its place is freed, for an echo all places.
@@ -343,6 +379,13 @@ static inline grugavorn_answer grugavorn_unit_control(grugavorn_unit *unit, cons
 static inline grugavorn_handed grugavorn_unit_user(const grugavorn_unit *unit, const uint8_t *datagram,
                                                    size_t length, uint8_t *reply, size_t room) {
   return grugavorn_user(unit->node, unit->records, GRUGAVORN_PLACES, datagram, length, reply, room);
+}
+
+/* Writes a packet from the carrier's side as a G-PDU into the output buffer: grugavorn_down. The unit is only
+ * read. */
+static inline grugavorn_written grugavorn_unit_down(const grugavorn_unit *unit, const uint8_t *packet,
+                                                    size_t length, uint8_t *out, size_t room) {
+  return grugavorn_down(unit->node, unit->records, GRUGAVORN_PLACES, packet, length, out, room);
 }
 
 /* Counts one tick: grugavorn_tick. */

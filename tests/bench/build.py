@@ -30,6 +30,10 @@ def U(datagram):
     return "U" + TAB + datagram.hex().upper()
 
 
+def D(packet):
+    return "D" + TAB + packet.hex().upper()
+
+
 def X(place):
     return "X" + TAB + str(place)
 
@@ -158,6 +162,13 @@ def bearer_deleted(teid, seq, *fields):
 def gpdu(teid=0x180, rest=b"", first=0x30, kind=255, length=None):
     """rest: all behind the first 8 octets, optional part and extension headers included."""
     return bytes([first, kind]) + (len(rest) if length is None else length).to_bytes(2, "big") + teid.to_bytes(4, "big") + rest
+
+
+# ---- packets of the carrier's side
+def packet(to="64400001", rest=b"", first=0x45, total=None, source="C6336401"):
+    """An IPv4 packet; rest: all behind the first 20 octets, options included; total: what its total length says, where it is not its size."""
+    size = 20 + len(rest) if total is None else total
+    return bytes([first, 0]) + size.to_bytes(2, "big") + octets("1234 4000 40 11 0000" + source + to) + rest
 
 
 # ---- expected lines, spelled out by hand

@@ -19,6 +19,7 @@ import cases_change  # noqa: F401
 import cases_own  # noqa: F401
 import cases_share  # noqa: F401
 import cases_user  # noqa: F401
+import cases_down  # noqa: F401
 import cases_bench  # noqa: F401
 
 HERE = os.path.dirname(os.path.abspath(__file__))

@@ -81,7 +81,6 @@ for name, shows, text in [
         ("empty-line", "an empty line", ""),
         ("unknown-letter", "another letter", "Q\t00"),
         ("lower-case-letter", "a lower-case letter", C(echo(0x40)).lower()),
-        ("d-line", "a D line", "D\t00"),
         ("l-line", "an L line", "L\t0"),
         ("comment", "a comment", "# echo"),
         ("c-alone", "C without a field", "C"),
@@ -99,6 +98,15 @@ for name, shows, text in [
         ("u-of-2049", "2,049 octets", U(bytes(DATAGRAM + 1))),
         ("u-alone", "U without a field", "U"),
         ("u-odd-hex", "an odd count of hex digits", "U\t3"),
+        ("d-alone", "D without a field", "D"),
+        ("d-too-many", "two fields behind D", D(packet()) + "\t" + packet().hex().upper()),
+        ("d-trailing-tab", "D with a tab at the end", D(packet()) + "\t"),
+        ("d-odd-hex", "an odd count of hex digits behind D", D(packet()) + "0"),
+        ("d-lower-case-hex", "lower-case hex behind D", "D\t" + packet("6440000A").hex()),
+        ("d-no-hex", "a letter behind D that is no hex digit", D(packet())[:-1] + "G"),
+        ("d-lower-case-letter", "d is not D", D(packet()).lower()),
+        ("d-of-2049", "a packet of 2,049 octets", D(packet(rest=bytes(DATAGRAM - 19)))),
+        ("d-of-10000", "a packet line far longer than any good one", D(packet(rest=bytes(9980)))),
         ("t-with-field", "T with a field", "T\t1"),
         ("t-trailing-tab", "T with a tab", "T\t"),
         ("t-space", "T with a space", "T "),
@@ -120,6 +128,11 @@ case("bad-line-keeps-what-was-said", "what was printed before a bad line stays, 
 case("u-of-2048", "2,048 octets are taken: the payload is all but 8", C(create()), U(gpdu(0x180, b"\xA5" * (DATAGRAM - 8))),
      out=[accepted(), line(0, "-", "A5" * (DATAGRAM - 8)), line("L", 1), SESSION])
 case("c-empty-hex", "empty hex is a datagram of no octets: 3", "C\t", "U\t", out=[line(3, "-"), line(3, "-"), line("L", 0)])
+case("d-empty-hex", "empty hex is a packet of no octets: 18", "D\t", out=[line(18, "-"), line("L", 0)])
+case("d-printed-line", "a D line as it is printed for a due datagram is a packet's line in an input: 18",
+     "D\t4863000D00001111000000004900010005", out=[line(18, "-"), line("L", 0)])
+case("d-without-line-end", "a last D line without a line end is a line", C(create()), D(packet()), end="",
+     out=[accepted(), line(0, "30 FF 0014 00002222 45 00 0014 1234 4000 40 11 0000 C6336401 64400001", "0A010009"), line("L", 1), SESSION])
 
 # ---- refused plans
 for name, shows, lines in [

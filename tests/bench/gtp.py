@@ -1,6 +1,7 @@
-"""The octets of document 01: how control fields are read, and what each reply and own request looks like.
+"""The octets of document 01: how control fields are read, and what each reply and own request looks like. Behind them the
+downlink's: the carrier's packet and its G-PDU.
 
-Half of the test oracle (model.py is the other half). Written from document 01 and its readings alone, without the program's code;
+Half of the test oracle (model.py is the other half). Written from the papers and their readings alone, without the program's code;
 plain and slow on purpose. A value is read from a `bytes`, and every writer returns a `bytes`.
 """
 
@@ -153,3 +154,23 @@ def user_echo_reply(sequence):
 def error_indication(teid, address):
     """"32 1A 00 10, TEID 0, four 00, 10 and the TEID, 85 00 04 and the unit's user address.\""""
     return bytes.fromhex("321A00100000000000000000") + b"\x10" + teid + bytes.fromhex("850004") + address.to_bytes(4, "big")
+
+
+# ---- downlink (document 02, request 1)
+
+def whole_packet(d):
+    """Not whole: "under 20 octets, of a version other than 4, with a header length under 20 octets or over the total, or with a total
+    length other than what was given". Nothing else of the header is read."""
+    if len(d) < 20:
+        return False
+    version, header, total = d[0] >> 4, 4 * (d[0] & 15), number(d[2:4])
+    return version == 4 and 20 <= header <= total and total == len(d)
+
+
+def destination(d):
+    return number(d[16:20])
+
+
+def gpdu(teid, packet):
+    """"octet 1 30, type 255, the peer's user TEID, no optional part"; the length is the packet's."""
+    return b"\x30\xFF" + len(packet).to_bytes(2, "big") + teid.to_bytes(4, "big") + packet

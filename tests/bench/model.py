@@ -1,8 +1,8 @@
 #!/usr/bin/env python3
-"""A model of document 01: reads a bench input on standard input and prints what document 01 says.
+"""A model of document 01 and of request 1 of document 02: reads a bench input on standard input and prints what the papers say.
 
-A test oracle, written from document 01 and its readings alone, without the program's code; its sections follow the paper's order.
-gtp.py has the octets. A call returns (number, reply, payload or None).
+A test oracle, written from the papers and their readings alone, without the program's code; its sections follow document 01's order.
+gtp.py has the octets. A call returns (number, reply, what is printed behind it: payload or peer's address, or None).
 """
 import sys
 
@@ -69,6 +69,9 @@ class Unit:
     def free_all(self):
         for place in self.places:
             place.free()
+
+    def address_of(self, place):
+        return self.plan.pool + 1 + place.index  # "Its address is pool base + 1 + place"
 
     # ---- Sharing rule
     def admits(self, point):
@@ -158,9 +161,9 @@ class Unit:
         return 0, self.created(place), None
 
     def created(self, place):
-        """"the accepted reply is written from the record"; "Its address is pool base + 1 + place"."""
+        """"the accepted reply is written from the record"."""
         plan = self.plan
-        return gtp.created(place.peer, place.creating, place.control_teid(), plan.control, plan.pool + 1 + place.index, place.ebi,
+        return gtp.created(place.peer, place.creating, place.control_teid(), plan.control, self.address_of(place), place.ebi,
                            place.user_teid(), plan.user, plan.own_recovery)
 
     # ---- Modify (34)
@@ -310,6 +313,16 @@ class Unit:
             return 0, b"", d[at:]
         return 15, gtp.error_indication(d[4:8], self.plan.user), None
 
+    # ---- Downlink
+    def down(self, d):
+        """"Refusals: 2, then 18 .., 19 for no session; 20 for an output buffer under the packet plus 8": the bench's is long enough."""
+        if not gtp.whole_packet(d):
+            return 18, b"", None
+        for place in self.live():  # a closing one too
+            if self.address_of(place) == gtp.destination(d):
+                return 0, gtp.gpdu(place.peer_user, d), place.peer_user_address.to_bytes(4, "big")
+        return 19, b"", None
+
 
 # ---- Bench print
 class Bad(Exception):
@@ -340,8 +353,7 @@ def bench(source):
     lines = source.split(b"\n")
     if lines[-1] == b"":
         lines.pop()
-    plan = unit = None
-    at = 0
+    unit = None
     try:
         at, parts = 1, (lines[0] if lines else b"").split(b"\t")
         if parts[0] != b"N" or len(parts) != 8:
@@ -361,12 +373,12 @@ def bench(source):
                 unit = Unit(plan)
             if line is None:
                 break
-            if len(parts) != {b"C": 2, b"U": 2, b"T": 1, b"X": 2}.get(parts[0]):
+            if len(parts) != {b"C": 2, b"U": 2, b"D": 2, b"T": 1, b"X": 2}.get(parts[0]):
                 raise Bad
-            call = {b"C": unit.control, b"U": unit.user, b"X": unit.close, b"T": unit.tick}[parts[0]]
+            call = {b"C": unit.control, b"U": unit.user, b"D": unit.down, b"X": unit.close, b"T": unit.tick}[parts[0]]
             given = [] if parts[0] == b"T" else [decimal(parts[1])] if parts[0] == b"X" else [octets(parts[1], DATAGRAM)]
-            answer, reply, payload = call(*given)
-            yield "\t".join([str(answer), reply.hex().upper() or "-"] + ([] if payload is None else [payload.hex().upper() or "-"]))
+            answer, reply, third = call(*given)
+            yield "\t".join([str(answer), reply.hex().upper() or "-"] + ([] if third is None else [third.hex().upper() or "-"]))
             while parts[0] in (b"T", b"X"):
                 due = unit.send_next()
                 if due is None:

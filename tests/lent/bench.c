@@ -1,5 +1,5 @@
-/* The bench of document 01 as a host in C over the library for firmware: so that every case of the bench also
- * goes through the calls on a unit. With READING defined these go to the reading instead. Reads standard
+/* The bench as a host in C over the library for firmware: so that every case of the bench also goes through
+ * the calls on a unit. With READING defined these go to the reading instead. Reads standard
  * input, prints what the bench prints. */
 #ifdef READING
 #define grugavorn_fresh reading_fresh
@@ -9,6 +9,7 @@
 #define grugavorn_send reading_send
 #define grugavorn_close reading_close
 #define grugavorn_line reading_line
+#define grugavorn_down reading_down
 #endif
 #include "../../include/grugavorn.h"
 #include <stdio.h>
@@ -24,7 +25,7 @@ typedef struct {
 
 static grugavorn_unit unit;
 static grugavorn_plan plan;
-static uint8_t reply[GRUGAVORN_REPLY], datagram[LONGEST];
+static uint8_t reply[GRUGAVORN_REPLY], datagram[LONGEST], out[LONGEST + GRUGAVORN_HEAD];
 
 static void bad(unsigned long line) {
   printf("E\t%lu\n", line);
@@ -138,6 +139,15 @@ static void take_user(size_t length) {
   putchar('\n');
 }
 
+static void take_down(size_t length) {
+  grugavorn_written w = grugavorn_unit_down(&unit, datagram, length, out, sizeof out);
+  printf("%u\t", w.number);
+  in_hex(out, w.size);
+  if (w.number == 0)
+    printf("\t%08X", (unsigned)w.peer);
+  putchar('\n');
+}
+
 static int take_event(const part *f, int n) {
   char kind = f[0].size == 1 ? f[0].text[0] : 0;
   if (kind == 'T' && n == 1) {
@@ -155,13 +165,15 @@ static int take_event(const part *f, int n) {
     send_due();
     return 1;
   }
-  if (kind != 'C' && kind != 'U')
+  if (kind != 'C' && kind != 'U' && kind != 'D')
     return 0;
   long length = octets(f[1], datagram, LONGEST);
   if (length < 0)
     return 0;
   if (kind == 'U')
     take_user((size_t)length);
+  else if (kind == 'D')
+    take_down((size_t)length);
   else
     answered(grugavorn_unit_control(&unit, datagram, (size_t)length, reply, sizeof reply));
   return 1;

@@ -1,4 +1,5 @@
-/* What the trial makes up: plans, datagrams and tables, sound and broken, for the calls of stress.c. */
+/* What the trial makes up: plans and tables (made.c), datagrams (datagrams.c) and packets from the carrier's
+ * side (packets.c), sound and broken, for the calls of stress.c. */
 #ifndef MADE_H
 #define MADE_H
 #include "../reading/reading.h"
@@ -42,6 +43,29 @@ int some_place(int kind);
 void control_datagram(unsigned type);
 void user_datagram(void);
 void damage(unsigned less);
+
+/* A packet from the carrier's side and the output buffer for it, of one side, each with octets of no meaning
+ * before and behind it; of the arrays only what lies before packet_end and out_end is looked at. */
+enum { LONGEST = 70000, SPAN = LONGEST + 512 };
+
+typedef struct {
+  uint8_t in[SPAN];
+  uint8_t out[SPAN];
+} ends;
+
+/* the library's side, and the sizes of packet and output buffer, which both sides have */
+extern ends ends_lent;
+extern size_t packet_size, out_size;
+
+/* makes them up */
+void some_packet(void);
+
+uint8_t *packet_of(ends *e);
+uint8_t *out_of(ends *e);
+size_t packet_end(void);
+size_t out_end(void);
+void copy_ends(ends *to, const ends *from);
+int same_ends(const ends *a, const ends *b);
 
 /* a table that breaks a rule, or may; places that were used before, and numbers about to go round */
 void break_table(void);

@@ -1,235 +1,24 @@
 /* The library against the reading, call by call, on made-up tables, plans, counts, datagrams and buffers,
  * sound and broken.
  *   stress SEED CALLS       compares that many calls; the first difference ends it
+ *   stress SEED CALLS down  makes packets from the carrier's side of most calls, and counts these alone
  *   stress cost CALL COUNT  makes a table of all places live and then COUNT calls of one kind, for
  *                           counting instructions
- * Each side works in an arena of its own, with octets of no meaning around every buffer. After a call
+ * Each side works in an arena of its own, with octets of no meaning around every buffer; a packet from the
+ * carrier's side and its output buffer, which may be long, lie beside the arena, likewise. After a call
  * answer and node are compared field by field, the places that may have changed too (and outside them no
  * octet of a record may differ from before), reply, datagram and what stands around them octet by octet,
  * and the records field by field; a silent refusal has to leave the records as they were, and no record
  * past the count may change, octet by octet, what is between the fields included. A call with the right
  * count of records is made once more on a unit, by the header's calls for it, and has to come to the same.
  * The library runs on stacks of its own, one a call, so that the deepest use of each is known at the end. */
-#include "made.h"
+#include "trial.h"
 #include <stdio.h>
 #include <stdlib.h>
 #include <string.h>
-#include <ucontext.h>
 
-enum { LAST = GRUGAVORN_PLACES - 1 };
-
-typedef grugavorn_session session;
-static arena before, read_;
-
-/* ---- the library's calls, each on its own stack; what a call that does nothing uses is taken off */
-enum { FRESH, CONTROL, USER, TICK, SEND, CLOSE, LINE, CALLS };
-
-static const char *names[] = { "fresh", "control", "user", "tick", "send", "close", "line" };
-
-enum { DEEP = 262144 };
-
-static uint8_t stacks[CALLS + 1][DEEP];
-static ucontext_t home, there[CALLS + 1];
-
-static struct {
-  grugavorn_plan plan;
-  session *records;
-  size_t count, length, room, place;
-  const uint8_t *datagram;
-  uint8_t *reply;
-  grugavorn_left left;
-  grugavorn_handed handed;
-} job;
-
-static void work(int call) {
-  for (;;) {
-    switch (call) {
-    case FRESH:
-      job.left = grugavorn_fresh(job.plan, job.records, job.count);
-      break;
-    case CONTROL:
-      job.left =
-          grugavorn_control(node, job.records, job.count, job.datagram, job.length, job.reply, job.room);
-      break;
-    case USER:
-      job.handed =
-          grugavorn_user(node, job.records, job.count, job.datagram, job.length, job.reply, job.room);
-      break;
-    case TICK:
-      job.left = grugavorn_tick(node, job.records, job.count);
-      break;
-    case SEND:
-      job.left = grugavorn_send(node, job.records, job.count, job.reply, job.room);
-      break;
-    case CLOSE:
-      job.left = grugavorn_close(node, job.records, job.count, job.place);
-      break;
-    case LINE:
-      job.left = grugavorn_line(node, job.records, job.count, job.place, job.reply, job.room);
-      break;
-    }
-    swapcontext(&there[call], &home);
-  }
-}
-
-static void set_stacks(void) {
-  memset(stacks, 0xA5, sizeof stacks);
-  for (int i = 0; i <= CALLS; i++) {
-    getcontext(&there[i]);
-    there[i].uc_stack.ss_sp = stacks[i];
-    there[i].uc_stack.ss_size = DEEP;
-    there[i].uc_link = 0;
-    makecontext(&there[i], (void (*)(void))work, 1, i);
-  }
-  swapcontext(&home, &there[CALLS]);
-}
-
-static long deepest(int call) {
-  long i = 0;
-  while (i < DEEP && stacks[call][i] == 0xA5)
-    i++;
-  return DEEP - i;
-}
-
-static grugavorn_left run_on(int call, size_t count, size_t room, size_t place) {
-  job.records = lent.records;
-  job.count = count;
-  job.datagram = lent.datagram;
-  job.length = length;
-  job.reply = lent.reply;
-  job.room = room;
-  job.place = place;
-  swapcontext(&home, &there[call]);
-  return job.left;
-}
-
-/* ---- what has to be equal */
-static int same_request(const grugavorn_request *a, const grugavorn_request *b) {
-  return a->timer == b->timer && a->sends == b->sends && a->number == b->number;
-}
-
-static int same_plan(const grugavorn_plan *a, const grugavorn_plan *b) {
-  if (a->control != b->control || a->user != b->user || a->pool != b->pool || a->recovery != b->recovery
-      || a->resend != b->resend || a->sends != b->sends || a->interval != b->interval || a->count != b->count)
-    return 0;
-  for (int i = 0; i < GRUGAVORN_POINTS; i++)
-    if (memcmp(a->points[i].name, b->points[i].name, GRUGAVORN_NAME) != 0
-        || a->points[i].size != b->points[i].size || a->points[i].guarantee != b->points[i].guarantee
-        || a->points[i].ceiling != b->points[i].ceiling)
-      return 0;
-  return 1;
-}
-
-static int same_node(const grugavorn_node *a, const grugavorn_node *b) {
-  return same_plan(&a->plan, &b->plan) && same_request(&a->echo, &b->echo) && a->next == b->next
-         && a->heard == b->heard && a->recovery == b->recovery;
-}
-
-static int same_record(const session *a, const session *b) {
-  return a->imsi == b->imsi && a->usage == b->usage && a->control == b->control
-         && a->controladdr == b->controladdr && a->user == b->user && a->useraddr == b->useraddr
-         && a->created == b->created && same_request(&a->own, &b->own) && a->state == b->state
-         && a->point == b->point && a->ebi == b->ebi;
-}
-
-static unsigned long met[CALLS][256], turn;
-
-static void differ(const char *what, int call, unsigned number, unsigned other) {
-  printf("lent: %s differs in call %lu, %s: the library answers %u, the reading %u\n", what, turn,
-         names[call], number, other);
-  for (size_t i = 0; i < length; i++)
-    printf("%02X", before.datagram[i]);
-  puts("");
-  exit(1);
-}
-
-/* the same call on a unit of its own, as a host makes it: it has to come to the same, node and records too */
-static void compare_unit(int call, const grugavorn_left *a) {
-  static grugavorn_unit unit;
-  static uint8_t reply[BUFFER];
-  grugavorn_answer u = { 0, 0, 0, 0 };
-  unit.node = node;
-  memcpy(unit.records, before.records, sizeof unit.records);
-  memcpy(reply, before.reply, sizeof reply);
-  switch (call) {
-  case FRESH:
-    u = grugavorn_unit_fresh(&unit, &job.plan);
-    break;
-  case CONTROL:
-    u = grugavorn_unit_control(&unit, before.datagram, length, reply, job.room);
-    break;
-  case USER: {
-    grugavorn_handed h = grugavorn_unit_user(&unit, before.datagram, length, reply, job.room);
-    if (h.place != job.handed.place || h.start != job.handed.start || h.octets != job.handed.octets)
-      differ("the payload on a unit", call, a->number, h.number);
-    u.number = h.number;
-    u.size = h.size;
-    break;
-  }
-  case TICK:
-    u = grugavorn_unit_tick(&unit);
-    break;
-  case SEND:
-    u = grugavorn_unit_send(&unit, reply, job.room);
-    break;
-  case CLOSE:
-    u = grugavorn_unit_close(&unit, job.place);
-    break;
-  case LINE:
-    u = grugavorn_unit_line(&unit, job.place, reply, job.room);
-    break;
-  }
-  if (u.number != a->number || u.size != a->size || u.from != a->from || u.to != a->to
-      || !same_node(&unit.node, &a->node) || memcmp(reply, lent.reply, BUFFER) != 0)
-    differ("the call on a unit", call, a->number, u.number);
-  for (int i = 0; i < GRUGAVORN_PLACES; i++)
-    if (!same_record(&unit.records[i], &lent.records[i]))
-      differ("a record of a unit", call, a->number, u.number);
-}
-
-/* where the session of the call's place is, of the records as they are left: any count, any place */
-static void compare_where(int call, const grugavorn_left *a, size_t count) {
-  size_t place = call == CLOSE || call == LINE ? job.place : a->from;
-  int there = place < count && lent.records[place].state != GRUGAVORN_FREE;
-  if (grugavorn_peer(lent.records, count, place) != (there ? lent.records[place].controladdr : 0))
-    differ("the peer's address", call, a->number, a->number);
-  if (grugavorn_address(node, place) != (place < GRUGAVORN_PLACES ? node.plan.pool + 1 + (uint32_t)place : 0))
-    differ("the address", call, a->number, a->number);
-}
-
-static void compare(int call, const grugavorn_left *a, const grugavorn_left *b, size_t count, int kept) {
-  if (a->number != b->number || a->size != b->size)
-    differ("the answer", call, a->number, b->number);
-  if (a->from != b->from || a->to != b->to || a->from > a->to || a->to > GRUGAVORN_PLACES)
-    differ("where records changed", call, a->number, b->number);
-  if (!same_node(&a->node, &b->node))
-    differ("the node", call, a->number, b->number);
-  for (int i = 0; i < ROOM; i++)
-    if (!same_record(&lent.records[i], &read_.records[i]))
-      differ("a record", call, a->number, b->number);
-  size_t past = count < ROOM ? count : ROOM;
-  if (memcmp(lent.records + past, before.records + past, (ROOM - past) * sizeof(session)) != 0)
-    differ("a record past the count", call, a->number, b->number);
-  for (size_t i = 0; i < ROOM; i++)
-    if ((i < a->from || i >= a->to) && memcmp(&lent.records[i], &before.records[i], sizeof(session)) != 0)
-      differ("a record of another place", call, a->number, b->number);
-  if (kept && memcmp(lent.records, before.records, sizeof lent.records) != 0)
-    differ("a record that is kept", call, a->number, b->number);
-  if (memcmp(lent.a, before.a, AROUND) != 0
-      || memcmp(lent.b, before.b, (size_t)((uint8_t *)lent.reply - lent.b)) != 0
-      || memcmp(lent.d, before.d, AROUND) != 0)
-    differ("what is around", call, a->number, b->number);
-  if (memcmp(lent.reply, read_.reply, BUFFER) != 0)
-    differ("the reply buffer", call, a->number, b->number);
-  if (memcmp(lent.reply + a->size, before.reply + a->size, BUFFER - a->size) != 0)
-    differ("the buffer past the reply", call, a->number, b->number);
-  if (call == LINE && a->size > GRUGAVORN_LINE)
-    differ("the most that a line has", call, a->number, b->number);
-  compare_where(call, a, count);
-  if (count == GRUGAVORN_PLACES)
-    compare_unit(call, a);
-  met[call][a->number]++;
-}
+/* whether most calls are to be packets from the carrier's side */
+static int mostly_down;
 
 static int silent(unsigned number) {
   return number >= 1 && number <= 17 && number != 5 && number != 15 && number != 16;
@@ -254,7 +43,7 @@ static void step(void) {
   int disturbed = one_in(7);
   size_t count = GRUGAVORN_PLACES;
   size_t room = GRUGAVORN_REPLY + (one_in(2) ? 0 : below(BUFFER - GRUGAVORN_REPLY + 1));
-  unsigned pick = below(100);
+  unsigned pick = mostly_down && !one_in(10) ? 100 : below(112);
   unsigned place = one_in(9) ? chance() >> below(32)
                              : (unsigned)some_place(one_in(3) ? GRUGAVORN_CLOSING : GRUGAVORN_LIVE);
   static const unsigned kinds[] = { 32, 32, 32, 32, 32, 32, 34, 34, 36, 1, 2, 2, 100, 100, 100, 3, 0 };
@@ -262,6 +51,8 @@ static void step(void) {
     control_datagram(kinds[below(17)]);
   else if (pick < 72)
     user_datagram();
+  else if (pick >= 100)
+    some_packet();
   if (one_in(6))
     damage(pick < 58 ? 4 : 8);
   if (disturbed) {
@@ -304,11 +95,18 @@ static void step(void) {
     grugavorn_left a = run_on(LINE, count, room, place);
     grugavorn_left b = reading_line(node, read_.records, count, place, read_.reply, room);
     compare(LINE, &a, &b, count, 1);
-  } else {
+  } else if (pick < 100) {
     grugavorn_left a = run_on(CLOSE, count, 0, place);
     grugavorn_left b = reading_close(node, read_.records, count, place);
     compare(CLOSE, &a, &b, count, silent(a.number));
     node = a.node;
+  } else {
+    copy_ends(&ends_before, &ends_lent);
+    copy_ends(&ends_read, &ends_lent);
+    run_on(DOWN, count, 0, 0);
+    grugavorn_written b = reading_down(node, read_.records, count, packet_of(&ends_read), packet_size,
+                                       out_of(&ends_read), out_size);
+    compare_down(&job.written, &b, count);
   }
   if (disturbed) {
     lent = kept;
@@ -316,85 +114,36 @@ static void step(void) {
   }
 }
 
-/* ---- all places live */
-static void fill(void) {
-  grugavorn_plan p = some_plan();
-  p.count = 1;
-  p.points[0].guarantee = 1;
-  p.points[0].ceiling = GRUGAVORN_PLACES;
-  p.resend = 200;
-  p.interval = 200;
-  node = grugavorn_fresh(p, lent.records, GRUGAVORN_PLACES).node;
-  for (int i = 0; i < GRUGAVORN_PLACES; i++) {
-    session *s = &lent.records[i];
-    s->imsi = 440101000000000ull + 7919u * (unsigned)i;
-    s->usage = 1;
-    s->control = 1 + (unsigned)i;
-    s->user = 1 + (unsigned)i;
-    s->created = 9;
-    s->ebi = 5;
-    s->state = GRUGAVORN_LIVE;
-  }
+/* the calls that are counted: all, or the packets from the carrier's side */
+static unsigned long counted(int down) {
+  unsigned long all = 0;
+  for (int i = 0; down && i < 256; i++)
+    all += met[DOWN][i];
+  return down ? all : turn;
 }
 
-static int cost(const char *call, int count) {
-  static uint8_t packet[] = { 0x30, 0xFF, 0, 4, 0, 0, 1, 0x80 + LAST, 0x45, 0, 0, 0 },
-                 echo[] = { 0x40, 1, 0, 4, 0, 0, 1, 0 },
-                 bye[] = { 0x48, 36, 0, 8, 0, 0, 1, LAST, 0, 0, 1, 0 };
-  seed = 1;
-  fill();
-  unsigned sum = 0;
-  for (int i = 0; i < count; i++) {
-    if (strcmp(call, "user") == 0)
-      sum += (unsigned)grugavorn_user(node, lent.records, GRUGAVORN_PLACES, packet, sizeof packet, lent.reply,
-                                      GRUGAVORN_REPLY)
-                 .octets;
-    else if (strcmp(call, "echo") == 0)
-      sum += (unsigned)grugavorn_control(node, lent.records, GRUGAVORN_PLACES, echo, sizeof echo, lent.reply,
-                                         GRUGAVORN_REPLY)
-                 .size;
-    else if (strcmp(call, "delete") == 0) {
-      session s = lent.records[LAST];
-      sum += (unsigned)grugavorn_control(node, lent.records, GRUGAVORN_PLACES, bye, sizeof bye, lent.reply,
-                                         GRUGAVORN_REPLY)
-                 .size;
-      lent.records[LAST] = s;
-    } else if (strcmp(call, "tick") == 0)
-      sum += grugavorn_tick(node, lent.records, GRUGAVORN_PLACES).number;
-    else if (strcmp(call, "send") == 0)
-      sum += grugavorn_send(node, lent.records, GRUGAVORN_PLACES, lent.reply, GRUGAVORN_REPLY).number;
-    else if (strcmp(call, "close") == 0) {
-      sum += grugavorn_close(node, lent.records, GRUGAVORN_PLACES, 5).number;
-      lent.records[5].state = GRUGAVORN_LIVE;
-    } else if (strcmp(call, "line") == 0)
-      sum += (unsigned)grugavorn_line(node, lent.records, GRUGAVORN_PLACES, LAST, lent.reply, GRUGAVORN_REPLY)
-                 .size;
-    else if (strcmp(call, "wrong") == 0)
-      sum += grugavorn_tick(node, lent.records, LAST).number;
-    else
-      return 2;
-  }
-  printf("%u\n", sum);
-  return 0;
-}
+/* Runs of calls, each from a fresh table on. Where packets from the carrier's side count, the first calls of
+ * a run open sessions for them. */
+static void run_all(unsigned long calls, int down) {
+  enum { OPENING = 150 };
 
-int main(int argc, char **argv) {
-  if (argc == 4 && strcmp(argv[1], "cost") == 0)
-    return cost(argv[2], atoi(argv[3]));
-  seed = argc > 1 ? strtoull(argv[1], 0, 10) * 2 + 1 : 1;
-  unsigned long calls = argc > 2 ? strtoul(argv[2], 0, 10) : 1000000;
-  for (size_t i = 0; i < sizeof lent; i++)
-    ((uint8_t *)&lent)[i] = (uint8_t)chance();
-  set_stacks();
-  while (turn < calls) {
+  while (counted(down) < calls) {
+    mostly_down = 0;
     fresh(one_in(9) ? below(ROOM + 1) : GRUGAVORN_PLACES);
     turn++;
     if (one_in(3))
       age();
     unsigned long run = node.plan.count == 0 ? below(5) : one_in(3) ? below(40) : below(3000);
-    for (; run > 0 && turn < calls; run--, turn++)
+    if (down && run > 4)
+      run += OPENING;
+    for (unsigned long i = 0; i < run && counted(down) < calls; i++, turn++) {
+      mostly_down = down && i >= OPENING;
       step();
+    }
   }
+}
+
+static void print_met(void) {
   for (int c = 0; c < CALLS; c++) {
     printf("%-8s", names[c]);
     for (int i = 0; i < 256; i++)
@@ -402,21 +151,48 @@ int main(int argc, char **argv) {
         printf(" %d:%lu", i, met[c][i]);
     puts("");
   }
+  printf("written down to live sessions %lu, to closing ones %lu\n", written_to[GRUGAVORN_LIVE],
+         written_to[GRUGAVORN_CLOSING]);
   printf("stack   ");
   for (int c = 0; c < CALLS; c++)
     printf(" %s:%ld", names[c], deepest(c) - deepest(CALLS));
   puts("");
-  static const uint8_t numbers[] = { 0,  1,  2,  3,  4,  5,  6,  7,  8,  9,  10, 12,
-                                     13, 14, 15, 16, 17, 64, 67, 69, 70, 73, 78, 83 };
+}
+
+/* a number that never came, or -1 */
+static int never_met(void) {
+  static const uint8_t numbers[] = { 0,  1,  2,  3,  4,  5,  6,  7,  8,  9,  10, 12, 13, 14,
+                                     15, 16, 17, 18, 19, 20, 64, 67, 69, 70, 73, 78, 83 };
   for (size_t i = 0; i < sizeof numbers; i++) {
     unsigned long all = 0;
     for (int c = 0; c < CALLS; c++)
       all += met[c][numbers[i]];
-    if (all == 0 && calls >= 100000) {
-      printf("lent: number %d was never met: the trial says too little\n", numbers[i]);
-      return 1;
-    }
+    if (all == 0)
+      return numbers[i];
   }
-  printf("lent: %lu calls, all as the reading has them\n", turn);
+  return -1;
+}
+
+int main(int argc, char **argv) {
+  if (argc == 4 && strcmp(argv[1], "cost") == 0)
+    return cost(argv[2], atoi(argv[3]));
+  seed = argc > 1 ? strtoull(argv[1], 0, 10) * 2 + 1 : 1;
+  unsigned long calls = argc > 2 ? strtoul(argv[2], 0, 10) : 1000000;
+  int down = argc > 3 && strcmp(argv[3], "down") == 0;
+  for (size_t i = 0; i < sizeof lent; i++)
+    ((uint8_t *)&lent)[i] = (uint8_t)chance();
+  set_stacks();
+  run_all(calls, down);
+  print_met();
+  if (calls >= 100000 && never_met() >= 0) {
+    printf("lent: number %d was never met: the trial says too little\n", never_met());
+    return 1;
+  }
+  if (calls >= 100000 && (written_to[GRUGAVORN_LIVE] == 0 || written_to[GRUGAVORN_CLOSING] == 0)) {
+    puts("lent: no packet went down to a live or to a closing session: the trial says too little");
+    return 1;
+  }
+  printf("lent: %lu calls, %lu packets from the carrier's side among them, all as the reading has them\n",
+         turn, counted(1));
   return 0;
 }

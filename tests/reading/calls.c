@@ -1,4 +1,4 @@
-/* The seven calls as document 01 says, each with its numbers in the paper's order. */
+/* The seven calls of document 01 as it says, each with its numbers in the paper's order. */
 #include "reading.h"
 #include <stdio.h>
 #include <string.h>

@@ -1,5 +1,6 @@
-/* The messages that the unit writes, octet by octet, as document 01 says. */
+/* The messages that the unit writes, octet by octet, as document 01 says; of document 02 the G-PDU. */
 #include "reading.h"
+#include <string.h>
 
 /* octets are written one after the other */
 typedef struct {
@@ -141,4 +142,14 @@ READING_PART size_t reading_write_error(uint8_t *reply, uint32_t teid, uint32_t 
   put(&w, 0x850004, 3);
   put(&w, address, 4);
   return w.size;
+}
+
+/* "octet 1 30, type 255, the peer's user TEID, no optional part": a G-PDU's length is that of its packet */
+READING_PART size_t reading_write_packet(uint8_t *out, uint32_t teid, const uint8_t *packet, size_t length) {
+  writer w = { out, 0 };
+  put(&w, 0x30FF, 2);
+  put(&w, (uint32_t)length, 2);
+  put(&w, teid, 4);
+  memcpy(out + w.size, packet, length);
+  return w.size + length;
 }

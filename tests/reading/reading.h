@@ -1,11 +1,13 @@
-/* Document 01 read once more, by hand, in plain C, for comparison with the library: the same calls, the same
- * arguments, none of its code. Numbers, causes and types are the paper's figures as they stand there.
+/* Document 01, and of document 02 what is built, read once more, by hand, in plain C, for comparison with the
+ * library: the same calls, the same arguments, none of its code. Numbers, causes and types are the papers'
+ * figures as they stand there.
  *   user.c      the header of a user datagram
  *   control.c   control datagrams: their header, their fields, what each type carries
  *   messages.c  the octets of every message that the unit writes
  *   table.c     the plan's limits, what a record is held to, the counts of the sharing rule
  *   rules.c     the table's rules, slow on purpose; tests/speed has a quick one in its place
- *   calls.c     the seven calls */
+ *   calls.c     the seven calls of document 01
+ *   down.c      the eighth, which document 02 adds: downlink */
 #ifndef READING_H
 #define READING_H
 #include "../../include/grugavorn.h"
@@ -16,7 +18,7 @@
 #define READING_PART
 #endif
 
-/* ---- the seven calls (calls.c) */
+/* ---- the calls (calls.c, down.c) */
 grugavorn_left reading_fresh(grugavorn_plan plan, grugavorn_session *records, size_t count);
 grugavorn_left reading_control(grugavorn_node node, grugavorn_session *records, size_t count,
                                const uint8_t *datagram, size_t length, uint8_t *reply, size_t room);
@@ -28,6 +30,8 @@ grugavorn_left reading_send(grugavorn_node node, grugavorn_session *records, siz
 grugavorn_left reading_close(grugavorn_node node, grugavorn_session *records, size_t count, size_t place);
 grugavorn_left reading_line(grugavorn_node node, const grugavorn_session *records, size_t count, size_t place,
                             uint8_t *reply, size_t room);
+grugavorn_written reading_down(grugavorn_node node, const grugavorn_session *records, size_t count,
+                               const uint8_t *packet, size_t length, uint8_t *out, size_t room);
 
 /* ---- user datagrams (user.c) */
 
@@ -108,6 +112,7 @@ READING_PART size_t reading_write_deleted(uint8_t *reply, uint32_t teid, uint32_
 READING_PART size_t reading_write_delete_bearer(uint8_t *reply, const grugavorn_session *s);
 READING_PART size_t reading_write_user_echo(uint8_t *reply, unsigned sequence);
 READING_PART size_t reading_write_error(uint8_t *reply, uint32_t teid, uint32_t address);
+READING_PART size_t reading_write_packet(uint8_t *out, uint32_t teid, const uint8_t *packet, size_t length);
 
 /* ---- the table (table.c, rules.c) */
 enum { READING_LAST_USE = 16777215, READING_LAST_CREATED = 16777215, READING_LAST_OWN = 8388607 };

@@ -1,4 +1,4 @@
-/* The plain implementation that the library is measured against: the reading of document 01 with the quick
+/* The plain implementation that the library is measured against: the reading of the papers with the quick
  * rules of rules.c, as one piece, so that the compiler sees all of it, as it does of a program written for
  * speed in one file. */
 #define READING_PART static
@@ -8,3 +8,4 @@
 #include "../reading/table.c"
 #include "rules.c"
 #include "../reading/calls.c"
+#include "../reading/down.c"

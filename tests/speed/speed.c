@@ -15,11 +15,12 @@
 #include <string.h>
 #include <time.h>
 
-enum { PLACES = GRUGAVORN_PLACES };
+/* LONGEST: octets of a datagram, or of a packet from the carrier's side */
+enum { PLACES = GRUGAVORN_PLACES, LONGEST = 1400 };
 
 static grugavorn_session first[PLACES], records[PLACES];
 static grugavorn_node node;
-static uint8_t reply[GRUGAVORN_REPLY], datagram[256];
+static uint8_t reply[GRUGAVORN_REPLY], datagram[LONGEST], out[LONGEST + GRUGAVORN_HEAD];
 static size_t size, lent = PLACES;
 
 static void octets(const char *hex) {
@@ -48,6 +49,17 @@ static void create(unsigned person) {
     *both = (uint8_t)(digit % 2 ? (*both & 15) | (person % 10) << 4 : (*both & 240) | person % 10);
     person /= 10;
   }
+}
+
+/* an IPv4 packet of so many octets from the carrier's side for the session of a place */
+static void packet_for(unsigned place, size_t length) {
+  octets("450000000000000040110000C000020164400001");
+  size = length;
+  datagram[2] = (uint8_t)(size >> 8);
+  datagram[3] = (uint8_t)size;
+  datagram[19] = (uint8_t)(1 + place);
+  for (size_t i = 20; i < size; i++)
+    datagram[i] = (uint8_t)i;
 }
 
 static void set_point(grugavorn_point *a, const char *name, unsigned ceiling) {
@@ -92,8 +104,9 @@ static void table(unsigned live, int closing, unsigned ceiling) {
   memcpy(records, first, sizeof records);
 }
 
-static const char *const calls[] = { "packet",       "user-echo", "user-short", "echo",   "create",
-                                     "repeat",       "no-room",   "modify",     "delete", "tick",
+static const char *const calls[] = { "packet",       "user-echo", "user-short", "down-128",
+                                     "down-1400",    "echo",      "create",     "repeat",
+                                     "no-room",      "modify",    "delete",     "tick",
                                      "tick-closing", "send",      "close",      "line" };
 
 static int is(const char *call, const char *name) {
@@ -109,16 +122,24 @@ static const char *known(const char *name) {
   return NULL;
 }
 
+/* a packet from the carrier's side */
+static int is_down(const char *call) {
+  return call[0] == 'd' && call[1] == 'o';
+}
+
 /* the table and the datagram of a call; 0 where it makes no sense with so many sessions */
 static int prepare(const char *call, unsigned live) {
   int closing = is(call, "tick-closing"), last = is(call, "create") && live == PLACES;
   if (live == 0
-      && (is(call, "repeat") || is(call, "no-room") || is(call, "modify") || is(call, "delete") || closing))
+      && (is(call, "repeat") || is(call, "no-room") || is(call, "modify") || is(call, "delete")
+          || is_down(call) || closing))
     return 0;
   table(last ? PLACES - 1 : live, closing, is(call, "no-room") ? live : PLACES);
   if (is(call, "packet")) {
     octets("30FF00040000018045000000");
     datagram[7] = (uint8_t)(live == 0 ? 128 : 127 + live);
+  } else if (is_down(call)) {
+    packet_for(live - 1, is(call, "down-128") ? 128 : LONGEST);
   } else if (is(call, "user-echo")) {
     octets("320100040000000012340000");
   } else if (is(call, "user-short")) {
@@ -146,6 +167,7 @@ static int prepare(const char *call, unsigned live) {
 
 static grugavorn_left answer;
 static grugavorn_handed handed;
+static grugavorn_written written;
 
 /* of a user datagram there is no node */
 static int is_user(const char *call) {
@@ -156,6 +178,8 @@ static int is_user(const char *call) {
 static int kind_of(const char *call) {
   if (is_user(call))
     return 'u';
+  if (is_down(call))
+    return 'd';
   if (call[0] == 't')
     return 't';
   return is(call, "send") ? 's' : is(call, "close") ? 'x' : is(call, "line") ? 'l' : 'c';
@@ -167,6 +191,10 @@ static void once(const char *call, int plain, unsigned live) {
   case 'u':
     handed = plain ? reading_user(node, records, lent, datagram, size, reply, sizeof reply)
                    : grugavorn_user(node, records, lent, datagram, size, reply, sizeof reply);
+    break;
+  case 'd':
+    written = plain ? reading_down(node, records, lent, datagram, size, out, sizeof out)
+                    : grugavorn_down(node, records, lent, datagram, size, out, sizeof out);
     break;
   case 't':
     answer = plain ? reading_tick(node, records, lent) : grugavorn_tick(node, records, lent);
@@ -199,6 +227,10 @@ static int same_parts(const grugavorn_handed *a, const grugavorn_handed *b) {
          && a->octets == b->octets;
 }
 
+static int same_packets(const grugavorn_written *a, const grugavorn_written *b) {
+  return a->number == b->number && a->place == b->place && a->size == b->size && a->peer == b->peer;
+}
+
 static int same_records(const grugavorn_session *a, const grugavorn_session *b) {
   return a->imsi == b->imsi && a->usage == b->usage && a->control == b->control
          && a->controladdr == b->controladdr && a->user == b->user && a->useraddr == b->useraddr
@@ -213,24 +245,30 @@ static int check(void) {
   for (size_t c = 0; c < sizeof calls / sizeof *calls; c++)
     for (int k = 0; k < 3; k++) {
       grugavorn_session seen[2][PLACES];
-      uint8_t said[2][GRUGAVORN_REPLY];
+      uint8_t said[2][GRUGAVORN_REPLY], packet[2][sizeof out];
       grugavorn_left left[2];
       grugavorn_handed part[2];
+      grugavorn_written down[2];
       if (!prepare(calls[c], numbers[k]))
         continue;
       for (int plain = 0; plain < 2; plain++) {
         memcpy(records, first, sizeof records);
         memset(reply, 0x5A, sizeof reply);
+        memset(out, 0x5A, sizeof out);
         memset(&answer, 0, sizeof answer);
         memset(&handed, 0, sizeof handed);
+        memset(&written, 0, sizeof written);
         once(calls[c], plain, numbers[k]);
         memcpy(seen[plain], records, sizeof records);
         memcpy(said[plain], reply, sizeof reply);
+        memcpy(packet[plain], out, sizeof out);
         left[plain] = answer;
         part[plain] = handed;
+        down[plain] = written;
       }
       int same = same_answers(&left[0], &left[1]) && same_parts(&part[0], &part[1])
-                 && memcmp(said[0], said[1], GRUGAVORN_REPLY) == 0;
+                 && same_packets(&down[0], &down[1]) && memcmp(said[0], said[1], GRUGAVORN_REPLY) == 0
+                 && memcmp(packet[0], packet[1], sizeof out) == 0;
       for (int i = 0; i < PLACES; i++)
         same = same && same_records(&seen[0][i], &seen[1][i]);
       if (!same) {
@@ -238,8 +276,9 @@ static int check(void) {
                left[1].number);
         return 1;
       }
-      printf("%s %u %u %zu\n", calls[c], numbers[k], is_user(calls[c]) ? part[0].number : left[0].number,
-             left[0].size + part[0].size);
+      /* of the three answers two are zero */
+      printf("%s %u %u %zu\n", calls[c], numbers[k], left[0].number + part[0].number + down[0].number,
+             left[0].size + part[0].size + down[0].size);
       runs++;
     }
   printf("speed: %d kinds of calls, the answers are equal\n", runs);
@@ -269,7 +308,7 @@ int main(int argc, char **argv) {
   clock_gettime(CLOCK_MONOTONIC, &start);
   for (int i = atoi(argv[4]); i > 0; i--) {
     once(call, plain, live);
-    sum += answer.number + handed.number;
+    sum += answer.number + handed.number + written.number;
     if (all)
       memcpy(records, first, sizeof records);
     else

@@ -4,7 +4,7 @@ elsewhere QEMU's user mode with the plugin that `run` has built from count.c.
 The count of a call is that of 100 calls less that of none, by 100: what the host does to put the table back is in both columns.
 Its parts, with all places live: around is a call that is lent a record too few and refuses them unread (the host, the plan's limits, the node
 in and out, copies of it included); rules is what checking the records takes, measured on a datagram of three octets; work is the rest.
-On x86-64 nanoseconds a call are printed too, for information: they do not repeat.
+On x86-64 nanoseconds a call are printed too, for information: they do not repeat. A call over its limit fails the run.
 """
 import os
 import platform
@@ -17,10 +17,14 @@ sys.path.insert(0, os.path.join(os.path.dirname(os.path.abspath(__file__)), ".."
 
 from figures import PLACES
 
-CALLS = [("packet", "G-PDU"), ("user-echo", "user echo"), ("echo", "control echo"), ("create", "Create accepted"), ("repeat", "Create repeated"),
-         ("no-room", "Create, no room"), ("modify", "Modify"), ("delete", "Delete"), ("tick", "tick"), ("tick-closing", "tick, all closing"),
+CALLS = [("packet", "G-PDU"), ("user-echo", "user echo"), ("down-128", "downlink, 128"), ("down-1400", "downlink, 1,400"),
+         ("echo", "control echo"), ("create", "Create accepted"), ("repeat", "Create repeated"), ("no-room", "Create, no room"),
+         ("modify", "Modify"), ("delete", "Delete"), ("tick", "tick"), ("tick-closing", "tick, all closing"),
          ("send", "send"), ("close", "close"), ("line", "line")]
 LIVE = (0, PLACES // 2, PLACES)
+# the most that a call may cost, as a multiple of the plain implementation; where it is not named, MOST
+MOST = 1.2
+LIMITS = {"down-128": 1.1, "down-1400": 1.1}
 TIMES = 100
 NATIVE = platform.machine() == "x86_64"
 
@@ -81,12 +85,14 @@ def main():
     program, path = sys.argv[1:]
     print("%-18s" % "call" + "".join("%26s" % ("%d live" % live) for live in LIVE))
     print("%-18s" % "" + "%26s" % "library  plain  ratio" * len(LIVE))
-    full = []
+    full, over = [], []
     for call, name in CALLS:
         cells = []
         for live in LIVE:
             ours, plain = (instructions(program, way, call, live) for way in ("library", "plain"))
             cells.append("%26s" % "-" if ours is None else "%12d %6d %6.2f" % (ours, plain, ours / plain))
+            if ours is not None and ours > plain * LIMITS.get(call, MOST):
+                over.append("%s with %d live" % (name, live))
             if live == PLACES and ours is not None:
                 full.append(((call, name), (ours, plain)))
         print("%-18s" % name + "".join(cells), flush=True)
@@ -94,6 +100,8 @@ def main():
     if NATIVE:
         times(program, full)
     picture([(name, *counts) for (_, name), counts in full], path)
+    if over:
+        sys.exit("speed: over the limit: " + "; ".join(over))
 
 
 main()

@@ -105,8 +105,32 @@ def left_out(one, line):
     yield "left out: a link type", pcap("<", False, 147, [(START, 0, good, len(good))]), []
     most = pcap("<", False, 101, [(START, 0, ip("U", bytes(2048)), 2076)])
     yield "a datagram of 2,048 octets", most, ["U\t" + "00" * 2048]
+    yield from sent_down()
     back = pcap("<", False, 101, [(START + away, 0, good, len(good)) for away in (0, -9, 0)])
     yield "a clock that goes back", back, [line] * 3
+
+
+def sent_down():
+    """G-PDUs that the unit sends: a line D with the packet in them, where they are as the unit writes them."""
+    packet = bytes.fromhex("4500001612344000401100000808080864400001ABCD")
+    head = b"\x30\xff\0\x16\0\0\x22\x22"
+    yield "a G-PDU of the unit", lone(head + packet), ["D\t" + packet.hex().upper()]
+    yield "a G-PDU of the unit without a packet", lone(b"\x30\xff" + bytes(6)), ["D\t"]
+    most = b"\x30\xff\x08\0\0\0\x22\x22" + bytes(2048)
+    yield "a G-PDU of the unit with 2,048 octets", lone(most), ["D\t" + "00" * 2048]
+    others = {"a length that does not fit": head + packet[:-1], "an echo reply": b"\x32\2\0\6" + bytes(10),
+              "an optional part": b"\x32\xff\0\x1a\0\0\x22\x22" + bytes(4) + packet, "nothing": b"",
+              "over 2,048 octets": b"\x30\xff\x08\1\0\0\x22\x22" + bytes(2049)}
+    for name, octets in others.items():
+        yield f"left out: {name}, sent by the unit", lone(octets), []
+    yield "left out: a G-PDU from another port", lone(head + packet, port=53), []
+
+
+def lone(octets, port=2152):
+    """A capture of one user datagram from the unit to its peer."""
+    frame = ip("U", octets, target=PEER, port=port)
+    frame = frame[:12] + USER + frame[16:]
+    return pcap("<", False, 101, [(START, 0, frame, len(frame))])
 
 
 def damaged():

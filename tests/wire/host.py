@@ -5,6 +5,7 @@ import queue
 import re
 import signal
 import socket
+import struct
 import subprocess
 import sys
 import threading
@@ -35,6 +36,21 @@ def number_of(datagram):
 def cause_of(datagram):
     """The cause of a reply, which is its first field; None where there is none."""
     return datagram[16] if len(datagram) > 16 and datagram[12] == 2 else None
+
+
+def ipv4(source, to, payload, protocol=17):
+    """An IPv4 packet, addresses as text."""
+    head = struct.pack(">BBHHHBBH", 0x45, 0, 20 + len(payload), 1, 0, 64, protocol, 0)
+    head += socket.inet_aton(source) + socket.inet_aton(to)
+    return head[:10] + internet_sum(head) + head[12:] + payload
+
+
+def internet_sum(octets):
+    """The checksum of IPv4 and ICMP, over octets whose own is 0."""
+    total = sum(struct.unpack(">%dH" % ((len(octets) + 1) // 2), octets + bytes(len(octets) % 2)))
+    while total >> 16:
+        total = (total & 0xFFFF) + (total >> 16)
+    return struct.pack(">H", ~total & 0xFFFF)
 
 
 class Checks:
@@ -106,6 +122,11 @@ class Unit:
     def close(self, place):
         """Orders a close, and answers the number that came."""
         self.order("close %d" % place)
+        return int(self.lines.get(timeout=WAIT).split(": ")[1])
+
+    def down(self, packet):
+        """Orders a packet from the carrier's side down, and answers the number that came."""
+        self.order("down %s" % packet.hex().upper())
         return int(self.lines.get(timeout=WAIT).split(": ")[1])
 
     def report(self):
@@ -272,11 +293,17 @@ def moved(line, counter, back=False):
 
 
 class Start:
-    """What the bench says of one start in a journal: datagrams (kind and octets, in order), packets as the unit prints
-    them but without the place, how often each number came, the L lines."""
+    """What the bench says of one start in a journal: datagrams, in order, each with its kind (C, U: replies; D: what
+    was due; P: a packet from the carrier's side) and octets; packets as the unit prints them but without the place;
+    the addresses that those of kind P go to; how often each number came; the L lines."""
 
     def __init__(self):
-        self.sent, self.payloads, self.numbers, self.places = [], [], {}, []
+        self.sent, self.payloads, self.peers, self.numbers, self.places = [], [], [], {}, []
+
+
+def port_of(kind):
+    """The unit's port that a datagram of this kind leaves from."""
+    return USER if kind in "UP" else CONTROL
 
 
 def replay(bench, journal, own_uses=False):
@@ -317,8 +344,11 @@ def replay(bench, journal, own_uses=False):
         at += 1
         start.numbers[int(number)] = start.numbers.get(int(number), 0) + 1
         if reply != "-":
-            start.sent.append((f[0], moved((f[0], reply), counter, True)))
-        start.payloads += ["" if p == "-" else p for p in rest]
+            start.sent.append(("P" if f[0] == "D" else f[0], moved((f[0], reply), counter, True)))
+        if f[0] == "D":
+            start.peers += rest
+        else:
+            start.payloads += ["" if p == "-" else p for p in rest]
         while at < len(out) and out[at][0] == "D":
             start.sent.append(("D", bytes.fromhex(out[at][1])))
             at += 1

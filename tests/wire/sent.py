@@ -3,7 +3,7 @@ import os
 import struct
 import subprocess
 
-from host import CONTROL, ROOT, USER, replay
+from host import ROOT, port_of, replay
 from link import OWN_CONTROL, OWN_USER
 
 BENCH = os.path.join(ROOT, "target", "bin", "bench")
@@ -20,7 +20,7 @@ def on_the_bench(c, runs, sent):
         c.same("journal %s on the bench: each number as often" % name, numbers, start.numbers)
         c.same("journal %s on the bench: the places' lines" % name, lines, start.places)
         unsent += counts["unsent"]
-        told += [(USER if kind == "U" else CONTROL, octets) for kind, octets in start.sent
+        told += [(port_of(kind), octets) for kind, octets in start.sent
                  if not ("-e" in words and kind == "D" and octets[1] == 1)]
     c.check("journals: no start is left over", not any(starts.values()), starts)
     # what the machine refused to send is on the bench only
@@ -45,7 +45,13 @@ def told_by_tshark(path, where):
 
 
 def complaints(rows):
-    return [row for row in rows if row[2] or row[3] or row[1].split(":")[4:] not in (["gtp", "gtpv2"], ["gtp"])]
+    """Rows that are malformed, have an expert item, or are neither a message of GTP nor a packet in a G-PDU."""
+    found = []
+    for row in rows:
+        inner = row[1].split(":")[4:]
+        if row[2] or row[3] or not (inner in (["gtp", "gtpv2"], ["gtp"]) or inner[:2] == ["gtp", "ip"]):
+            found.append(row)
+    return found
 
 
 def cut_short(sent, path):

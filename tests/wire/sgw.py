@@ -7,8 +7,16 @@ from host import CONTROL, USER, WAIT, Peer, address, build, cause_of
 from link import ADDRESSES, OWN_CONTROL, OWN_USER
 
 
+def packet_under(teid, datagram):
+    """The packet of a G-PDU under this number; any other datagram as it is."""
+    if datagram is not None and datagram[:2] == b"\x30\xFF" and datagram[4:8] == teid.to_bytes(4, "big"):
+        return datagram[8:]
+    return datagram
+
+
 class Nextepc:
-    """Session k: the MME's TEID is 3000 hex + k; the SGW's two are kept from its reply."""
+    """Session k: the MME's TEID is 3000 hex + k, the base station's 5000 hex + k; the SGW's two are kept from its
+    reply."""
     label = "nextepc-sgwd"
 
     def __init__(self, folder):
@@ -67,6 +75,18 @@ class Nextepc:
     def packet(self, k, payload):
         self.mme.send(build.gpdu(self.sessions[k][1], payload), ADDRESSES["sgw"], USER)
 
+    def attach(self, k):
+        """Tells the SGW the base station's end, to which packets go down; answers the cause."""
+        self.sequence += 1
+        end = build.fteid(0x80, 0x5000 + k, address(ADDRESSES["mme"]), 0)
+        reply = self.mme.ask(build.modify(self.sessions[k][0], self.sequence, build.bearer(build.ebi(5), end)),
+                             ADDRESSES["sgw"])
+        return cause_of(reply or b"")
+
+    def came_down(self, k):
+        """The next packet that comes to the base station, or None."""
+        return packet_under(0x5000 + k, self.mme.next(USER))
+
     def delete(self, k):
         """Answers the cause."""
         self.sequence += 1
@@ -97,6 +117,12 @@ class Scripted:
 
     def packet(self, k, payload):
         self.peer.send(build.gpdu(self.sessions[k][1], payload), OWN_USER, USER)
+
+    def attach(self, k):
+        return 16
+
+    def came_down(self, k):
+        return packet_under(0x2000 + k, self.peer.next(USER))
 
     def delete(self, k):
         return cause_of(self.peer.ask(build.delete(self.sessions[k][0], 0x8000 + k, build.ebi(5)), OWN_CONTROL) or b"")

@@ -10,10 +10,11 @@ import time
 import traceback
 
 from flood import under_a_flood
-from host import CONTROL, USER, USER_ECHO, USER_ECHOED, WAIT, Checks, Peer, address, build, cause_of
+from host import (CONTROL, USER, USER_ECHO, USER_ECHOED, WAIT, Checks, Peer, address, build, cause_of, internet_sum,
+                  ipv4)
 from link import ADDRESSES, N, OWN_CONTROL, OWN_USER, ROOM, Runs, T, TICK, Wire, quietly
 from sent import by_tshark, on_the_bench
-from sgw import Nextepc, Scripted
+from sgw import Nextepc, Scripted, packet_under
 
 
 def through_the_sgw(c, runs, sgw):
@@ -144,32 +145,59 @@ def with_an_exchange(c, runs):
     stranger.end()
 
 
-def packet_of_udp(source, to, port, payload):
-    """An IPv4 packet with a UDP datagram, without the UDP checksum."""
-    head = struct.pack(">BBHHHBBH", 0x45, 0, 28 + len(payload), 1, 0, 64, 17, 0) + source + to
-    total = sum(struct.unpack(">10H", head))
-    while total >> 16:
-        total = (total & 0xFFFF) + (total >> 16)
-    head = head[:10] + struct.pack(">H", ~total & 0xFFFF) + head[12:]
-    return head + struct.pack(">HHHH", 5000, port, 8 + len(payload), 0) + payload
+CARRIER = "100.64.0.254"  # the address behind the TUN device
+
+
+def with_a_tun(runs, name, *words):
+    """A unit whose carrier's side is a TUN device, which is up and routed."""
+    device = "tun-" + name
+    unit = runs.start(name, "-t", device, *words)
+    quietly(*runs.wire.inside, "ip", "address", "add", CARRIER + "/24", "dev", device)
+    quietly(*runs.wire.inside, "ip", "link", "set", device, "up")
+    return unit
 
 
 def into_a_tun(c, runs):
-    peer = Peer(ADDRESSES["plain"])
-    unit = runs.start("tun", "-t", "gtp0")
-    quietly(*runs.wire.inside, "ip", "address", "add", "100.64.0.254/24", "dev", "gtp0")
-    quietly(*runs.wire.inside, "ip", "link", "set", "gtp0", "up")
+    # ports that stand for no protocol: tshark reads what is inside a G-PDU too
+    peer, handset, port = Peer(ADDRESSES["plain"]), "100.64.0.1", 40001
+    unit = with_a_tun(runs, "udp")
     reader = subprocess.Popen([*runs.wire.inside, sys.executable, "-c", "import socket; s = socket.socket(2, 2); "
-                               "s.bind(('100.64.0.254', 5001)); s.settimeout(5); print('bound', flush=True); "
-                               "print(s.recvfrom(2048), flush=True)"], stdout=subprocess.PIPE, text=True)
+                               "s.bind(('%s', %d)); s.settimeout(5); print('bound', flush=True); "
+                               "came = s.recvfrom(99); s.sendto(b'back', came[1]); print(came, flush=True)"
+                               % (CARRIER, port)],
+                              stdout=subprocess.PIPE, text=True)
     reader.stdout.readline()
     got = peer.create(OWN_CONTROL, 1)
-    inner = packet_of_udp(bytes([100, 64, 0, 1]), bytes([100, 64, 0, 254]), 5001, b"hello")
-    peer.send(build.gpdu(got[1], inner), OWN_USER, USER)
+    hello = struct.pack(">HHHH", 40000, port, 8 + 5, 0) + b"hello"
+    peer.send(build.gpdu(got[1], ipv4(handset, CARRIER, hello)), OWN_USER, USER)
     c.same("-t: a socket behind the TUN device gets the handset's packet", reader.communicate(timeout=10)[0].strip(),
-           "(b'hello', ('100.64.0.1', 5000))")
+           "(b'hello', ('%s', 40000))" % handset)
+    back = packet_under(0x2000 + 1, peer.next(USER)) or b""
+    c.same("-t: the answer comes down to the handset", (back[12:20], back[20:26], back[28:]),
+           (ipv4(CARRIER, handset, b"")[12:], struct.pack(">HHH", port, 40000, 8 + 4), b"back"))
     c.same("SIGTERM: ends with 0", runs.ended(*unit.terminate())[0], 0)
     peer.end()
+
+
+def there_and_back(c, runs, sgw):
+    """A handset's ping goes through the SGW and the unit to the address behind the TUN device, its answer back."""
+    sgw.restart()
+    unit = with_a_tun(runs, "ping", "-u", "-w", "-e", "-a", ADDRESSES["sgw"])
+    c.same("ping: two handsets have places 0 and 1", [sgw.create(200 + k) for k in range(2)],
+           ["100.64.0.1", "100.64.0.2"])
+    c.same("ping: the SGW knows the base station's ends", [sgw.attach(200 + k) for k in range(2)], [16, 16])
+    for number, (k, size) in enumerate([(0, 0), (1, 0), (0, 56), (1, 1372)]):
+        echo = struct.pack(">BBHHH", 8, 0, 0, 77, number) + (bytes(range(256)) * 6)[:size]
+        echo = echo[:2] + internet_sum(echo) + echo[4:]
+        handset = "100.64.0.%d" % (1 + k)
+        sgw.packet(200 + k, ipv4(handset, CARRIER, echo, protocol=1))
+        back = sgw.came_down(200 + k) or b""
+        want = ipv4(CARRIER, handset, b"")[12:20] + b"\0\0" + echo[4:]
+        c.same("ping: with %d octets, by the handset of place %d: answered" % (size, k),
+               back[12:22] + back[24:], want)
+    c.same("ping: Delete", [sgw.delete(200 + k) for k in range(2)], [16, 16])
+    status, report = runs.ended(*unit.terminate())
+    c.same("SIGTERM: ends with 0, every datagram was sent", (status, report and report[2]["unsent"]), (0, 0))
 
 
 def main(folder, which, seed):
@@ -182,6 +210,7 @@ def main(folder, which, seed):
         sgw = {"nextepc": Nextepc, "scripted": Scripted}[which](folder)
         print("---- with %s" % sgw.label)
         through_the_sgw(c, runs, sgw)
+        there_and_back(c, runs, sgw)
         print("---- with a scripted exchange")
         with_an_exchange(c, runs)
         into_a_tun(c, runs)

@@ -1,8 +1,8 @@
 """A bench run, input and output side by side, and what each line did to the places.
 
-The numbers and octets are the bench's own. What it does not print (which place an own request is about, which places
-a Recovery or a tick freed, where a peer is) is followed with the model of document 01 in tests/bench; where the model
-prints something else for a line than the bench did, the step says so.
+The numbers and octets are the bench's own. What it does not print (which place an own request or a packet is about,
+which places a Recovery or a tick freed, where a peer is) is followed with the model of the paper in tests/bench; where
+the model prints something else for a line than the bench did, the step says so.
 """
 import os
 import sys
@@ -24,17 +24,25 @@ class Sent:
         self.octets, self.place, self.address, self.times = octets, place, address, times
 
 
+class Written:
+    """A packet of the carrier's side that was written down: its G-PDU, and the peer's user address."""
+
+    def __init__(self, octets, address):
+        self.octets, self.address = octets, address
+
+
 class Step:
-    """One line of the input with what was printed for it."""
+    """One line of the input with what was printed for it. A datagram comes from the exchange, a packet from the
+    carrier's side; `aim` is the place that has a packet's destination address, with its state at that moment."""
 
     def __init__(self, at, line):
         self.at, self.line = at, line
         self.letter = line[:1].decode("ascii", "replace")
-        self.datagram = self.place = self.point = None
+        self.datagram = self.packet = self.place = self.point = None
         self.answered = False
-        self.number, self.reply, self.payload = None, b"", None
+        self.number, self.reply, self.payload, self.written = None, b"", None, None
         self.due, self.changes, self.notes = [], [], []
-        self.peer = self.handed = None
+        self.peer = self.handed = self.aim = None
 
 
 class Run:
@@ -115,10 +123,13 @@ class Run:
             self._start()
             if self.stop:
                 return
-        if len(parts) != {b"C": 2, b"U": 2, b"T": 1, b"X": 2}.get(parts[0]):
+        if len(parts) != {b"C": 2, b"U": 2, b"D": 2, b"T": 1, b"X": 2}.get(parts[0]):
             raise model.Bad
         if parts[0] == b"X":
             step.place = model.decimal(parts[1])
+        elif parts[0] == b"D":
+            step.packet = model.octets(parts[1], model.DATAGRAM)
+            step.aim = self._aim_of(step.packet)
         elif parts[0] != b"T":
             step.datagram = model.octets(parts[1], model.DATAGRAM)
         step.peer = self._peer_of(step)
@@ -129,15 +140,19 @@ class Run:
         unit, before = self.unit, Seen(self.unit)
         said = self._peek()
         fits = said is not None and said[0].isdecimal() and len(said[0]) <= 3
-        if not fits or len(said) not in ((2, 3) if step.letter == "U" else (2,)):
+        if not fits or len(said) not in ((2, 3) if step.letter in "UD" else (2,)):
             self.stop = f"the output has no answer to line {step.at}"
             return
         self.taken += 1
-        call = {"C": unit.control, "U": unit.user, "X": unit.close, "T": unit.tick}[step.letter]
-        given = {"X": [step.place], "T": []}.get(step.letter, [step.datagram])
+        call = {"C": unit.control, "U": unit.user, "D": unit.down, "X": unit.close, "T": unit.tick}[step.letter]
+        given = {"X": [step.place], "T": [], "D": [step.packet]}.get(step.letter, [step.datagram])
         step.answered, step.number = True, int(said[0])
-        step.reply = octets_of(said[1])
-        step.payload = octets_of(said[2]) if len(said) == 3 else None
+        third = octets_of(said[2]) if len(said) == 3 else None
+        if step.letter == "D":
+            octets = octets_of(said[1])
+            step.written = Written(octets, number(third) if len(third or b"") == 4 else None) if octets else None
+        else:
+            step.reply, step.payload = octets_of(said[1]), third
         self._compare(step, "\t".join(said), printed_line(*call(*given)))
         if step.payload is not None:
             step.handed = (number(step.datagram[4:8]) & 255) % USER_BIT % PLACES
@@ -145,7 +160,7 @@ class Run:
             due, told = unit.send_next(), self._peek("D")
             if told is None:
                 if due is not None:
-                    step.notes.append("the model of document 01 has another request due here")
+                    step.notes.append("the model of the paper has another request due here")
                 break
             self.taken += 1
             step.due.append(self._sent(octets_of(told[-1])))
@@ -155,7 +170,7 @@ class Run:
     @staticmethod
     def _compare(step, said, wanted):
         if said != wanted:
-            step.notes.append(f"the model of document 01 prints otherwise: {wanted[:80].replace(chr(9), ' ')}")
+            step.notes.append(f"the model of the paper prints otherwise: {wanted[:80].replace(chr(9), ' ')}")
 
     def _sent(self, octets):
         """The own request with the place whose number it has; where that place's peer is."""
@@ -166,6 +181,14 @@ class Run:
             if place.state == model.CLOSING and place.sent and place.own == own:
                 return Sent(octets, place.index, place.peer_address, place.sent)
         return Sent(octets)
+
+    def _aim_of(self, packet):
+        """(place, its state, its access point) of the place with this packet's destination address, or None."""
+        place = number(packet[16:20]) - self.plan.pool - 1 if len(packet) >= 20 else -1
+        if not 0 <= place < PLACES:
+            return None
+        found = self.unit.places[place]
+        return place, found.state, found.point
 
     def _peer_of(self, step):
         """Where a datagram comes from, as far as it can be told: from the address that the session of its TEID has,

@@ -199,13 +199,25 @@ def control(d, sent=False, names=None):
     return found
 
 
-def payload_words(payload):
-    """What a payload is, where it looks like an IPv4 packet."""
-    text = f"payload of {counted(len(payload))}"
+def payload_words(payload, what="payload", behind=""):
+    """What a payload or a packet is, where it looks like an IPv4 packet."""
+    text = f"{what} of {counted(len(payload))}{behind}"
     if len(payload) >= 20 and payload[0] >> 4 == 4:
         protocol = PROTOCOLS.get(payload[9], f"protocol {payload[9]}")
         return f"{text}: IPv4 from {dotted(payload[12:16])} to {dotted(payload[16:20])}, {protocol}"
     return text + (f" ({hexed(payload)})" if payload else "")
+
+
+def unfit_words(packet):
+    """Why a packet of the carrier's side is not one whole IPv4 packet, a phrase a ground."""
+    if len(packet) < 20:
+        return [f"{ENDS}an IPv4 header has at least 20 octets"]
+    version, header, total = packet[0] >> 4, 4 * (packet[0] & 15), number(packet[2:4])
+    found = [f"version {version}, not 4"] if version != 4 else []
+    found += [f"header length {header}, under 20"] if header < 20 else []
+    found += [f"header length {header}, over the total"] if header > total else []
+    found += [f"total length says {counted(total)}, there are {len(packet)}"] if total != len(packet) else []
+    return found
 
 
 def user(d, sent=False, names=None):
@@ -217,7 +229,8 @@ def user(d, sent=False, names=None):
     if d[0] >> 5 != 1 or not d[0] & 0x10:
         wrong = f"version {d[0] >> 5}, PT {d[0] >> 4 & 1}, type {kind}, {counted(len(d))} ({hexed(d)})"
         return [wrong, f"{ENDS}no version 1 of GTP with PT 1"]
-    notes = [own_teid(teid, False)] if kind == 255 or (teid and not sent) else []
+    notes = [own_teid(teid, False)] if not sent and (kind == 255 or teid) else []
+    notes += [f"to TEID {teid:08X} of the peer"] if sent and kind == 255 else []
     if number(d[2:4]) != len(d) - 8:
         notes.append(f"length says {counted(number(d[2:4]))} behind the first 8, there are {len(d) - 8}")
     at, following = 8, 0

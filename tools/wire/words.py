@@ -31,6 +31,8 @@ def came_words(run, step):
     if step.datagram is not None:
         read = datagrams.control if step.letter == "C" else datagrams.user
         return read(step.datagram, False, run.names)
+    if step.packet is not None:
+        return packet_words(run, step)
     if step.letter == "T" and step.answered:
         return ["a tick"]
     if step.place is not None:
@@ -54,6 +56,28 @@ def handed_words(run, step):
     return [f"handed up for place {step.handed} (address {whose}): {datagrams.payload_words(step.payload)}"]
 
 
+def packet_words(run, step):
+    """A packet of the carrier's side: what it is, and whose its destination address is."""
+    found = [datagrams.payload_words(step.packet, "packet", " from the carrier's side")]
+    unfit = datagrams.unfit_words(step.packet)
+    if unfit:
+        return found + unfit
+    if step.aim is None:
+        return found + [f"destination {dotted(step.packet[16:20])} is no place's address"]
+    place, state, point = step.aim
+    return found + [f"destination {own_address(run.plan, place)} is place {place}, {STATES[state]}"
+                    + ("" if state == "F" else f", access point {point} ({name_text(run.names[point])})")]
+
+
+def written_words(step):
+    """The G-PDU that a packet was written down as, with where it goes; nothing where there is none."""
+    if step.written is None:
+        return []
+    whom = f"the peer of place {step.aim[0]}" if step.aim else "a peer"
+    where = dotted(step.written.address) if step.written.address is not None else "an address that is not printed"
+    return datagrams.user(step.written.octets, True) + [f"to {whom} at {where}"]
+
+
 def sent_words(run, sent):
     """An own request with where it goes."""
     found = datagrams.control(sent.octets, True)
@@ -65,6 +89,8 @@ def sent_words(run, sent):
 
 def silent_words(step):
     """What is said where no octets come back."""
+    if step.packet is not None:
+        return ["nothing written"] if step.written is None else []
     quiet = not step.reply and step.payload is None and not step.due
     return ["no reply"] if quiet and step.datagram is not None else []
 

@@ -69,3 +69,15 @@ planBreaks = 16
 
 abbrev pub nothingDue : ℕ
 nothingDue = 17
+
+-- a packet that is not one whole IPv4 packet
+abbrev pub packetUnfit : ℕ
+packetUnfit = 18
+
+-- no session has the destination address
+abbrev pub noSession : ℕ
+noSession = 19
+
+-- the output buffer is under the packet plus 8
+abbrev pub outputShort : ℕ
+outputShort = 20

@@ -61,6 +61,15 @@ impl Number {
     pub const PLAN_BREAKS: u8 = 16;
 
     pub const NOTHING_DUE: u8 = 17;
+
+    // a packet that is not one whole IPv4 packet
+    pub const PACKET_UNFIT: u8 = 18;
+
+    // no session has the destination address
+    pub const NO_SESSION: u8 = 19;
+
+    // the output buffer is under the packet plus 8
+    pub const OUTPUT_SHORT: u8 = 20;
 }
 
 // An octet as a count or a place.

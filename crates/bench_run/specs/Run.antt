@@ -1,5 +1,5 @@
--- What the bench prints for a datagram that is due, and for a user datagram: a payload is a third field; after T and X all due follow, each a
--- line of D and the datagram.
+-- What the bench prints for a datagram that is due, for a user datagram and for a packet down: a payload is a third field, and so is the peer's
+-- address; after T and X all due follow, each a line of D and the datagram.
 -- Assumes nothing.
 use Prim.Native.Nat.{ℕ, zero, suc, _+_, _<_, _-_}
 use mathlib.Core.Bool.{Bool, true, false, not, _&&_}
@@ -9,6 +9,8 @@ use native.Mathlib.Omega.{arith}
 use lib.ListN.{length, take, drop, replicate}
 use lib.Dec.{eqb}
 use Rattle.base_octets.specs.Choice.{pick}
+use Rattle.base_octets.specs.BigEndian.{octetsOf}
+use Rattle.wire_user.specs.Header.{fixedSize}
 use Rattle.unit_session.specs.declared.Session.{Session}
 use Rattle.unit_table.specs.declared.Node.{Node}
 use Rattle.call_own.specs.declared.Answer.{Answer}
@@ -18,6 +20,9 @@ use Rattle.call_control.specs.Control.{controlTaken}
 use Rattle.call_user.specs.User.{Took, userTaken}
 use Rattle.call_user.specs.declared.Handed.{Handed}
 use Rattle.call_user.specs.Parcel.{Parcel, parcel, parcelOf}
+use Rattle.call_down.specs.declared.Written.{Written}
+use Rattle.call_down.specs.Down.{Output, output, downTaken}
+use Rattle.bench_text.specs.Lines.{datagramMost}
 use Rattle.bench_text.specs.Prints.{answerText, packetText, dueText}
 use Rattle.bench_unit.specs.declared.Bench.{Bench}
 use Rattle.bench_unit.specs.State.{Shown, shown, Ran, ran, beside, lentReply, withMade, keptIn, printed, answeredShown, unitShown, unit-shown}
@@ -68,6 +73,25 @@ userRun d b t out = beside t (userShown (userTaken (b .node) t d lentReply) d b 
 unfoldable pub handedShown : Parcel → List ℕ → Bench → List ℕ → Shown
 handedShown x d b out =
     printed (userText (x .handed .number) (x .handed .size) (x .reply) (drop (x .handed .start) d)) (λ made. withMade made b) (b .made) out
+
+-- ---- a packet down: only one that is written has a third field, the peer's user address
+unfoldable pub downText : ℕ → ℕ → List ℕ → ℕ → List ℕ
+downText number size buffer peer =
+    pick (eqb number 0) (packetText number (take size buffer) (octetsOf 4 peer)) (answerText number (take size buffer))
+
+unfoldable pub downShown : Output → Bench → List ℕ → Shown
+downShown x b out =
+    printed (downText (x .written .number) (x .written .size) (x .buffer) (x .written .peer)) (λ made. withMade made b) (b .made) out
+
+-- what the call gets as its output buffer: it holds the longest packet as a G-PDU
+unfoldable pub gpduMost : ℕ
+gpduMost = datagramMost + fixedSize
+
+unfoldable pub lentOutput : List ℕ
+lentOutput = replicate gpduMost 0
+
+unfoldable pub downRun : List ℕ → Bench → List Session → List ℕ → Ran
+downRun packet b t out = beside t (downShown (downTaken (b .node) t packet lentOutput) b out)
 
 -- ---- laws of a send
 pub send-tried : (b : Bench) (t t′ : List Session) (out o reply : List ℕ) (node : Node) (a : Answer) (s : Sent) → node ≡ b .node
@@ -138,3 +162,10 @@ user-run b r t out o node x d p reply e f g h =
     let g′ : parcel x reply ≡ parcelOf (length d) (userTaken (b .node) t d (replicate leastReply 0)) = rw (e, f) at g in
     let h′ : shown r o ≡ handedShown (parcel x reply) d b out = rw f at h in
     ap (beside t) (h′ ∙ ap (λ (z : Parcel). handedShown z d b out) g′ ∙ handed-is (length d) _ d b out)
+
+pub down-run : (b r : Bench) (t : List Session) (out o : List ℕ) (node : Node) (w : Written) (packet p buffer : List ℕ) → node ≡ b .node → p ≡ packet
+    → output w buffer ≡ downTaken node t p (replicate gpduMost 0) → shown r o ≡ downShown (output w buffer) b out → ran r t o ≡ downRun packet b t out
+unfolding downRun lentOutput
+down-run b r t out o node w packet p buffer e f g h =
+    let g′ : output w buffer ≡ downTaken (b .node) t packet (replicate gpduMost 0) = rw (e, f) at g in
+    ap (beside t) (h ∙ ap (λ (z : Output). downShown z b out) g′)

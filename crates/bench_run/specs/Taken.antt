@@ -12,35 +12,55 @@ use Rattle.unit_session.specs.declared.Session.{Session}
 use Rattle.call_own.specs.Calls.{tickOf, closeOf}
 use Rattle.call_control.specs.Control.{controlTaken}
 use Rattle.bench_text.specs.declared.Line.{Line}
-use Rattle.bench_text.specs.declared.Line.the-variants.{Node, Point, Control, User, Tick, Close, BadPoint, Bad}
+use Rattle.bench_text.specs.declared.Line.the-variants.{Node, Point, Control, User, Down, Tick, Close, BadPoint, Bad}
 use Rattle.bench_text.specs.Lines.{Told, told, lineRead}
 use Rattle.bench_unit.specs.declared.Bench.{Bench}
 use Rattle.bench_unit.specs.State.{Shown, shown, Ran, ran, beside, firstPhase, plans, runs, over, lentReply, withLine, endBad, unitShown}
 use Rattle.bench_unit.specs.Plans.{oneMore, planTaken, startLine}
 use Rattle.bench_run.specs.declared.Ask.{Ask}
-use Rattle.bench_run.specs.Run.{thenSent, userRun}
+use Rattle.bench_run.specs.Run.{thenSent, userRun, downRun}
 
--- ---- what a line asks of the unit: which call, of how many octets a datagram, of which place
+-- ---- what a line asks of the unit: which call, of how many octets a datagram or a packet, of which place
+abbrev pub noCall : ℕ
+noCall = 0
+
+abbrev pub controlCall : ℕ
+controlCall = 1
+
+abbrev pub userCall : ℕ
+userCall = 2
+
+abbrev pub downCall : ℕ
+downCall = 3
+
+abbrev pub tickCall : ℕ
+tickCall = 4
+
+abbrev pub closeCall : ℕ
+closeCall = 5
+
 abbrev pub asking : ℕ → ℕ → ℕ → Ask
 asking kind size place = record { kind = kind; size = size; place = place }
 
 unfoldable pub askOf : Line → Ask
-askOf (Control size) = asking 1 size 0
-askOf (User size) = asking 2 size 0
-askOf Tick = asking 3 0 0
-askOf (Close place) = asking 4 0 place
-askOf (Node control user pool recovery resend sends interval) = asking 0 0 0
-askOf (Point guarantee ceiling size) = asking 0 0 0
-askOf BadPoint = asking 0 0 0
-askOf Bad = asking 0 0 0
+askOf (Control size) = asking controlCall size 0
+askOf (User size) = asking userCall size 0
+askOf (Down size) = asking downCall size 0
+askOf Tick = asking tickCall 0 0
+askOf (Close place) = asking closeCall 0 place
+askOf (Node control user pool recovery resend sends interval) = asking noCall 0 0
+askOf (Point guarantee ceiling size) = asking noCall 0 0
+askOf BadPoint = asking noCall 0 0
+askOf Bad = asking noCall 0 0
 
--- ---- once the plan is taken: C, U, T, X, and any other line is a bad one
+-- ---- once the plan is taken: C, U, D, T, X, and any other line is a bad one
 unfoldable pub askRun : Ask → List ℕ → Bench → List Session → List ℕ → Ran
 askRun a octets b t out =
-    pick (eqb (a .kind) 1) (unitShown (controlTaken (b .node) t (take (a .size) octets) lentReply) b out)
-    (pick (eqb (a .kind) 2) (userRun (take (a .size) octets) b t out)
-    (pick (eqb (a .kind) 3) (thenSent (unitShown (tickOf (b .node) t) b out))
-    (pick (eqb (a .kind) 4) (thenSent (unitShown (closeOf (b .node) t (a .place)) b out)) (beside t (endBad b out)))))
+    pick (eqb (a .kind) controlCall) (unitShown (controlTaken (b .node) t (take (a .size) octets) lentReply) b out)
+    (pick (eqb (a .kind) userCall) (userRun (take (a .size) octets) b t out)
+    (pick (eqb (a .kind) downCall) (downRun (take (a .size) octets) b t out)
+    (pick (eqb (a .kind) tickCall) (thenSent (unitShown (tickOf (b .node) t) b out))
+    (pick (eqb (a .kind) closeCall) (thenSent (unitShown (closeOf (b .node) t (a .place)) b out)) (beside t (endBad b out))))))
 
 unfoldable pub runLine : Line → List ℕ → Bench → List Session → List ℕ → Ran
 runLine line octets b t out = askRun (askOf line) octets b t out
@@ -53,6 +73,7 @@ isPoint BadPoint = true
 isPoint (Node control user pool recovery resend sends interval) = false
 isPoint (Control size) = false
 isPoint (User size) = false
+isPoint (Down size) = false
 isPoint Tick = false
 isPoint (Close place) = false
 isPoint Bad = false
@@ -64,6 +85,7 @@ pointLine BadPoint octets b out = endBad b out
 pointLine (Node control user pool recovery resend sends interval) octets b out = endBad b out
 pointLine (Control size) octets b out = endBad b out
 pointLine (User size) octets b out = endBad b out
+pointLine (Down size) octets b out = endBad b out
 pointLine Tick octets b out = endBad b out
 pointLine (Close place) octets b out = endBad b out
 pointLine Bad octets b out = endBad b out
@@ -96,28 +118,33 @@ lineTaken text b t out = toldTaken (lineRead text lentOctets) b t out
 -- ---- laws: a line by what it asks
 module _ (line : Line) (octets : List ℕ) (b : Bench) (t : List Session) (out : List ℕ) (x : Ran) (a : Ask) (kind size place : ℕ)
     (e : a ≡ askOf line) (k : kind ≡ a .kind) (s : size ≡ a .size) (p : place ≡ a .place) where
-  pub asks-control : eqb kind 1 ≡ true → x ≡ unitShown (controlTaken (b .node) t (take size octets) lentReply) b out → x ≡ runLine line octets b t out
+  pub asks-control : eqb kind controlCall ≡ true → x ≡ unitShown (controlTaken (b .node) t (take size octets) lentReply) b out → x ≡ runLine line octets b t out
   unfolding runLine askRun
   asks-control h g = rw (← e, rw k at h, ← s) g
 
-  pub asks-user : eqb kind 1 ≡ false → eqb kind 2 ≡ true → x ≡ userRun (take size octets) b t out → x ≡ runLine line octets b t out
+  pub asks-user : eqb kind controlCall ≡ false → eqb kind userCall ≡ true → x ≡ userRun (take size octets) b t out → x ≡ runLine line octets b t out
   unfolding runLine askRun
   asks-user h i g = rw (← e, rw k at h, rw k at i, ← s) g
 
-  pub asks-tick : eqb kind 1 ≡ false → eqb kind 2 ≡ false → eqb kind 3 ≡ true → x ≡ thenSent (unitShown (tickOf (b .node) t) b out)
+  pub asks-down : eqb kind controlCall ≡ false → eqb kind userCall ≡ false → eqb kind downCall ≡ true → x ≡ downRun (take size octets) b t out
       → x ≡ runLine line octets b t out
   unfolding runLine askRun
-  asks-tick h i j g = rw (← e, rw k at h, rw k at i, rw k at j) g
+  asks-down h i j g = rw (← e, rw k at h, rw k at i, rw k at j, ← s) g
 
-  pub asks-close : eqb kind 1 ≡ false → eqb kind 2 ≡ false → eqb kind 3 ≡ false → eqb kind 4 ≡ true
+  pub asks-tick : eqb kind controlCall ≡ false → eqb kind userCall ≡ false → eqb kind downCall ≡ false → eqb kind tickCall ≡ true
+      → x ≡ thenSent (unitShown (tickOf (b .node) t) b out) → x ≡ runLine line octets b t out
+  unfolding runLine askRun
+  asks-tick h i j l g = rw (← e, rw k at h, rw k at i, rw k at j, rw k at l) g
+
+  pub asks-close : eqb kind controlCall ≡ false → eqb kind userCall ≡ false → eqb kind downCall ≡ false → eqb kind tickCall ≡ false → eqb kind closeCall ≡ true
       → x ≡ thenSent (unitShown (closeOf (b .node) t place) b out) → x ≡ runLine line octets b t out
   unfolding runLine askRun
-  asks-close h i j l g = rw (← e, rw k at h, rw k at i, rw k at j, rw k at l, ← p) g
+  asks-close h i j l m g = rw (← e, rw k at h, rw k at i, rw k at j, rw k at l, rw k at m, ← p) g
 
-  pub asks-none : eqb kind 1 ≡ false → eqb kind 2 ≡ false → eqb kind 3 ≡ false → eqb kind 4 ≡ false → x ≡ beside t (endBad b out)
-      → x ≡ runLine line octets b t out
+  pub asks-none : eqb kind controlCall ≡ false → eqb kind userCall ≡ false → eqb kind downCall ≡ false → eqb kind tickCall ≡ false → eqb kind closeCall ≡ false
+      → x ≡ beside t (endBad b out) → x ≡ runLine line octets b t out
   unfolding runLine askRun
-  asks-none h i j l g = rw (← e, rw k at h, rw k at i, rw k at j, rw k at l) g
+  asks-none h i j l m g = rw (← e, rw k at h, rw k at i, rw k at j, rw k at l, rw k at m) g
 
 -- ---- the plan is taken
 module _ (line : Line) (octets : List ℕ) (b c : Bench) (t t′ : List Session) (out p : List ℕ) (x : Ran) (phase : ℕ)

@@ -10,15 +10,17 @@ use native.Mathlib.Omega.{arith}
 use lib.ListN.{length, take, drop, replicate, length-append, length-take, length-drop, length-replicate}
 use lib.Dec.{eqb, leb}
 use Rattle.base_octets.specs.Choice.{pick, split}
+use Rattle.base_octets.specs.BigEndian.{octetsOf, length-octets}
 use Rattle.unit_session.specs.declared.Session.{Session}
 use Rattle.unit_table.specs.declared.Node.{Node}
 use Rattle.call_own.specs.Outcome.{Outcome, leastReply}
 use Rattle.call_own.specs.Calls.{freshOf, tickOf, closeOf, sendOf}
 use Rattle.call_control.specs.Control.{controlTaken}
 use Rattle.call_user.specs.User.{Took, userTaken}
+use Rattle.call_down.specs.Down.{Output, downTaken}
 use Rattle.bench_text.specs.declared.Line.{Line}
 use Rattle.bench_text.specs.declared.Line.the-variants as L
-use Rattle.bench_text.specs.Lines.{Told, lineRead}
+use Rattle.bench_text.specs.Lines.{Told, lineRead, datagramMost}
 use Rattle.bench_text.specs.Prints.{answerText, dueText, badText}
 use Rattle.bench_text.specs.Sizes.{answer-most, packet-most, due-most, bad-most, line-read-length}
 use Rattle.bench_unit.specs.declared.Bench.{Bench}
@@ -27,9 +29,9 @@ use Rattle.bench_unit.specs.Plans.{firstLine, oneMore, planTaken, startLine}
 use Rattle.bench_unit.specs.Ended.{endOfInput}
 use Rattle.bench_unit.specs.Whole.{Adds, adds-none, adds-on, adds-printed, adds-within, adds-whole, planPrints, endPrints, bad-adds, plan-adds, plan-phase, plan-node, plan-table, plan-lines, plan-most, placeRoom, end-adds, end-most}
 use Rattle.bench_run.specs.declared.Ask.{Ask}
-use Rattle.bench_run.specs.Run.{sendTry, hasDue, sentShown, oneSent, sentTimes, allSent, thenSent, userText, userShown, userRun}
-use Rattle.bench_run.specs.Taken.{askOf, askRun, runLine, isPoint, pointLine, leavePlan, earlyLine, lentOctets, toldTaken, lineTaken}
-use Rattle.bench_run.specs.Replies.{control-length, user-length, tick-length, close-length, sent-most}
+use Rattle.bench_run.specs.Run.{sendTry, hasDue, sentShown, oneSent, sentTimes, allSent, thenSent, userText, userShown, userRun, downText, downShown, gpduMost, lentOutput, downRun}
+use Rattle.bench_run.specs.Taken.{controlCall, userCall, downCall, tickCall, closeCall, askOf, askRun, runLine, isPoint, pointLine, leavePlan, earlyLine, lentOctets, toldTaken, lineTaken}
+use Rattle.bench_run.specs.Replies.{control-length, user-length, down-length, tick-length, close-length, sent-most}
 use Rattle.unit_tunnel.specs.Numbering.{places}
 
 -- ---- the texts
@@ -52,13 +54,17 @@ thenPrints x = unitPrints x ++ sendsPrint (places + 1) (x .answer .node) (x .tab
 unfoldable pub tookPrints : Took → List ℕ → List ℕ
 tookPrints x d = userText (x .number) (x .size) (x .reply) (drop (x .start) d)
 
+unfoldable pub outputPrints : Output → List ℕ
+outputPrints x = downText (x .written .number) (x .written .size) (x .buffer) (x .written .peer)
+
 -- once the plan is taken, of a line of this number
 unfoldable pub askPrints : Ask → List ℕ → ℕ → Node → List Session → List ℕ
 askPrints a octets lines node t =
-    pick (eqb (a .kind) 1) (unitPrints (controlTaken node t (take (a .size) octets) lentReply))
-    (pick (eqb (a .kind) 2) (tookPrints (userTaken node t (take (a .size) octets) lentReply) (take (a .size) octets))
-    (pick (eqb (a .kind) 3) (thenPrints (tickOf node t))
-    (pick (eqb (a .kind) 4) (thenPrints (closeOf node t (a .place))) (badText lines))))
+    pick (eqb (a .kind) controlCall) (unitPrints (controlTaken node t (take (a .size) octets) lentReply))
+    (pick (eqb (a .kind) userCall) (tookPrints (userTaken node t (take (a .size) octets) lentReply) (take (a .size) octets))
+    (pick (eqb (a .kind) downCall) (outputPrints (downTaken node t (take (a .size) octets) lentOutput))
+    (pick (eqb (a .kind) tickCall) (thenPrints (tickOf node t))
+    (pick (eqb (a .kind) closeCall) (thenPrints (closeOf node t (a .place))) (badText lines)))))
 
 -- the plan is taken first
 unfoldable pub leavePrints : Line → List ℕ → Bench → List Session → List ℕ
@@ -72,6 +78,7 @@ startPrints (L.Node control user pool recovery resend sends interval) lines = []
 startPrints (L.Point guarantee ceiling size) lines = badText lines
 startPrints (L.Control size) lines = badText lines
 startPrints (L.User size) lines = badText lines
+startPrints (L.Down size) lines = badText lines
 startPrints L.Tick lines = badText lines
 startPrints (L.Close place) lines = badText lines
 startPrints L.BadPoint lines = badText lines
@@ -83,6 +90,7 @@ pointPrints (L.Point guarantee ceiling size) count lines = pick (leb 4 count) (b
 pointPrints (L.Node control user pool recovery resend sends interval) count lines = badText lines
 pointPrints (L.Control size) count lines = badText lines
 pointPrints (L.User size) count lines = badText lines
+pointPrints (L.Down size) count lines = badText lines
 pointPrints L.Tick count lines = badText lines
 pointPrints (L.Close place) count lines = badText lines
 pointPrints L.BadPoint count lines = badText lines
@@ -151,14 +159,20 @@ user-adds : (d : List ℕ) (b : Bench) (t : List Session) (out : List ℕ)
 unfolding tookPrints userRun userShown withMade
 user-adds d b t out = adds-printed _ _ (b .made) out (λ k. refl)
 
+down-adds : (packet : List ℕ) (b : Bench) (t : List Session) (out : List ℕ)
+    → Adds (outputPrints (downTaken (b .node) t packet lentOutput)) (b .made) out (downRun packet b t out .bench .made) (downRun packet b t out .out)
+unfolding outputPrints downRun downShown withMade
+down-adds packet b t out = adds-printed _ _ (b .made) out (λ k. refl)
+
 ask-adds : (a : Ask) (octets : List ℕ) (b : Bench) (t : List Session) (out : List ℕ)
     → Adds (askPrints a octets (b .lines) (b .node) t) (b .made) out (askRun a octets b t out .bench .made) (askRun a octets b t out .out)
 unfolding askPrints askRun
 ask-adds a octets b t out =
-    split (eqb (a .kind) 1) (λ e. rw e (unit-adds _ b out))
-    (λ e. rw e (split (eqb (a .kind) 2) (λ f. rw f (user-adds (take (a .size) octets) b t out))
-    (λ f. rw f (split (eqb (a .kind) 3) (λ g. rw g (then-adds _ b out))
-    (λ g. rw g (split (eqb (a .kind) 4) (λ i. rw i (then-adds _ b out)) (λ i. rw i (bad-adds b out))))))))
+    split (eqb (a .kind) controlCall) (λ e. rw e (unit-adds _ b out))
+    (λ e. rw e (split (eqb (a .kind) userCall) (λ f. rw f (user-adds (take (a .size) octets) b t out))
+    (λ f. rw f (split (eqb (a .kind) downCall) (λ g. rw g (down-adds (take (a .size) octets) b t out))
+    (λ g. rw g (split (eqb (a .kind) tickCall) (λ i. rw i (then-adds _ b out))
+    (λ i. rw i (split (eqb (a .kind) closeCall) (λ j. rw j (then-adds _ b out)) (λ j. rw j (bad-adds b out))))))))))
 
 ask-lines : (a : Ask) (octets : List ℕ) (lines : ℕ) (b : Bench) (t : List Session) (out : List ℕ) → b .lines ≡ lines
     → Adds (askPrints a octets lines (b .node) t) (b .made) out (askRun a octets b t out .bench .made) (askRun a octets b t out .out)
@@ -181,6 +195,7 @@ start-adds (L.Node control user pool recovery resend sends interval) b out h = a
 start-adds (L.Point guarantee ceiling size) b out h = bad-adds b out
 start-adds (L.Control size) b out h = bad-adds b out
 start-adds (L.User size) b out h = bad-adds b out
+start-adds (L.Down size) b out h = bad-adds b out
 start-adds L.Tick b out h = bad-adds b out
 start-adds (L.Close place) b out h = bad-adds b out
 start-adds L.BadPoint b out h = bad-adds b out
@@ -194,6 +209,7 @@ point-adds (L.Point guarantee ceiling size) octets b out h =
 point-adds (L.Node control user pool recovery resend sends interval) octets b out h = bad-adds b out
 point-adds (L.Control size) octets b out h = bad-adds b out
 point-adds (L.User size) octets b out h = bad-adds b out
+point-adds (L.Down size) octets b out h = bad-adds b out
 point-adds L.Tick octets b out h = bad-adds b out
 point-adds (L.Close place) octets b out h = bad-adds b out
 point-adds L.BadPoint octets b out h = bad-adds b out
@@ -260,6 +276,20 @@ took-most x d h k =
     let q = rest-most (x .start) d in
     split (eqb (x .number) 0 && eqb (x .size) 0) (λ e. rw e (omega arith)) (λ e. rw e (omega arith))
 
+output-length : length lentOutput ≡ gpduMost
+unfolding lentOutput
+output-length = length-replicate {A = ℕ} gpduMost 0
+
+-- 2,056 octets and an address
+output-most : (x : Output) → length (x .buffer) ≡ gpduMost → length (outputPrints x) ≤ 4145
+unfolding outputPrints downText gpduMost datagramMost
+output-most x h =
+    let a = answer-most (x .written .number) (take (x .written .size) (x .buffer)) in
+    let b = packet-most (x .written .number) (take (x .written .size) (x .buffer)) (octetsOf 4 (x .written .peer)) in
+    let p = part-most (x .written .size) (x .buffer) in
+    let q = length-octets 4 (x .written .peer) in
+    split (eqb (x .written .number) 0) (λ e. rw e (omega arith)) (λ e. rw e (omega arith))
+
 ask-most : (a : Ask) (octets : List ℕ) (lines : ℕ) (node : Node) (t : List Session) → length octets ≡ 2048
     → length (askPrints a octets lines node t) ≤ 4377 + 38 * places
 unfolding askPrints leastReply
@@ -269,13 +299,15 @@ ask-most a octets lines node t h =
     let p = part-most (a .size) octets in
     let c = unit-most (controlTaken node t d lentReply) leastReply (control-length node t lentReply d ∙ lent-most) in
     let u = took-most (userTaken node t d lentReply) d (user-length node t lentReply d ∙ lent-most) (omega arith) in
+    let w = output-most (downTaken node t d lentOutput) (down-length t d lentOutput node ∙ output-length) in
     let k = then-most (tickOf node t) (tick-length node t) in
     let x = then-most (closeOf node t (a .place)) (close-length node t (a .place)) in
     let b = bad-most lines in
-    split (eqb (a .kind) 1) (λ e. rw e (omega arith))
-    (λ e. rw e (split (eqb (a .kind) 2) (λ f. rw f (omega arith))
-    (λ f. rw f (split (eqb (a .kind) 3) (λ g. rw g (omega arith))
-    (λ g. rw g (split (eqb (a .kind) 4) (λ i. rw i (omega arith)) (λ i. rw i (omega arith))))))))
+    split (eqb (a .kind) controlCall) (λ e. rw e (omega arith))
+    (λ e. rw e (split (eqb (a .kind) userCall) (λ f. rw f (omega arith))
+    (λ f. rw f (split (eqb (a .kind) downCall) (λ g. rw g (omega arith))
+    (λ g. rw g (split (eqb (a .kind) tickCall) (λ i. rw i (omega arith))
+    (λ i. rw i (split (eqb (a .kind) closeCall) (λ j. rw j (omega arith)) (λ j. rw j (omega arith))))))))))
 
 leave-most : (line : Line) (octets : List ℕ) (b : Bench) (t : List Session) → length octets ≡ 2048
     → length (leavePrints line octets b t) ≤ 4400 + 38 * places
@@ -291,6 +323,7 @@ start-most (L.Node control user pool recovery resend sends interval) lines = ome
 start-most (L.Point guarantee ceiling size) lines = bad-most lines
 start-most (L.Control size) lines = bad-most lines
 start-most (L.User size) lines = bad-most lines
+start-most (L.Down size) lines = bad-most lines
 start-most L.Tick lines = bad-most lines
 start-most (L.Close place) lines = bad-most lines
 start-most L.BadPoint lines = bad-most lines
@@ -304,6 +337,7 @@ point-most (L.Point guarantee ceiling size) count lines =
 point-most (L.Node control user pool recovery resend sends interval) count lines = bad-most lines
 point-most (L.Control size) count lines = bad-most lines
 point-most (L.User size) count lines = bad-most lines
+point-most (L.Down size) count lines = bad-most lines
 point-most L.Tick count lines = bad-most lines
 point-most (L.Close place) count lines = bad-most lines
 point-most L.BadPoint count lines = bad-most lines

@@ -2,10 +2,12 @@
 // calls work on them where they lie.
 use bench_text::Line;
 use bench_unit::Bench;
+use call_down::Written;
 use call_own::Answer;
 use call_user::Handed;
 use unit_session::Session;
 use unit_tunnel::Unit;
+use wire_user::Header;
 ghost use mathlib.Core.Bool.{not, _&&_};
 ghost use mathlib.Core.Path.{_≡_};
 ghost use lib.Dec.{eqb};
@@ -14,8 +16,9 @@ ghost use Rattle.call_own.specs.Outcome.{back};
 ghost use Rattle.call_own.specs.Calls.{tickOf, closeOf};
 ghost use Rattle.call_control.specs.Control.{controlTaken};
 ghost use Rattle.call_user.specs.Parcel.{parcel};
+ghost use Rattle.call_down.specs.Down.{output};
 ghost use Rattle.bench_unit.specs.State.{shown, ran, lentReply, plans, unitShown};
-ghost use Rattle.bench_run.specs.Run.{sentShown, oneSent, hasDue, allSent, thenSent, handedShown, userRun};
+ghost use Rattle.bench_run.specs.Run.{sentShown, oneSent, hasDue, allSent, thenSent, handedShown, userRun, downShown, downRun};
 ghost use Rattle.bench_run.specs.Taken.{askOf, runLine, leavePlan, isPoint, pointLine, earlyLine, lineTaken};
 
 // One datagram that is due, sent and printed; whether there was one.
@@ -128,6 +131,33 @@ fn run_user(b: Bench, recs: &mut [Session], octets: &[u8], size: usize, out: &mu
     show_handed(b, h, d, &reply, out)
 }
 
+// A packet of the longest length, as a G-PDU.
+const GPDU: usize = Line::DATAGRAM + Header::FIXED;
+
+// Only a packet that is written has a third field: the peer's user address.
+fn show_down(b: Bench, w: Written, buffer: &[u8], out: &mut [u8]) -> Bench
+    ensures { λ r. ⌜ shown r (now (out .exit)) ≡ downShown (output w (now (buffer .entry))) b (now (out .entry)) ⌝ }
+{
+    let part = bench_unit::front(buffer, w.size);
+    if w.number == 0 {
+        let peer = base_octets::octets32(w.peer);
+        let made = bench_text::put_packet(out, b.made, w.number, part, &peer);
+        return bench_unit::with_made(b, made);
+    }
+    let made = bench_text::put_answer(out, b.made, w.number, part);
+    bench_unit::with_made(b, made)
+}
+
+fn run_down(b: Bench, recs: &mut [Session], octets: &[u8], size: usize, out: &mut [u8]) -> Bench
+    ensures { λ r. ⌜ ran r (now (recs .exit)) (now (out .exit)) ≡ downRun (take size (now (octets .entry))) b (now (recs .entry)) (now (out .entry)) ⌝ }
+{
+    let packet = bench_unit::front(octets, size);
+    let mut buffer = [0; GPDU];
+    let node = bench_unit::node_of(b);
+    let w = lent_down::grugavorn_down(node, recs, packet, &mut buffer);
+    show_down(b, w, &buffer, out)
+}
+
 fn run_tick(b: Bench, recs: &mut [Session], out: &mut [u8]) -> Bench
     ensures { λ r. ⌜ ran r (now (recs .exit)) (now (out .exit)) ≡ thenSent (unitShown (tickOf (b .node) (now (recs .entry))) b (now (out .entry))) ⌝ }
 {
@@ -146,7 +176,7 @@ fn run_close(b: Bench, recs: &mut [Session], place: usize, out: &mut [u8]) -> Be
     send_all(next, recs, out)
 }
 
-// What a line asks of the unit, in numbers: which call, of how many octets a datagram, of which place.
+// What a line asks of the unit, in numbers: which call, of how many octets a datagram or a packet, of which place.
 struct Ask {
     kind: u8,
     size: usize,
@@ -154,13 +184,17 @@ struct Ask {
 }
 
 impl Ask {
+    pub const NONE: u8 = 0;
+
     pub const CONTROL: u8 = 1;
 
     pub const USER: u8 = 2;
 
-    pub const TICK: u8 = 3;
+    pub const DOWN: u8 = 3;
 
-    pub const CLOSE: u8 = 4;
+    pub const TICK: u8 = 4;
+
+    pub const CLOSE: u8 = 5;
 }
 
 fn asking(kind: u8, size: usize, place: usize) -> Ask
@@ -175,9 +209,10 @@ fn ask_of(line: Line) -> Ask
     match line {
         Line::Control { size } => asking(Ask::CONTROL, size, 0),
         Line::User { size } => asking(Ask::USER, size, 0),
+        Line::Down { size } => asking(Ask::DOWN, size, 0),
         Line::Tick => asking(Ask::TICK, 0, 0),
         Line::Close { place } => asking(Ask::CLOSE, 0, place as usize),
-        _ => asking(0, 0, 0),
+        _ => asking(Ask::NONE, 0, 0),
     }
 }
 
@@ -212,6 +247,9 @@ fn run_line(b: Bench, recs: &mut [Session], line: Line, octets: &[u8], out: &mut
     }
     if kind == Ask::USER {
         return run_user(b, recs, octets, size, out);
+    }
+    if kind == Ask::DOWN {
+        return run_down(b, recs, octets, size, out);
     }
     if kind == Ask::TICK {
         return run_tick(b, recs, out);

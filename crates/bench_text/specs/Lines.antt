@@ -1,5 +1,5 @@
 -- What a line of the bench's input says. N: control address, user address, pool base (8 hex digits each), Recovery, T, N, E. A: name in
--- hex, g, c. C or U with a datagram in hex. T. X and a place. Any other line is a bad one; one whose first field is A is a bad line
+-- hex, g, c. C or U with a datagram in hex, D with a packet in hex. T. X and a place. Any other line is a bad one; one whose first field is A is a bad line
 -- of an access point.
 -- Assumes nothing.
 use Prim.Native.Nat.{ℕ, _+_, _/_, _<_, _≤_}
@@ -20,10 +20,11 @@ use Rattle.base_numerals.specs.declared.Size.the-variants as S
 use Rattle.base_numerals.specs.Decimal.{numberIn}
 use Rattle.base_numerals.specs.Hex.{wordIn, octetsRead, Filled, filled}
 use Rattle.bench_text.specs.declared.Line.{Line}
-use Rattle.bench_text.specs.declared.Line.the-variants.{Node, Point, Control, User, Tick, Close, BadPoint, Bad}
+use Rattle.bench_text.specs.declared.Line.the-variants.{Node, Point, Control, User, Down, Tick, Close, BadPoint, Bad}
 use Rattle.bench_text.specs.Fields.{isTab, fieldAt}
 use Rattle.unit_plan.specs.Limits.{longestName}
 
+-- a packet too
 unfoldable pub datagramMost : ℕ
 datagramMost = 2048
 
@@ -98,6 +99,9 @@ controlRead l out = withOctets (octetsUpTo datagramMost (fieldAt 1 l) out) Bad C
 unfoldable pub userRead : List ℕ → List ℕ → Told
 userRead l out = withOctets (octetsUpTo datagramMost (fieldAt 1 l) out) Bad User
 
+unfoldable pub downRead : List ℕ → List ℕ → Told
+downRead l out = withOctets (octetsUpTo datagramMost (fieldAt 1 l) out) Bad Down
+
 unfoldable pub closeRead : List ℕ → Line
 closeRead l = withNumber (numberIn (fieldAt 1 l)) Bad Close
 
@@ -112,7 +116,8 @@ unfoldable pub shortLine : ℕ → ℕ → List ℕ → List ℕ → Told
 shortLine letter tabs l out =
     pick (eqb letter 67 && eqb tabs 1) (controlRead l out)
     (pick (eqb letter 85 && eqb tabs 1) (userRead l out)
-    (pick (eqb letter 65 && eqb tabs 3) (pointRead l out) (told (shortRead letter tabs l) out)))
+    (pick (eqb letter 68 && eqb tabs 1) (downRead l out)
+    (pick (eqb letter 65 && eqb tabs 3) (pointRead l out) (told (shortRead letter tabs l) out))))
 
 unfoldable pub lineRead : List ℕ → List ℕ → Told
 lineRead l out = pick (ltb longest (length l)) (told (badRead (letterOf l)) out) (shortLine (letterOf l) (countOf isTab l) l out)

@@ -19,7 +19,7 @@ replyText number reply = decimal 1 number ++ (9 ∷ []) ++ octetsText reply
 unfoldable pub answerText : ℕ → List ℕ → List ℕ
 answerText number reply = replyText number reply ++ (10 ∷ [])
 
--- a payload is a third field
+-- the payload of a packet that is handed up, or the peer's address of one that is written down, is a third field
 unfoldable pub packetText : ℕ → List ℕ → List ℕ → List ℕ
 packetText number reply payload = replyText number reply ++ (9 ∷ []) ++ octetsText payload ++ (10 ∷ [])
 

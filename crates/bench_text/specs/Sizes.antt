@@ -16,7 +16,7 @@ use Rattle.base_numerals.specs.declared.Numeral.the-variants as N
 use Rattle.base_numerals.specs.Decimal.{digits, decimal}
 use Rattle.base_numerals.specs.Hex.{length-hex, octetsIn, octetsRead, isHex}
 use Rattle.bench_text.specs.Fields.{isTab}
-use Rattle.bench_text.specs.Lines.{Told, octetsUpTo, withOctets, numbersRead, pointRead, controlRead, userRead, shortLine, letterOf, longest, lineRead}
+use Rattle.bench_text.specs.Lines.{Told, octetsUpTo, withOctets, numbersRead, pointRead, controlRead, userRead, downRead, shortLine, letterOf, longest, lineRead}
 use Rattle.bench_text.specs.Prints.{octetsText, replyText, answerText, packetText, dueText, countedText, badText, liveText}
 
 digits-most : (k w n : ℕ) → length (digits k w n) ≤ k
@@ -88,11 +88,12 @@ numbers-length n (N.Is g) N.Not f bad h k = k
 numbers-length n N.Not y f bad h k = k
 
 short-length : (letter tabs : ℕ) (l out : List ℕ) → length (shortLine letter tabs l out .octets) ≡ length out
-unfolding shortLine controlRead userRead pointRead withOctets
+unfolding shortLine controlRead userRead downRead pointRead withOctets
 short-length letter tabs l out =
     split (eqb letter 67 && eqb tabs 1) (λ e. rw e (up-to-length _ _ out))
     (λ e. rw e (split (eqb letter 85 && eqb tabs 1) (λ f. rw f (up-to-length _ _ out))
-    (λ f. rw f (split (eqb letter 65 && eqb tabs 3) (λ g. rw g (numbers-length (length out) _ _ _ _ (λ a c. up-to-length _ _ out) refl)) (λ g. rw g)))))
+    (λ f. rw f (split (eqb letter 68 && eqb tabs 1) (λ g. rw g (up-to-length _ _ out))
+    (λ g. rw g (split (eqb letter 65 && eqb tabs 3) (λ h. rw h (numbers-length (length out) _ _ _ _ (λ a c. up-to-length _ _ out) refl)) (λ h. rw h)))))))
 
 pub line-read-length : (l out : List ℕ) → length (lineRead l out .octets) ≡ length out
 unfolding lineRead

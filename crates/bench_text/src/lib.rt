@@ -10,10 +10,10 @@ ghost use Rattle.base_numerals.specs.Hex.{filled};
 ghost use Rattle.base_octets.specs.Search.{firstOf};
 ghost use Rattle.base_octets.specs.Sums.{countOf};
 ghost use Rattle.bench_text.specs.Fields.{isTab, fieldAt};
-ghost use Rattle.bench_text.specs.Lines.{letterOf, badRead, told, octetsUpTo, nodeRead, timesRead, pointRead, closeRead, controlRead, userRead, shortRead, lineRead};
+ghost use Rattle.bench_text.specs.Lines.{letterOf, badRead, told, octetsUpTo, nodeRead, timesRead, pointRead, closeRead, controlRead, userRead, downRead, shortRead, lineRead};
 ghost use Rattle.bench_text.specs.Prints.{octetsText, replyText, countedText, answerText, packetText, dueText, badText, liveText};
 
-// A line of input. The octets of a name or a datagram are in the buffer that was lent, `size` of them.
+// A line of input. The octets of a name, a datagram or a packet are in the buffer that was lent, `size` of them.
 pub enum Line {
     Node {
         control: u32,
@@ -35,6 +35,9 @@ pub enum Line {
     User {
         size: usize,
     },
+    Down {
+        size: usize,
+    },
     Tick,
     Close {
         place: u8,
@@ -45,7 +48,7 @@ pub enum Line {
 }
 
 impl Line {
-    // The most octets of a datagram.
+    // The most octets of a datagram or a packet.
     pub const DATAGRAM: usize = 2048;
     // A line of more characters is a bad one.
     pub const LONGEST: usize = 65535;
@@ -221,6 +224,15 @@ fn read_user(line: &[u8], octets: &mut [u8]) -> Line
     Line::User { size }
 }
 
+fn read_down(line: &[u8], octets: &mut [u8]) -> Line
+    ensures { λ r. ⌜ told r (now (octets .exit)) ≡ downRead (now (line .entry)) (now (octets .entry)) ⌝ }
+{
+    let Size::Is(size) = octets_up_to(field(line, 1), Line::DATAGRAM, octets) else {
+        return Line::Bad;
+    };
+    Line::Down { size }
+}
+
 // By the letter and the number of tabs: the lines that bring no octets.
 fn read_short(letter: u8, tabs: usize, line: &[u8]) -> Line
     ensures { λ r. ⌜ r ≡ shortRead letter tabs (now (line .entry)) ⌝ }
@@ -251,6 +263,9 @@ pub fn read_line(line: &[u8], octets: &mut [u8]) -> Line
     }
     if (letter == 85) & (tabs == 1) {
         return read_user(line, octets);
+    }
+    if (letter == 68) & (tabs == 1) {
+        return read_down(line, octets);
     }
     if (letter == 65) & (tabs == 3) {
         return read_point(line, octets);
@@ -285,7 +300,7 @@ pub fn put_answer(out: &mut [u8], at: usize, number: u8, reply: &[u8]) -> usize
     base_numerals::put(out, a, 10)
 }
 
-// A user packet that was handed up: number, reply and payload.
+// A packet that went through: number, reply, and a third field, the payload or the peer's address.
 pub fn put_packet(out: &mut [u8], at: usize, number: u8, reply: &[u8], payload: &[u8]) -> usize
     ensures { λ r. ⌜ written r (now (out .exit)) ≡ laid at (packetText number (now (reply .entry)) (now (payload .entry))) (now (out .entry)) ⌝ }
 {

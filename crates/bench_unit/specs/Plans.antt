@@ -97,6 +97,7 @@ startLine (L.Node control user pool recovery resend sends interval) b out = show
 startLine (L.Point guarantee ceiling size) b out = endBad b out
 startLine (L.Control size) b out = endBad b out
 startLine (L.User size) b out = endBad b out
+startLine (L.Down size) b out = endBad b out
 startLine L.Tick b out = endBad b out
 startLine (L.Close place) b out = endBad b out
 startLine L.BadPoint b out = endBad b out

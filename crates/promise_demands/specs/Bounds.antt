@@ -12,7 +12,7 @@ use borrow.Author.Tests.{eq-eqb}
 use Rattle.unit_tunnel.specs.Numbering.{places, teids, lastUse, controlOffset, userOffset, control-fits, user-fits}
 use Rattle.unit_tunnel.specs.Tunnel.{controlNumber, userNumber, number-same, number-fits, kinds-apart}
 use Rattle.unit_plan.specs.declared.Plan.{Plan}
-use Rattle.unit_plan.specs.Address.{addressOf, addresses}
+use Rattle.unit_plan.specs.Address.{addressOf, address-same}
 use Rattle.unit_plan.specs.Limits.{parties}
 use Rattle.unit_sharing.specs.Sharing.{shareOf, ceilingAt}
 use Rattle.unit_session.specs.declared.OwnRequest.{OwnRequest}
@@ -23,9 +23,9 @@ use Rattle.unit_table.specs.Rules.{liveOn, boundsOf, Rules, rules-of}
 use Rattle.unit_table.specs.Change.{nobody, record-ok}
 use Rattle.unit_table.specs.Find.{found-only}
 use Rattle.promise_demands.specs.Numbers.{among-other, tickNumbers, closeNumbers, sendNumbers, controlNumbers, lineNumbers, TickNumbers, CloseNumbers, SendNumbers, ControlNumbers, LineNumbers, tick-numbers, close-numbers, send-numbers, control-numbers, line-numbers}
-use Rattle.promise_demands.specs.UserNumbers.{userNumbers, UserNumbers, user-numbers}
+use Rattle.promise_demands.specs.UserNumbers.{userNumbers, UserNumbers, user-numbers, downNumbers, DownNumbers, down-numbers}
 use Rattle.call_own.specs.Outcome.{State}
-use Rattle.promise_demands.specs.Run.{Event, control, user, tick, send, close, line, answered, run, Kept, Start, Run}
+use Rattle.promise_demands.specs.Run.{Event, control, user, down, tick, send, close, line, answered, run, Kept, Start, Run}
 use Rattle.promise_demands.specs.Stays.{run-start}
 
 -- the record of a place
@@ -55,13 +55,16 @@ unfolding RulesHold
 rules-hold = run-start
 
 kept-neither : (s : State) → Kept s → (e : Event) → (answered e s ≢ 2) × (answered e s ≢ 11)
-unfolding answered tickNumbers closeNumbers sendNumbers controlNumbers lineNumbers userNumbers TickNumbers CloseNumbers SendNumbers ControlNumbers LineNumbers UserNumbers
+unfolding answered tickNumbers closeNumbers sendNumbers controlNumbers lineNumbers userNumbers downNumbers TickNumbers CloseNumbers SendNumbers ControlNumbers LineNumbers UserNumbers DownNumbers
 kept-neither s k (control d reply) =
     let m = control-numbers (s .node) (s .table) d reply k in
     (among-other (answered (control d reply) s) 2 controlNumbers m refl, among-other (answered (control d reply) s) 11 controlNumbers m refl)
 kept-neither s k (user d reply) =
     let m = user-numbers (s .node) (s .table) d reply k in
     (among-other (answered (user d reply) s) 2 userNumbers m refl, among-other (answered (user d reply) s) 11 userNumbers m refl)
+kept-neither s k (down packet out) =
+    let m = down-numbers (s .node) (s .table) packet out k in
+    (among-other (answered (down packet out) s) 2 downNumbers m refl, among-other (answered (down packet out) s) 11 downNumbers m refl)
 kept-neither s k tick =
     let m = tick-numbers (s .node) (s .table) k in
     (among-other (answered tick s) 2 tickNumbers m refl, among-other (answered tick s) 11 tickNumbers m refl)
@@ -107,10 +110,6 @@ NoneShared = (p : Plan) (s : State) (es : List Event) → Run p s es → (i : �
     × ((j : ℕ) → j < places → i ≢ j → isFree (at (run es s) i) ≡ false → isFree (at (run es s) j) ≡ false
     → Apart p i j (at (run es s) i) (at (run es s) j))
 
-addresses-apart : (pool i j : ℕ) → i < places → j < places → i ≢ j → addressOf pool i ≢ addressOf pool j
-unfolding addressOf places addresses
-addresses-apart pool i j h k n e = n (omega arith)
-
 has-id : (s : Session) → isFree s ≡ false → hasId (s .imsi) (s .ebi) s ≡ true
 unfolding hasId
 has-id s n = rw (n, eq-eqb (s .imsi) (s .imsi) refl, eq-eqb (s .ebi) (s .ebi) refl)
@@ -135,7 +134,7 @@ module _ (p : Plan) (s : State) (g : Start p s) (i : ℕ) (h : i < places) where
   apart j k n a b = record {
     controls = λ e. n (number-same controlOffset (at s i .usage) i (at s j .usage) j control-fits h k e .1);
     users = λ e. n (number-same userOffset (at s i .usage) i (at s j .usage) j user-fits h k e .1);
-    addresses = addresses-apart (p .pool) i j h k n;
+    addresses = λ e. n (address-same (p .pool) i j h k e);
     ids = λ e o. n (found-only (hasId (at s j .imsi) (at s j .ebi)) (s .table) i j (rules .once (at s j .imsi) (at s j .ebi)) (let z = rules .size in omega arith) (let z = rules .size in omega arith)
         (rw (← e, ← o) (has-id (at s i) a)) (has-id (at s j) b));
   }

@@ -151,7 +151,7 @@ module _ (first n : ℕ) (b : List ℕ) (small : length b < 65536) (good : ours 
       let e : (optional first && ltb (length d) 12) ≡ false = rw packet-long o in
       rw (a, good, c, e)
 
-  packet-number : n < teids → userTeidOf (packet first n b) ≡ n
+  pub packet-number : n < teids → userTeidOf (packet first n b) ≡ n
   unfolding packet octetsOf numberOf numberFrom teids
   packet-number h = teid-there (packet first n b) (omega arith) ∙ number-back 4 n h
 
@@ -164,7 +164,7 @@ unfolding optional
 extended-optional first e = rw e
 
 -- how many octets lie before the payload
-unfoldable front : Between → ℕ
+unfoldable pub front : Between → ℕ
 front none = 8
 front (optionals a b c e) = 12
 front (extensions a b c l) = 12 + length (chain l)
@@ -180,7 +180,7 @@ whole-of first (extensions a b c k) x h =
     let l : ltb (length (behind (extensions a b c k) x) + 8) 12 ≡ false = le-ltb (length (behind (extensions a b c k) x) + 8) 12 (omega arith) in
     rw (extended-optional first (and-left (extended first) (every passable k) h), l)
 
-read-of : (first n : ℕ) (s : Between) (x : List ℕ) → length (behind s x) < 65536 → ours first ≡ true → suits first s ≡ true
+pub read-of : (first n : ℕ) (s : Between) (x : List ℕ) → length (behind s x) < 65536 → ours first ≡ true → suits first s ≡ true
     → (userOf (packet first n (behind s x)) .number ≡ 0) × (userOf (packet first n (behind s x)) .size ≡ front s)
 unfolding suits behind front packet octetsOf
 read-of first n none x l g h =
@@ -200,7 +200,7 @@ read-of first n (extensions a b c k) x l g h =
     let w = chain-passed k x (and-right (extended first) (every passable k) h) in
     (r .0 ∙ ap (λ (v : Walk). v .number) w, r .1 ∙ ap (λ (v : Walk). 12 + v .size) w)
 
-left-of : (first n : ℕ) (s : Between) (x : List ℕ) → drop (front s) (packet first n (behind s x)) ≡ x
+pub left-of : (first n : ℕ) (s : Between) (x : List ℕ) → drop (front s) (packet first n (behind s x)) ≡ x
 unfolding behind front packet octetsOf
 left-of first n none x = refl
 left-of first n (optionals a b c e) x = refl

@@ -19,6 +19,7 @@ use Rattle.call_own.specs.Outcome.{leastReply, noReply}
 use Rattle.call_own.specs.Calls.{freshOf, tickOf, closeOf, sendOf}
 use Rattle.call_control.specs.Control.{controlTaken}
 use Rattle.call_user.specs.User.{silent, userTaken}
+use Rattle.call_down.specs.Down.{unwritten, downTaken, down-broken}
 use Rattle.call_line.specs.Line.{lineBy, lineOf}
 use Rattle.call_own.specs.Others.{uncounted, rules-other, tick-other, close-other, send-other}
 
@@ -33,6 +34,7 @@ pub record OthersRefused : Type 0 where
   pub control : (node : Node) (l : List Session) (d reply : List ℕ) → Other l → controlTaken node l d reply ≡ noReply (uncounted (length reply)) node l reply
   pub line : (node : Node) (l : List Session) (place : ℕ) (reply : List ℕ) → Other l → lineOf node l place reply ≡ noReply (uncounted (length reply)) node l reply
   pub user : (node : Node) (l : List Session) (d reply : List ℕ) → Other l → userTaken node l d reply ≡ silent (uncounted (length reply)) (length d) reply
+  pub down : (node : Node) (l : List Session) (packet out : List ℕ) → Other l → downTaken node l packet out ≡ unwritten 2 out
 
 other : (l : List Session) → Other l → eqb (length l) places ≡ false
 other l n = ne-eqb (length l) places n
@@ -65,4 +67,5 @@ others-refused = record {
   control = λ node l d reply n. control-other node l d reply (other l n);
   line = λ node l place reply n. line-other node l place reply (other l n);
   user = λ node l d reply n. user-other node l d reply (other l n);
+  down = λ node l packet out n. down-broken node l packet out (rules-other node l (other l n));
 }

@@ -21,6 +21,7 @@ use Rattle.promise_demands.specs.Echoing.{EchoWhole, echo-whole}
 use Rattle.promise_demands.specs.Printed.{LinesWhole, lines-whole}
 use Rattle.promise_demands.specs.Packets.{LiveOnly, live-only}
 use Rattle.promise_demands.specs.Carried.{AllCarried, all-carried}
+use Rattle.promise_demands.specs.Downlink.{DownlinkWhole, downlink-whole}
 use Rattle.promise_demands.specs.InTime.{FreedInTime, freed-in-time}
 use Rattle.promise_demands.specs.Ends.{SendsEnd, sends-end}
 use Rattle.promise_demands.specs.Ticks.{EveryTickCounts, every-tick-counts}
@@ -45,7 +46,8 @@ pub record Demand1 : Type 0 where
   pub notRefused : NotAllRefused
 
 -- 2. Reading and writing follow the standards: the same fields, reply octets, tunnel numbers and resends; a user packet is handed up only under
--- a live user number, as exactly the octets it carried
+-- a live user number, as exactly the octets it carried; a downlink packet is written for a live session alone, to its peer, and reading what is
+-- written gives it back
 pub record Demand2 : Type 0 where
   pub hosts : HostsRun
   pub pairs : PairsHold
@@ -62,6 +64,7 @@ pub record Demand2 : Type 0 where
   pub written : WrittenIsRead
   pub handedUp : LiveOnly
   pub carried : AllCarried
+  pub down : DownlinkWhole
   pub apart : NoneShared
   pub repeats : RepeatsAnswered
   pub again : AgainTheSame
@@ -119,6 +122,7 @@ demand-2 = record {
   written = written-is-read;
   handedUp = live-only;
   carried = all-carried;
+  down = downlink-whole;
   apart = none-shared;
   repeats = repeats-answered;
   again = again-the-same;

@@ -35,7 +35,7 @@ use Rattle.call_asked.specs.declared.Asked.the-variants as A
 use Rattle.call_asked.specs.Asked.{askedOf}
 use Rattle.call_control.specs.Control.{askedTaken, controlTaken}
 use Rattle.call_control.specs.CreatesKept.{heard-plan}
-use Rattle.promise_demands.specs.Run.{left, Event, control, user, tick, send, close, line, step, run, line-step, ofOctets, Start, start-accepted}
+use Rattle.promise_demands.specs.Run.{left, Event, control, user, down, tick, send, close, line, step, run, line-step, ofOctets, Start, start-accepted}
 use Rattle.promise_demands.specs.Stays.{asked-part, step-start}
 use Rattle.promise_demands.specs.Bounds.{at}
 use Rattle.promise_demands.specs.InTime.{isTick, ticksIn}
@@ -162,6 +162,10 @@ module _ (p : Plan) where
   unfolding step
   user-here s d reply = refl
 
+  down-here : (s : State) (packet out : List ℕ) → step (down packet out) s .node .echo ≡ s .node .echo
+  unfolding step
+  down-here s packet out = refl
+
   close-here : (s : State) → (i : ℕ) → step (close i) s .node .echo ≡ s .node .echo
   unfolding step left closeOf onSession noReply
   close-here s i = split (keepsRules (s .node) (s .table)) (λ e. rw e) (λ e. rw e)
@@ -171,6 +175,7 @@ module _ (p : Plan) where
   unfolding isTick
   step-spends (control d reply) s g n f = same-spends (p .resend) (s .node .echo) _ (control-here s g d reply f)
   step-spends (user d reply) s g n f = same-spends (p .resend) (s .node .echo) _ (user-here s d reply)
+  step-spends (down packet out) s g n f = same-spends (p .resend) (s .node .echo) _ (down-here s packet out)
   step-spends tick s g n f = rw (tick-here s g (not-true (eqb (s .node .echo .timer) 0) n) f) (down-spends (p .resend) (s .node .echo) (not-true (eqb (s .node .echo .timer) 0) n))
   step-spends (send reply) s g n f = send-here s g reply
   step-spends (close i) s g n f = same-spends (p .resend) (s .node .echo) _ (close-here s i)

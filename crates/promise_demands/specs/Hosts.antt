@@ -22,7 +22,9 @@ use Rattle.call_line.specs.Line.{lineOf}
 use Rattle.call_user.specs.User.{userTaken}
 use Rattle.call_user.specs.declared.Handed.{Handed}
 use Rattle.call_user.specs.Parcel.{Parcel, parcel, parcelOf}
-use Rattle.promise_demands.specs.Run.{left, Event, control, user, tick, send, close, line, step, answered, run, ofOctets}
+use Rattle.call_down.specs.declared.Written.{Written}
+use Rattle.call_down.specs.Down.{Output, output, downTaken}
+use Rattle.promise_demands.specs.Run.{left, Event, control, user, down, tick, send, close, line, step, answered, run, ofOctets}
 use Rattle.promise_demands.specs.Run.{Start, Run, fresh-start, fresh-left}
 use Rattle.promise_demands.specs.Stays.{run-start}
 
@@ -38,6 +40,8 @@ Called (control d reply) h k n =
     (every isOctet d ≡ true) × (r : Answer) × (x : List ℕ) × (outcome r (k .table) x ≡ controlTaken (h .node) (h .table) d reply) × Stores r k n
 Called (user d reply) h k n =
     (r : Handed) × (x : List ℕ) × (parcel r x ≡ parcelOf (length d) (userTaken (h .node) (h .table) d reply)) × (k ≡ h) × (n ≡ r .number)
+Called (down packet out) h k n =
+    (r : Written) × (x : List ℕ) × (output r x ≡ downTaken (h .node) (h .table) packet out) × (k ≡ h) × (n ≡ r .number)
 Called tick h k n = (r : Answer) × (outcome r (k .table) [] ≡ tickOf (h .node) (h .table)) × Stores r k n
 Called (send reply) h k n = (r : Answer) × (x : List ℕ) × (outcome r (k .table) x ≡ sendOf (h .node) (h .table) reply) × Stores r k n
 Called (close place) h k n = (r : Answer) × (outcome r (k .table) [] ≡ closeOf (h .node) (h .table) place) × Stores r k n
@@ -78,6 +82,7 @@ called-step : (e : Event) (h k : State) (n : ℕ) → Called e h k n → k ≡ s
 unfolding Called step
 called-step (control d reply) h k n c = stored k (c .1) (c .2) (controlTaken (h .node) (h .table) d reply) (c .3) (c .4 .0)
 called-step (user d reply) h k n c = c .3
+called-step (down packet out) h k n c = c .3
 called-step tick h k n c = stored k (c .0) [] (tickOf (h .node) (h .table)) (c .1) (c .2 .0)
 called-step (send reply) h k n c = stored k (c .0) (c .1) (sendOf (h .node) (h .table) reply) (c .2) (c .3 .0)
 called-step (close place) h k n c = stored k (c .0) [] (closeOf (h .node) (h .table) place) (c .1) (c .2 .0)
@@ -88,6 +93,7 @@ called-number : (e : Event) (h k : State) (n : ℕ) → Called e h k n → n ≡
 unfolding Called answered parcelOf
 called-number (control d reply) h k n c = c .4 .1 ∙ ap (λ (o : Outcome). o .answer .number) (c .3)
 called-number (user d reply) h k n c = c .4 ∙ ap (λ (o : Parcel). o .handed .number) (c .2)
+called-number (down packet out) h k n c = c .4 ∙ ap (λ (o : Output). o .written .number) (c .2)
 called-number tick h k n c = c .2 .1 ∙ ap (λ (o : Outcome). o .answer .number) (c .1)
 called-number (send reply) h k n c = c .3 .1 ∙ ap (λ (o : Outcome). o .answer .number) (c .2)
 called-number (close place) h k n c = c .2 .1 ∙ ap (λ (o : Outcome). o .answer .number) (c .1)
@@ -102,6 +108,7 @@ called-octets : (e : Event) (h k : State) (n : ℕ) → Called e h k n → ofOct
 unfolding Called ofOctets
 called-octets (control d reply) h k n c = c .0
 called-octets (user d reply) h k n c = refl
+called-octets (down packet out) h k n c = refl
 called-octets tick h k n c = refl
 called-octets (send reply) h k n c = refl
 called-octets (close place) h k n c = refl

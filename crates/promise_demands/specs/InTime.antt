@@ -31,7 +31,7 @@ use Rattle.unit_table.specs.Own.{duePlace}
 use Rattle.call_own.specs.OnSession.{on-at}
 use Rattle.call_own.specs.Outcome.{State, bareOn, onSession, leastReply, noReply}
 use Rattle.call_own.specs.Calls.{closeOn, closeOf, echoSent, placeSent, dueSent, sendOf}
-use Rattle.promise_demands.specs.Run.{left, Event, control, user, tick, send, close, line, step, run, line-step, ofOctets, Start, Run, start-accepted}
+use Rattle.promise_demands.specs.Run.{left, Event, control, user, down, tick, send, close, line, step, run, line-step, ofOctets, Start, Run, start-accepted}
 use Rattle.promise_demands.specs.Stays.{step-start, run-start}
 use Rattle.promise_demands.specs.Bounds.{at}
 use Rattle.promise_demands.specs.Ticks.{place-ticked, all-freed}
@@ -40,6 +40,7 @@ use Rattle.promise_demands.specs.Place.{gone, Same, After, freed-gone, c
 unfoldable pub isTick : Event → Bool
 isTick (control d reply) = false
 isTick (user d reply) = false
+isTick (down packet out) = false
 isTick tick = true
 isTick (send reply) = false
 isTick (close place) = false
@@ -173,11 +174,16 @@ module _ (p : Plan) (i : ℕ) (h : i < places) where
   unfolding step
   user-here s d reply c = same-here s c
 
+  down-here : (s : State) → (packet out : List ℕ) → at s i .state ≡ 2 → Spends (p .resend) 0 (at s i) (at (step (down packet out) s) i)
+  unfolding step
+  down-here s packet out c = same-here s c
+
   pub step-spends : (e : Event) (s : State) → Start p s → accepted p ≡ true → at s i .state ≡ 2 → not (isTick e && isDue (at s i)) ≡ true
       → gone (at s i .usage) (at (step e s) i) ≡ false → Spends (p .resend) (boolByte (isTick e)) (at s i) (at (step e s) i)
   unfolding isTick
   step-spends (control d reply) s g a c n f = same-spends (p .resend) (at s i) (at (step (control d reply) s) i) c (control-here s g d reply f)
   step-spends (user d reply) s g a c n f = user-here s d reply c
+  step-spends (down packet out) s g a c n f = down-here s packet out c
   step-spends tick s g a c n f = tick-here s g c (not-true (isDue (at s i)) n) f
   step-spends (send reply) s g a c n f = rw (← g .plan) (send-here s g a reply c)
   step-spends (close j) s g a c n f = close-here s g j c

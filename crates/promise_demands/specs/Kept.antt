@@ -1,6 +1,6 @@
 -- Every call keeps the table rules: a table that kept them before the call keeps them after it, whatever is asked and whatever is answered.
--- Line of a place changes nothing at all. Take user datagram has no statement here, since it gives no table back: what was lent is what
--- stays.
+-- Line of a place changes nothing at all. Take user datagram and take downlink packet have no statement here, since they give no table back:
+-- what was lent is what stays.
 -- Assumes nothing.
 use Prim.Native.Nat.{ℕ}
 use mathlib.Core.Bool.{true}

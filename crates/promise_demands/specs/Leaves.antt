@@ -60,9 +60,11 @@ use Rattle.wire_user.specs.User.{userOf}
 use Rattle.call_user.specs.User.{Took, took, headerTaken, packetTaken, userTaken}
 use Rattle.call_user.specs.User as userside
 use Rattle.call_line.specs.Line.{lineBy, lineOf}
+use Rattle.call_down.specs.Down.{unwritten, downTaken}
 use Rattle.promise_demands.specs.Answers.{createNumbers}
 use Rattle.promise_demands.specs.Creates.{none-found}
 use Rattle.promise_demands.specs.UserNumbers.{userReads, read-number}
+use Rattle.promise_demands.specs.Lowered.{down-lowers}
 use Rattle.promise_demands.specs.Numbers.{among-other, silentNumbers, ConcernKnown, AskedKnown, asked-known}
 use Rattle.call_own.specs.declared.Span.{Span}
 
@@ -107,6 +109,9 @@ pub record Leaves : Type 0 where
       → userTaken node t d reply ≡ userside.silent (userTaken node t d reply .number) (length d) reply
   pub notLive : (node : Node) (t : List Session) (d reply : List ℕ) → userTaken node t d reply .number ≡ 15
       → userTaken node t d reply ≡ userside.userReplied 15 (errorIndication (userTeidOf d) (node .plan .user)) (length d) reply
+  -- so is the table of take downlink packet; every refusal leaves the output buffer too, and no address comes back
+  pub down : (node : Node) (t : List Session) (packet out : List ℕ) → downTaken node t packet out .written .number ≢ 0
+      → downTaken node t packet out ≡ unwritten (downTaken node t packet out .written .number) out
   pub tick : (node : Node) (t : List Session) → Silent (tickOf node t) node t []
   pub close : (node : Node) (t : List Session) (place : ℕ) → Silent (closeOf node t place) node t []
   pub send : (node : Node) (t : List Session) (reply : List ℕ) → Silent (sendOf node t reply) node t reply
@@ -416,6 +421,7 @@ all-leave = record {
   control = λ node t d reply. comes-leaves node t reply (askedOf node d) (controlTaken node t d reply) (control-comes node t d reply);
   user = λ node t d reply. user-takes node t d reply .silent;
   notLive = λ node t d reply. user-takes node t d reply .dead;
+  down = λ node t packet out. down-lowers node t packet out .silent;
   tick = tick-leaves;
   close = close-leaves;
   send = send-leaves;

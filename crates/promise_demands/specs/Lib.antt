@@ -4,6 +4,7 @@ pub mod Carried
 pub mod Counts
 pub mod Creates
 pub mod Datagrams
+pub mod Downlink
 pub mod Demands
 pub mod Echoing
 pub mod Encoded
@@ -14,6 +15,7 @@ pub mod Hosts
 pub mod Impossible
 pub mod InTime
 pub mod Kept
+pub mod Lowered
 pub mod Leaves
 pub mod Numbers
 pub mod Outside

@@ -1,27 +1,25 @@
 -- User packets, on any table that keeps its rules, so after any run: handed up only under a live user number, at the place that has it; never
 -- where there is a refusal or a reply. What is handed up is what was carried: Carried.antt.
 -- Assumes nothing.
-use Prim.Native.Nat.{ℕ, _<_, _≤_}
-use mathlib.Core.Bool.{Bool, true, false, not, _&&_}
+use Prim.Native.Nat.{ℕ, _<_}
+use mathlib.Core.Bool.{true, false, not}
 use mathlib.Core.List.{List}
 use mathlib.Core.Logic.{_≢_}
-use mathlib.Core.Path.{_≡_, refl, sym, _∙_}
+use mathlib.Core.Path.{_≡_, refl}
 use native.Mathlib.Omega.{arith}
 use lib.ListN.{length, getD}
 use lib.Dec.{eqb, ltb}
-use borrow.Author.Tests.{eqb-true, eqb-false, ltb-true, ltb-false}
-use Rattle.base_octets.specs.Choice.{split, or-split, impossible, and-left, and-right}
-use Rattle.unit_tunnel.specs.Numbering.{places, userOffset, user-fits}
-use Rattle.unit_tunnel.specs.declared.Holder.{Holder}
-use Rattle.unit_tunnel.specs.declared.Holder.the-variants as K
-use Rattle.unit_tunnel.specs.Tunnel.{userNumber, holderOf, holder-held}
+use borrow.Author.Tests.{eqb-true, eqb-false, ltb-true, ltb-false, not-true}
+use Rattle.base_octets.specs.Choice.{split, or-split, and-left, and-right}
+use Rattle.unit_tunnel.specs.Numbering.{places, userOffset}
+use Rattle.unit_tunnel.specs.Tunnel.{userNumber}
 use Rattle.unit_session.specs.declared.Session.{Session}
 use Rattle.unit_session.specs.Session.{isFree}
 use Rattle.unit_table.specs.declared.Owner.{Owner}
 use Rattle.unit_table.specs.declared.Owner.the-variants as F
 use Rattle.unit_table.specs.Rules.{rules-of}
 use Rattle.unit_table.specs.Change.{nobody}
-use Rattle.unit_table.specs.Find.{ownerOf, heldIn, owner-is}
+use Rattle.unit_table.specs.Find.{ownerOf, bears, first-is}
 use Rattle.wire_messages.specs.Messages.{size-user-echo}
 use Rattle.call_own.specs.Outcome.{State, leastReply}
 use Rattle.wire_user.specs.Header.{userEchoType, packetType, typeTaken, typeOf, userTeidOf, userSequenceOf, refusalOf, userHeaderOf}
@@ -59,42 +57,18 @@ pub record Owns (n place : ℕ) (l : List Session) : Type 0 where
   pub live : isFree (getD l place nobody) ≡ false
   pub number : userNumber (getD l place nobody .usage) place ≡ n
 
-not-not : (b : Bool) → not b ≡ true → b ≡ false
-not-not true e = impossible e
-not-not false e = refl
-
-owns : (n place : ℕ) (l : List Session) → length l ≤ places → ownerOf userOffset n l ≡ F.At place → Owns n place l
-unfolding heldIn
-owns n place l size e = look (holderOf userOffset n) refl
-  where
-    look : (h : Holder) → holderOf userOffset n ≡ h → Owns n place l
-    look K.Nobody q =
-        let f : F.Nothing ≡ F.At place = rw q at (sym (owner-is userOffset n l user-fits size) ∙ e) in
-        let z : _≡_ {A = ℕ} 0 1 = cc in
-        absurd (omega arith)
-    look (K.At j usage) q = split (ltb j (length l) && not (isFree (getD l j nobody)) && eqb (getD l j nobody .usage) usage) found none
-      where
-        came : heldIn (K.At j usage) l ≡ F.At place
-        came = rw q at (sym (owner-is userOffset n l user-fits size) ∙ e)
-
-        found : (ltb j (length l) && not (isFree (getD l j nobody)) && eqb (getD l j nobody .usage) usage) ≡ true → Owns n place l
-        found t =
-            let f : F.At j ≡ F.At place = rw t at came in
-            let k : j ≡ place = cc in
-            let a : ltb j (length l) ≡ true = search (and-left, and-right) in
-            let b : not (isFree (getD l j nobody)) ≡ true = search (and-left, and-right) in
-            let c : eqb (getD l j nobody .usage) usage ≡ true = search (and-left, and-right) in
-            rw (← k) (record {
-              there = ltb-true j (length l) a;
-              live = not-not (isFree (getD l j nobody)) b;
-              number = rw (eqb-true (getD l j nobody .usage) usage c) (holder-held userOffset n j usage q .number);
-            })
-
-        none : (ltb j (length l) && not (isFree (getD l j nobody)) && eqb (getD l j nobody .usage) usage) ≡ false → Owns n place l
-        none t =
-            let f : F.Nothing ≡ F.At place = rw t at came in
-            let z : _≡_ {A = ℕ} 0 1 = cc in
-            absurd (omega arith)
+owns : (n place : ℕ) (l : List Session) → ownerOf userOffset n l ≡ F.At place → Owns n place l
+unfolding ownerOf bears
+owns n place l e =
+    let f = first-is (bears userOffset n) place l e in
+    let t = f .1 in
+    let a : not (isFree (getD l place nobody)) ≡ true = search (and-left, and-right) in
+    let b : eqb (userNumber (getD l place nobody .usage) place) n ≡ true = search (and-left, and-right) in
+    record {
+      there = f .0;
+      live = not-true (isFree (getD l place nobody)) a;
+      number = eqb-true (userNumber (getD l place nobody .usage) place) n b;
+    }
 
 -- ---- only live ones
 -- what is taken and no echo is a G-PDU
@@ -112,7 +86,7 @@ module _ (s : State) (k : Kept s) (size : length (s .table) ≡ places) (d reply
       → Fairly s d (packetTaken f (userTeidOf d) (s .node .plan .user) (userOf d .size) (length d) reply)
   unfolding packetTaken places
   packet-fair g (F.At place) e =
-      let o = owns (userTeidOf d) place (s .table) (omega arith) e in
+      let o = owns (userTeidOf d) place (s .table) e in
       let t = o .there in
       record {
         handed = λ a b. record { place = omega arith; live = o .live; packet = g; number = o .number; start = refl };

@@ -17,6 +17,7 @@ use Rattle.call_own.specs.Calls.{freshOf, tickOf, closeOf, sendOf}
 use Rattle.call_control.specs.Control.{controlTaken}
 use Rattle.call_line.specs.Line.{lineBy, lineOf}
 use Rattle.call_user.specs.User.{silent, userTaken, user-short, user-broken}
+use Rattle.call_down.specs.Down.{unwritten, downTaken, down-broken}
 use Rattle.promise_demands.specs.Numbers.{
   among-other,
   freshNumbers,
@@ -38,7 +39,7 @@ use Rattle.promise_demands.specs.Numbers.{
   control-numbers,
   line-numbers,
 }
-use Rattle.promise_demands.specs.UserNumbers.{userNumbers, UserNumbers, user-numbers}
+use Rattle.promise_demands.specs.UserNumbers.{userNumbers, UserNumbers, user-numbers, downNumbers, DownNumbers, down-numbers}
 
 abbrev pub Kept : Node → List Session → Type 0
 Kept node t = keepsRules node t ≡ true
@@ -55,6 +56,7 @@ pub record NumbersKnown : Type 0 where
   pub control : ControlNumbers
   pub line : LineNumbers
   pub user : UserNumbers
+  pub down : DownNumbers
 
 pub numbers-known : NumbersKnown
 numbers-known = record {
@@ -65,6 +67,7 @@ numbers-known = record {
   control = control-numbers;
   line = line-numbers;
   user = user-numbers;
+  down = down-numbers;
 }
 
 -- ---- 11, "admitted, no free place": no datagram brings it about
@@ -84,9 +87,10 @@ pub record TwoNever : Type 0 where
   pub control : (node : Node) (t : List Session) (d reply : List ℕ) → Kept node t → controlTaken node t d reply .answer .number ≡ 2 → ⊥
   pub line : (node : Node) (t : List Session) (place : ℕ) (reply : List ℕ) → Kept node t → lineOf node t place reply .answer .number ≡ 2 → ⊥
   pub user : (node : Node) (t : List Session) (d reply : List ℕ) → Kept node t → userTaken node t d reply .number ≡ 2 → ⊥
+  pub down : (node : Node) (t : List Session) (packet out : List ℕ) → Kept node t → downTaken node t packet out .written .number ≡ 2 → ⊥
 
 pub two-never : TwoNever
-unfolding freshNumbers tickNumbers closeNumbers sendNumbers controlNumbers lineNumbers userNumbers FreshNumbers TickNumbers CloseNumbers SendNumbers ControlNumbers LineNumbers UserNumbers
+unfolding freshNumbers tickNumbers closeNumbers sendNumbers controlNumbers lineNumbers userNumbers downNumbers FreshNumbers TickNumbers CloseNumbers SendNumbers ControlNumbers LineNumbers UserNumbers DownNumbers
 two-never = record {
   fresh = λ plan t n. among-other (freshOf plan t .answer .number) 2 freshNumbers (fresh-numbers plan t n) refl;
   tick = λ node t e. among-other (tickOf node t .answer .number) 2 tickNumbers (tick-numbers node t e) refl;
@@ -95,6 +99,7 @@ two-never = record {
   control = λ node t d reply e. among-other (controlTaken node t d reply .answer .number) 2 controlNumbers (control-numbers node t d reply e) refl;
   line = λ node t place reply e. among-other (lineOf node t place reply .answer .number) 2 lineNumbers (line-numbers node t place reply e) refl;
   user = λ node t d reply e. among-other (userTaken node t d reply .number) 2 userNumbers (user-numbers node t d reply e) refl;
+  down = λ node t packet out e. among-other (downTaken node t packet out .written .number) 2 downNumbers (down-numbers node t packet out e) refl;
 }
 
 -- always on one that breaks them: no reply, the table and the buffer as lent, nothing handed up
@@ -105,6 +110,8 @@ pub record TwoAlways : Type 0 where
   pub control : (node : Node) (t : List Session) (d reply : List ℕ) → leastReply ≤ length reply → Broken node t → controlTaken node t d reply ≡ noReply 2 node t reply
   pub line : (node : Node) (t : List Session) (place : ℕ) (reply : List ℕ) → leastReply ≤ length reply → Broken node t → lineOf node t place reply ≡ noReply 2 node t reply
   pub user : (node : Node) (t : List Session) (d reply : List ℕ) → leastReply ≤ length reply → Broken node t → userTaken node t d reply ≡ silent 2 (length d) reply
+  -- which has no reply buffer that could be short
+  pub down : (node : Node) (t : List Session) (packet out : List ℕ) → Broken node t → downTaken node t packet out ≡ unwritten 2 out
 
 pub two-always : TwoAlways
 unfolding tickOf closeOf sendOf controlTaken lineOf lineBy noReply leastReply
@@ -115,6 +122,7 @@ two-always = record {
   control = λ node t d reply h e. rw (le-ltb (length reply) leastReply h, e);
   line = λ node t place reply h e. rw (le-ltb (length reply) leastReply h, e);
   user = λ node t d reply h e. user-broken node t d reply h e;
+  down = down-broken;
 }
 
 -- a short reply buffer comes before it

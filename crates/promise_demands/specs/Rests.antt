@@ -1,4 +1,5 @@
--- Octets past a reply's length stay as lent: in every call that has a reply buffer, for any datagram, table and buffer, whatever the number.
+-- Octets past a reply's length stay as lent: in every call that has a reply buffer or an output buffer, for any datagram, table and buffer,
+-- whatever the number.
 -- Assumes nothing.
 use Prim.Native.Nat.{ℕ, zero, suc, _+_, _≤_, min}
 use mathlib.Core.List.{List, [], _∷_}
@@ -23,6 +24,8 @@ use Rattle.call_own.specs.Calls.{echoSent, placeSent, dueSent, sendOf}
 use Rattle.call_control.specs.Control.{controlTaken}
 use Rattle.call_user.specs.User.{userTaken}
 use Rattle.call_line.specs.Line.{lineText, lineBy, lineOf}
+use Rattle.call_down.specs.Down.{downTaken}
+use Rattle.promise_demands.specs.Lowered.{down-lowers}
 use Rattle.promise_demands.specs.Leaves.{control-comes, user-takes}
 
 -- the octets from the reply's length on
@@ -35,6 +38,7 @@ RestOf o reply = Rest (o .answer .size) (o .reply) reply
 pub record RestsStay : Type 0 where
   pub control : (node : Node) (t : List Session) (d reply : List ℕ) → RestOf (controlTaken node t d reply) reply
   pub user : (node : Node) (t : List Session) (d reply : List ℕ) → Rest (userTaken node t d reply .size) (userTaken node t d reply .reply) reply
+  pub down : (node : Node) (t : List Session) (packet out : List ℕ) → Rest (downTaken node t packet out .written .size) (downTaken node t packet out .buffer) out
   pub send : (node : Node) (t : List Session) (reply : List ℕ) → RestOf (sendOf node t reply) reply
   pub line : (node : Node) (t : List Session) (place : ℕ) (reply : List ℕ) → RestOf (lineOf node t place reply) reply
 
@@ -55,6 +59,9 @@ control-rest node t d reply = let c = control-comes node t d reply in rw (c .ove
 
 user-rest : (node : Node) (t : List Session) (d reply : List ℕ) → Rest (userTaken node t d reply .size) (userTaken node t d reply .reply) reply
 user-rest node t d reply = let c = user-takes node t d reply in rw (c .over) (over-rest (c .message) reply)
+
+down-rest : (node : Node) (t : List Session) (packet out : List ℕ) → Rest (downTaken node t packet out .written .size) (downTaken node t packet out .buffer) out
+down-rest node t packet out = let c = down-lowers node t packet out in rw (c .size, c .over) (over-rest (c .message) out)
 
 send-rest : (node : Node) (t : List Session) (reply : List ℕ) → RestOf (sendOf node t reply) reply
 unfolding sendOf dueSent echoSent placeSent noReply
@@ -80,4 +87,4 @@ line-rest node t place reply =
     (λ e. rw (a, e)))
 
 pub rests-stay : RestsStay
-rests-stay = record { control = control-rest; user = user-rest; send = send-rest; line = line-rest }
+rests-stay = record { control = control-rest; user = user-rest; down = down-rest; send = send-rest; line = line-rest }

@@ -23,26 +23,29 @@ use Rattle.call_control.specs.Control.{controlTaken}
 use Rattle.call_control.specs.Kept.{control-keeps}
 use Rattle.call_line.specs.Line.{lineOf}
 use Rattle.call_user.specs.User.{userTaken}
+use Rattle.call_down.specs.Down.{downTaken}
 use Rattle.promise_demands.specs.Kept.{LineLeaves, calls-keep}
 
 -- what a call leaves with the caller
 unfoldable pub left : Outcome → State
 left o = record { node = o .answer .node; table = o .table }
 
--- a call: a control datagram or a user datagram with the reply buffer, a tick, send next due with the reply buffer, a place to close, a place
--- whose line is printed with the reply buffer
+-- a call: a control datagram or a user datagram with the reply buffer, a downlink packet with the output buffer, a tick, send next due with the
+-- reply buffer, a place to close, a place whose line is printed with the reply buffer
 pub data Event : Type 0 where
   control : List ℕ → List ℕ → Event
   user : List ℕ → List ℕ → Event
+  down : List ℕ → List ℕ → Event
   tick : Event
   send : List ℕ → Event
   close : ℕ → Event
   line : ℕ → List ℕ → Event
 
--- what it leaves; a user datagram leaves all as it was
+-- what it leaves; a user datagram and a downlink packet leave all as it was
 unfoldable pub step : Event → State → State
 step (control d reply) s = left (controlTaken (s .node) (s .table) d reply)
 step (user d reply) s = s
+step (down packet out) s = s
 step tick s = left (tickOf (s .node) (s .table))
 step (send reply) s = left (sendOf (s .node) (s .table) reply)
 step (close place) s = left (closeOf (s .node) (s .table) place)
@@ -52,6 +55,7 @@ step (line place reply) s = left (lineOf (s .node) (s .table) place reply)
 unfoldable pub answered : Event → State → ℕ
 answered (control d reply) s = controlTaken (s .node) (s .table) d reply .answer .number
 answered (user d reply) s = userTaken (s .node) (s .table) d reply .number
+answered (down packet out) s = downTaken (s .node) (s .table) packet out .written .number
 answered tick s = tickOf (s .node) (s .table) .answer .number
 answered (send reply) s = sendOf (s .node) (s .table) reply .answer .number
 answered (close place) s = closeOf (s .node) (s .table) place .answer .number
@@ -65,6 +69,7 @@ run (e ∷ es) s = run es (step e s)
 unfoldable pub ofOctets : Event → Bool
 ofOctets (control d reply) = every isOctet d
 ofOctets (user d reply) = true
+ofOctets (down packet out) = true
 ofOctets tick = true
 ofOctets (send reply) = true
 ofOctets (close place) = true
@@ -111,6 +116,7 @@ pub step-keeps : (e : Event) (s : State) → ofOctets e ≡ true → Kept s → 
 unfolding step left ofOctets lineOf
 step-keeps (control d reply) s o k = control-keeps (s .node) (s .table) k reply d o
 step-keeps (user d reply) s o k = k
+step-keeps (down packet out) s o k = k
 step-keeps tick s o k = tick-keeps (s .node) (s .table) k
 step-keeps (send reply) s o k = send-keeps (s .node) (s .table) k reply
 step-keeps (close place) s o k = close-keeps (s .node) (s .table) k place

@@ -21,14 +21,16 @@ use Rattle.call_own.specs.Calls.{freshAnswer, freshOf, tickOf, closeOf, sendOf}
 use Rattle.call_control.specs.Control.{controlTaken}
 use Rattle.call_line.specs.Line.{lineBy, lineOf}
 use Rattle.call_user.specs.User.{userTaken}
+use Rattle.call_down.specs.Down.{Output}
 use Rattle.call_own.specs.Others.{uncounted}
 use Rattle.promise_demands.specs.Refusals.{two-always}
-use Rattle.promise_demands.specs.Run.{left, Event, control, user, tick, send, close, line, step, answered, run}
+use Rattle.promise_demands.specs.Run.{left, Event, control, user, down, tick, send, close, line, step, answered, run}
 
 -- how long the reply buffer is; a call that has none has no short one
 unfoldable pub room : Event → ℕ
 room (control d reply) = length reply
 room (user d reply) = length reply
+room (down packet out) = leastReply
 room tick = leastReply
 room (send reply) = length reply
 room (close place) = leastReply
@@ -69,6 +71,7 @@ module _ (s : State) (broken : keepsRules (s .node) (s .table) ≡ false) where
   unfolding step answered room uncounted leastReply
   call (control d reply) = as-lent (controlTaken (s .node) (s .table) d reply) (uncounted (length reply)) reply (control-shut d reply)
   call (user d reply) = (refl, user-shut d reply)
+  call (down packet out) = (refl, ap (λ (o : Output). o .written .number) (two-always .down (s .node) (s .table) packet out broken))
   call tick = as-lent (tickOf (s .node) (s .table)) 2 [] (two-always .tick (s .node) (s .table) broken)
   call (send reply) = as-lent (sendOf (s .node) (s .table) reply) (uncounted (length reply)) reply (send-shut reply)
   call (close place) = as-lent (closeOf (s .node) (s .table) place) 2 [] (two-always .close (s .node) (s .table) place broken)

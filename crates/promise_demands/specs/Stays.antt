@@ -25,7 +25,7 @@ use Rattle.call_control.specs.Echoes.{heardBy, echoTaken, echoEnded, echoReplyT
 use Rattle.call_control.specs.Amends.{causeTaken}
 use Rattle.call_control.specs.Creates.{acceptedTaken, openedAt, shared, isRepeat, settledAt, heardCreate, createTaken}
 use Rattle.call_control.specs.CreatesKept.{heard-plan}
-use Rattle.promise_demands.specs.Run.{left, Event, control, user, tick, send, close, line, step, run, line-step, ofOctets, Start, Run, step-keeps, run-keeps}
+use Rattle.promise_demands.specs.Run.{left, Event, control, user, down, tick, send, close, line, step, run, line-step, ofOctets, Start, Run, step-keeps, run-keeps}
 use Rattle.wire_fields.specs.declared.Recovery.{Recovery}
 use Rattle.call_asked.specs.declared.Asked.{Asked}
 use Rattle.call_asked.specs.declared.Asked.the-variants as A
@@ -104,6 +104,7 @@ pub step-plan : (e : Event) (s : State) → step e s .node .plan ≡ s .node .pl
 unfolding step left
 step-plan (control d reply) s = control-plan (s .node) (s .table) d reply
 step-plan (user d reply) s = refl
+step-plan (down packet out) s = refl
 step-plan tick s = tick-plan (s .node) (s .table)
 step-plan (send reply) s = send-plan (s .node) (s .table) reply
 step-plan (close place) s = close-plan (s .node) (s .table) place

@@ -1,6 +1,6 @@
--- The numbers that take user datagram answers on a table that keeps its rules.
+-- The numbers that take user datagram and take downlink packet answer on a table that keeps its rules.
 -- Assumes nothing.
-use Prim.Native.Nat.{ℕ, zero, suc, _-_}
+use Prim.Native.Nat.{ℕ, zero, suc, _+_, _-_}
 use mathlib.Core.Bool.{true, not, _&&_}
 use mathlib.Core.List.{List, [], _∷_}
 use mathlib.Core.Path.{_≡_, refl}
@@ -14,7 +14,7 @@ use Rattle.unit_table.specs.declared.Node.{Node}
 use Rattle.unit_table.specs.declared.Owner.{Owner}
 use Rattle.unit_table.specs.declared.Owner.the-variants as F
 use Rattle.unit_table.specs.Rules.{keepsRules}
-use Rattle.unit_table.specs.Find.{ownerOf}
+use Rattle.unit_table.specs.Find.{ownerOf, addresseeOf}
 use Rattle.wire_header.specs.Types.{among}
 use Rattle.call_own.specs.Outcome.{leastReply}
 use Rattle.wire_user.specs.declared.Header.{Header}
@@ -23,6 +23,8 @@ use Rattle.wire_user.specs.Header.{refusalOf, userHeaderOf, sizeOf, ours, typeT
 use Rattle.wire_user.specs.Extensions.{walkOf, extensionsOf, firstMust, unfit, extent, nextType}
 use Rattle.wire_user.specs.User.{userOf, firstType}
 use Rattle.call_user.specs.User.{packetTaken, headerTaken, userTaken}
+use Rattle.wire_packet.specs.Packet.{wholePacket, destinationOf}
+use Rattle.call_down.specs.Down.{downOn, downTo, downTaken}
 use Rattle.promise_demands.specs.Numbers.{among-more}
 
 unfoldable pub userNumbers : List ℕ
@@ -31,6 +33,9 @@ userNumbers = 0 ∷ 1 ∷ 3 ∷ 6 ∷ 7 ∷ 12 ∷ 13 ∷ 14 ∷ 15 ∷ []
 -- of these, what is answered to a datagram by itself, whatever the table holds
 unfoldable pub userReads : List ℕ
 userReads = 0 ∷ 3 ∷ 6 ∷ 7 ∷ 12 ∷ 13 ∷ 14 ∷ []
+
+unfoldable pub downNumbers : List ℕ
+downNumbers = 0 ∷ 18 ∷ 19 ∷ 20 ∷ []
 
 -- the header's refusals
 refusal-number : (d : List ℕ) → among (refusalOf d) userReads ≡ true
@@ -84,3 +89,18 @@ user-numbers node t d reply e =
     (λ a. split (eqb (userOf d .number) 0)
     (λ b. rw (a, e, b) (header-taken-number node t (userHeaderOf d) (userOf d .size) (length d) reply))
     (λ b. rw (a, e, b) (among-more (userOf d .number) userReads userNumbers refl (read-number d))))
+
+-- ---- take downlink packet
+to-number : (f : Owner) (t : List Session) (packet out : List ℕ) → among (downTo f t packet out .written .number) downNumbers ≡ true
+unfolding downTo downOn downNumbers
+to-number (F.At place) t packet out = split (ltb (length out) (length packet + fixedSize)) (λ a. rw a) (λ a. rw a)
+to-number F.Nothing t packet out = refl
+
+unfoldable pub DownNumbers : Type 0
+DownNumbers = (node : Node) (t : List Session) (packet out : List ℕ) → keepsRules node t ≡ true
+    → among (downTaken node t packet out .written .number) downNumbers ≡ true
+
+pub down-numbers : DownNumbers
+unfolding DownNumbers downTaken downNumbers
+down-numbers node t packet out e =
+    split (wholePacket packet) (λ a. rw (e, a) (to-number (addresseeOf (node .plan .pool) (destinationOf packet) t) t packet out)) (λ a. rw (e, a))

@@ -8,14 +8,20 @@ use Rattle.call_own.specs.declared.Answer.{Answer}
 use Rattle.call_own.specs.Outcome.{Outcome, outcome}
 use Rattle.call_user.specs.declared.Handed.{Handed}
 use Rattle.call_user.specs.Parcel.{Parcel, parcel}
+use Rattle.call_down.specs.declared.Written.{Written}
+use Rattle.call_down.specs.Down.{Output, output}
 use Rattle.promise_hosts.specs.declared.Two.{Two}
 use Rattle.promise_hosts.specs.declared.Twins.{Twins}
+use Rattle.promise_hosts.specs.declared.BothWritten.{BothWritten}
 
 unfoldable pub two : Answer → Answer → Two
 two a b = record { first = a; second = b }
 
 unfoldable pub twins : Handed → Handed → Twins
 twins a b = record { first = a; second = b }
+
+unfoldable pub bothWritten : Written → Written → BothWritten
+bothWritten a b = record { first = a; second = b }
 
 -- the answers, the records and the reply buffers
 pub record SameOutcome (r : Two) (l m : List Session) (x y : List ℕ) : Type 0 where
@@ -27,12 +33,19 @@ pub record SameHanded (r : Twins) (x y : List ℕ) : Type 0 where
   pub handed : r .first ≡ r .second
   pub reply : x ≡ y
 
+pub record SameWritten (r : BothWritten) (x y : List ℕ) : Type 0 where
+  pub written : r .first ≡ r .second
+  pub buffer : x ≡ y
+
 -- where the records l and m and the reply buffers x and y are equal, what the call left of them is too, and the answers are
 unfoldable pub Agreed : List Session → List Session → List ℕ → List ℕ → Two → List Session → List Session → List ℕ → List ℕ → Type 0
 Agreed l m x y r l′ m′ x′ y′ = l ≡ m → x ≡ y → SameOutcome r l′ m′ x′ y′
 
 unfoldable pub AgreedHanded : List ℕ → List ℕ → Twins → List ℕ → List ℕ → Type 0
 AgreedHanded x y r x′ y′ = x ≡ y → SameHanded r x′ y′
+
+unfoldable pub AgreedWritten : List ℕ → List ℕ → BothWritten → List ℕ → List ℕ → Type 0
+AgreedWritten x y r x′ y′ = x ≡ y → SameWritten r x′ y′
 
 -- ---- laws
 -- f is the call's definition, of the records and of the reply buffer
@@ -51,3 +64,11 @@ agrees-handed f x y x′ y′ a b r e g h q =
     let t : f x ≡ f y = rw q in
     let s : parcel a x′ ≡ parcel b y′ = e ∙ t ∙ sym g in
     record { handed = rw h (ap (λ (o : Parcel). o .handed) s); reply = ap (λ (o : Parcel). o .reply) s }
+
+pub agrees-written : (f : List ℕ → Output) (x y x′ y′ : List ℕ) (a b : Written) (r : BothWritten)
+    → output a x′ ≡ f x → output b y′ ≡ f y → r ≡ bothWritten a b → AgreedWritten x y r x′ y′
+unfolding bothWritten AgreedWritten
+agrees-written f x y x′ y′ a b r e g h q =
+    let t : f x ≡ f y = rw q in
+    let s : output a x′ ≡ output b y′ = e ∙ t ∙ sym g in
+    record { written = rw h (ap (λ (o : Output). o .written) s); buffer = ap (λ (o : Output). o .buffer) s }

@@ -20,7 +20,9 @@ use Rattle.call_line.specs.Line.{lineOf}
 use Rattle.call_user.specs.User.{userTaken}
 use Rattle.call_user.specs.declared.Handed.{Handed}
 use Rattle.call_user.specs.Parcel.{parcel, parcelOf}
-use Rattle.promise_demands.specs.Run.{control, user, tick, send, close, line}
+use Rattle.call_down.specs.declared.Written.{Written}
+use Rattle.call_down.specs.Down.{output, downTaken}
+use Rattle.promise_demands.specs.Run.{control, user, down, tick, send, close, line}
 use Rattle.promise_demands.specs.Hosts.{Called, Started}
 
 -- what a host holds
@@ -67,3 +69,8 @@ module _ (node : Node) (t : List Session) where
       → Called (user d reply) (holding node t) (holding node t) (r .number)
   unfolding Called
   user-known r d reply x e = (r, x, e, refl, refl)
+
+  pub down-known : (r : Written) (packet out x : List ℕ) → output r x ≡ downTaken node t packet out
+      → Called (down packet out) (holding node t) (holding node t) (r .number)
+  unfolding Called
+  down-known r packet out x e = (r, x, e, refl, refl)

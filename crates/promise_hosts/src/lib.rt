@@ -1,5 +1,6 @@
 // The exported calls, as a host sees them: by their contracts and types alone. Each call made twice on equal arguments comes to the same, in the
 // answer, the lent records and the reply buffer; and each meets what the demands say of a call in a run (`Called`, in promise_demands).
+use call_down::Written;
 use call_own::Answer;
 use call_user::Handed;
 use unit_plan::Plan;
@@ -7,8 +8,8 @@ use unit_session::Session;
 use unit_table::Node;
 ghost use mathlib.Core.List.{[]};
 ghost use mathlib.Core.Path.{_≡_};
-ghost use Rattle.promise_hosts.specs.Agreement.{two, twins, Agreed, AgreedHanded};
-ghost use Rattle.promise_demands.specs.Run.{control, user, tick, send, close, line};
+ghost use Rattle.promise_hosts.specs.Agreement.{two, twins, bothWritten, Agreed, AgreedHanded, AgreedWritten};
+ghost use Rattle.promise_demands.specs.Run.{control, user, down, tick, send, close, line};
 ghost use Rattle.promise_demands.specs.Hosts.{Called};
 ghost use Rattle.promise_hosts.specs.Known.{holding, storing, StartedFrom};
 
@@ -20,6 +21,11 @@ pub struct Two {
 pub struct Twins {
     pub first: Handed,
     pub second: Handed,
+}
+
+pub struct BothWritten {
+    pub first: Written,
+    pub second: Written,
 }
 
 fn both(a: Answer, b: Answer) -> Two
@@ -35,6 +41,15 @@ fn both_handed(a: Handed, b: Handed) -> Twins
     ensures { λ r. ⌜ r ≡ twins a b ⌝ }
 {
     Twins {
+        first: a,
+        second: b,
+    }
+}
+
+fn both_written(a: Written, b: Written) -> BothWritten
+    ensures { λ r. ⌜ r ≡ bothWritten a b ⌝ }
+{
+    BothWritten {
         first: a,
         second: b,
     }
@@ -121,6 +136,20 @@ pub fn user_agrees(
     both_handed(a, b)
 }
 
+pub fn down_agrees(
+    node: Node,
+    recs: &[Session],
+    packet: &[u8],
+    out: &mut [u8],
+    buffer: &mut [u8],
+) -> BothWritten
+    ensures { λ r. ⌜ AgreedWritten (now (out .entry)) (now (buffer .entry)) r (now (out .exit)) (now (buffer .exit)) ⌝ }
+{
+    let a = lent_down::grugavorn_down(node, recs, packet, out);
+    let b = lent_down::grugavorn_down(node, recs, packet, buffer);
+    both_written(a, b)
+}
+
 // Fresh state from a plan.
 pub fn starts(plan: Plan, recs: &mut [Session]) -> Answer
     ensures { λ r. ⌜ StartedFrom (now (recs .entry)) plan (storing r (now (recs .exit))) ⌝ }
@@ -141,6 +170,13 @@ pub fn takes_user(node: Node, recs: &[Session], d: &[u8], reply: &mut [u8]) -> H
     ensures { λ r. ⌜ Called (user (now (d .entry)) (now (reply .entry))) (holding node (now (recs .entry))) (holding node (now (recs .entry))) (r .number) ⌝ }
 {
     lent_user::grugavorn_user(node, recs, d, reply)
+}
+
+// Take downlink packet.
+pub fn takes_down(node: Node, recs: &[Session], packet: &[u8], out: &mut [u8]) -> Written
+    ensures { λ r. ⌜ Called (down (now (packet .entry)) (now (out .entry))) (holding node (now (recs .entry))) (holding node (now (recs .entry))) (r .number) ⌝ }
+{
+    lent_down::grugavorn_down(node, recs, packet, out)
 }
 
 // Tick.

@@ -1,5 +1,5 @@
 // The plan of a unit: its addresses and figures, its access points with what each has rented, the limits of all that, whose a
-// name is, and the address of a place.
+// name is, the address of a place, and the place of an address.
 ghost use mathlib.Core.Bool.{true, not};
 ghost use mathlib.Core.Path.{_≡_};
 ghost use lib.ListN.{drop};
@@ -8,7 +8,7 @@ ghost use Prim.Native.Nat.{min};
 ghost use Rattle.unit_plan.specs.Limits.{longestName, noPoint, noPlan, parties, used, figuresOk, pointOk};
 ghost use Rattle.unit_plan.specs.Names.{goesBy, unlike, namesDiffer, namedIn};
 ghost use Rattle.unit_plan.specs.Plan.{guaranteed, accepted};
-ghost use Rattle.unit_plan.specs.Address.{addressOf};
+ghost use Rattle.unit_plan.specs.Address.{addressOf, placeOf};
 
 // An access point: its name, of which the first `size` octets count, and the places it is promised and may have at most.
 #[repr(C)]
@@ -352,5 +352,17 @@ impl Plan {
     {
         let after = place as u64 % Self::ADDRESSES;
         ((self.pool as u64 + 1 + after) % Self::ADDRESSES) as u32
+    }
+    // The place that has an address; past the last where none has it.
+    pub fn place_of(self, a: u32) -> usize
+        ensures { λ r. ⌜ r ≡ placeOf (self .pool) a ⌝ }
+    {
+        let first = (self.pool as u64 + 1) % Self::ADDRESSES;
+        let away = (a as u64 + (Self::ADDRESSES - first)) % Self::ADDRESSES;
+        let place = away as usize;
+        if place < unit_tunnel::Unit::PLACES {
+            return place;
+        }
+        unit_tunnel::Unit::PLACES
     }
 }

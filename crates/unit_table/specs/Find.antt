@@ -1,5 +1,5 @@
 -- Finding: the place of the session that has something, or none. By tunnel number a session is found by the number of its place in
--- its present use; that this is arithmetic on the number is a law, not the definition.
+-- its present use, by address by that of its place; that both are arithmetic is a law, not the definition.
 -- Assumes nothing.
 use Prim.Native.Nat.{ℕ, zero, suc, _+_, _<_, _≤_}
 use mathlib.Core.Bool.{Bool, true, false, not, _&&_}
@@ -17,6 +17,7 @@ use Rattle.unit_tunnel.specs.Numbering.{places, base, controlOffset, userOffset
 use Rattle.unit_tunnel.specs.declared.Holder.{Holder}
 use Rattle.unit_tunnel.specs.declared.Holder.the-variants as H
 use Rattle.unit_tunnel.specs.Tunnel.{numberAt, holderOf, number-holder, holder-held}
+use Rattle.unit_plan.specs.Address.{addressOf, placeOf, place-of-address, address-of-place}
 use Rattle.unit_session.specs.declared.Session.{Session}
 use Rattle.unit_session.specs.Session.{isFree, blankAt}
 use Rattle.unit_table.specs.declared.Owner.{Owner}
@@ -28,22 +29,33 @@ use Rattle.unit_table.specs.Change.{nobody}
 unfoldable pub foundIn : (Session → Bool) → List Session → Owner
 foundIn p l = pick (ltb (firstOf p l) (length l)) (At (firstOf p l)) Nothing
 
--- ---- by tunnel number: the session at place i, live or closing, is in that very use; a use of 0 has no numbers
+-- ---- by its place and what the record there says: the lowest from place i on that passes
+unfoldable pub firstFrom : (ℕ → Session → Bool) → ℕ → List Session → Owner
+firstFrom p i [] = Nothing
+firstFrom p i (s ∷ l) = pick (p i s) (At i) (firstFrom p (suc i) l)
+
+-- by tunnel number: the session at place i, live or closing, is in that very use; a use of 0 has no numbers
 unfoldable pub bears : ℕ → ℕ → ℕ → Session → Bool
 bears offset n i s = not (isFree s) && leb 1 (s .usage) && eqb (numberAt offset (s .usage) i) n
 
-unfoldable pub ownerFrom : ℕ → ℕ → ℕ → List Session → Owner
-ownerFrom offset n i [] = Nothing
-ownerFrom offset n i (s ∷ l) = pick (bears offset n i s) (At i) (ownerFrom offset n (suc i) l)
-
 unfoldable pub ownerOf : ℕ → ℕ → List Session → Owner
-ownerOf offset n l = ownerFrom offset n 0 l
+ownerOf offset n l = firstFrom (bears offset n) 0 l
+
+-- by address: the session at place i, live or closing, has it
+unfoldable pub dwells : ℕ → ℕ → ℕ → Session → Bool
+dwells pool a i s = not (isFree s) && eqb (addressOf pool i) a
+
+unfoldable pub addresseeOf : ℕ → ℕ → List Session → Owner
+addresseeOf pool a l = firstFrom (dwells pool a) 0 l
+
+-- whether a record is taken, and in this use
+abbrev pub takenIn : Session → ℕ → Bool
+takenIn s usage = not (isFree s) && eqb (s .usage) usage
 
 -- whoever holds the number by its arithmetic, if the place is there, is taken, and is in that use
 unfoldable pub heldIn : Holder → List Session → Owner
 heldIn H.Nobody l = Nothing
-heldIn (H.At place usage) l =
-    pick (ltb place (length l) && not (isFree (getD l place nobody)) && eqb (getD l place nobody .usage) usage) (At place) Nothing
+heldIn (H.At place usage) l = pick (ltb place (length l) && takenIn (getD l place nobody) usage) (At place) Nothing
 
 -- ---- the same from one record, by kind
 -- the place that a holder names: one that there is not, where there is no holder
@@ -56,10 +68,6 @@ controlPlace teid = namedPlace (holderOf controlOffset teid)
 
 unfoldable pub userPlace : ℕ → ℕ
 userPlace teid = namedPlace (holderOf userOffset teid)
-
--- whether a record is taken, and in the holder's use
-abbrev pub takenIn : Session → ℕ → Bool
-takenIn s usage = not (isFree s) && eqb (s .usage) usage
 
 unfoldable pub ownedBy : Holder → Session → Bool
 ownedBy H.Nobody s = false
@@ -108,29 +116,77 @@ found-only p l i j c h k e f =
     (λ u. let z = rw (e, f) at (sum-holds-two (λ x. boolByte (p x)) l j i nobody (ltb-true j i u) h) in absurd (omega arith))
     (λ u. omega (arith, tests)))
 
--- ---- laws of the look-up by number
-owner-none : (offset n i : ℕ) (l : List Session) → ((j : ℕ) → j < length l → bears offset n (i + j) (getD l j nobody) ≡ false) → ownerFrom offset n i l ≡ Nothing
-unfolding ownerFrom
-owner-none offset n i [] h = refl
-owner-none offset n i (s ∷ l) h =
+-- ---- laws of the search by place
+first-nowhere : (p : ℕ → Session → Bool) (i : ℕ) (l : List Session) → ((j : ℕ) → j < length l → p (i + j) (getD l j nobody) ≡ false) → firstFrom p i l ≡ Nothing
+unfolding firstFrom
+first-nowhere p i [] h = refl
+first-nowhere p i (s ∷ l) h =
     let z : i + 0 ≡ i = omega arith in
-    let e : bears offset n i s ≡ false = rw z at (h 0 (omega arith)) in
-    rw e (owner-none offset n (suc i) l (λ j q. let y : suc i + j ≡ i + suc j = omega arith in rw y (h (suc j) (omega arith))))
+    let e : p i s ≡ false = rw z at (h 0 (omega arith)) in
+    rw e (first-nowhere p (suc i) l (λ j q. let y : suc i + j ≡ i + suc j = omega arith in rw y (h (suc j) (omega arith))))
 
-owner-hit : (offset n i k : ℕ) (l : List Session) → k < length l → bears offset n (i + k) (getD l k nobody) ≡ true
-    → ((j : ℕ) → j < k → bears offset n (i + j) (getD l j nobody) ≡ false) → ownerFrom offset n i l ≡ At (i + k)
-unfolding ownerFrom
-owner-hit offset n i k [] h e f = absurd (omega arith)
-owner-hit offset n i zero (s ∷ l) h e f =
+first-there : (p : ℕ → Session → Bool) (i k : ℕ) (l : List Session) → k < length l → p (i + k) (getD l k nobody) ≡ true
+    → ((j : ℕ) → j < k → p (i + j) (getD l j nobody) ≡ false) → firstFrom p i l ≡ At (i + k)
+unfolding firstFrom
+first-there p i k [] h e f = absurd (omega arith)
+first-there p i zero (s ∷ l) h e f =
     let z : i + 0 ≡ i = omega arith in
-    let b : bears offset n i s ≡ true = rw z at e in
+    let b : p i s ≡ true = rw z at e in
     rw (b, z)
-owner-hit offset n i (suc k) (s ∷ l) h e f =
+first-there p i (suc k) (s ∷ l) h e f =
     let z : i + 0 ≡ i = omega arith in
-    let b : bears offset n i s ≡ false = rw z at (f 0 (omega arith)) in
+    let b : p i s ≡ false = rw z at (f 0 (omega arith)) in
     let y : i + suc k ≡ suc i + k = omega arith in
-    rw (b, y) (owner-hit offset n (suc i) k l (omega arith) (rw y at e) (λ j q. let x : suc i + j ≡ i + suc j = omega arith in rw x (f (suc j) (omega arith))))
+    rw (b, y) (first-there p (suc i) k l (omega arith) (rw y at e) (λ j q. let x : suc i + j ≡ i + suc j = omega arith in rw x (f (suc j) (omega arith))))
 
+first-passing : (p : ℕ → Session → Bool) (i k : ℕ) (l : List Session) → firstFrom p i l ≡ At k
+    → (j : ℕ) × (k ≡ i + j) × (j < length l) × (p k (getD l j nobody) ≡ true)
+unfolding firstFrom
+first-passing p i k [] e = let z : _≡_ {A = ℕ} 0 1 = cc in absurd (omega arith)
+first-passing p i k (s ∷ l) e =
+    split (p i s)
+    (λ t. let f : At i ≡ At k = rw t at e in let g : i ≡ k = cc in (0, omega arith, omega arith, rw (← g) t))
+    (λ t. let r = first-passing p (suc i) k l (rw t at e) in
+    let h = r .1 in
+    let q = r .2 in
+    (suc (r .0), omega arith, omega arith, r .3))
+
+-- what is found is there and passes
+pub first-is : (p : ℕ → Session → Bool) (k : ℕ) (l : List Session) → firstFrom p 0 l ≡ At k → (k < length l) × (p k (getD l k nobody) ≡ true)
+first-is p k l e =
+    let r = first-passing p 0 k l e in
+    let h = r .1 in
+    let j : r .0 ≡ k = omega arith in
+    (rw j at (r .2), rw j at (r .3))
+
+-- where one place alone can pass, its record tells: what is found is that place if it passes, and nothing else is
+pub first-only : (p : ℕ → Session → Bool) (l : List Session) (k : ℕ) → ((j : ℕ) → j < length l → p j (getD l j nobody) ≡ true → j ≡ k)
+    → firstFrom p 0 l ≡ pick (ltb k (length l) && p k (getD l k nobody)) (At k) Nothing
+first-only p l k only = split (ltb k (length l) && p k (getD l k nobody)) there none
+  where
+    zero-add : (j : ℕ) → 0 + j ≡ j
+    zero-add j = omega arith
+
+    there : (ltb k (length l) && p k (getD l k nobody)) ≡ true → firstFrom p 0 l ≡ pick (ltb k (length l) && p k (getD l k nobody)) (At k) Nothing
+    there t =
+        let h = ltb-true k (length l) (and-left (ltb k (length l)) (p k (getD l k nobody)) t) in
+        let e = and-right (ltb k (length l)) (p k (getD l k nobody)) t in
+        rw t (first-there p 0 k l h (rw (zero-add k) e)
+        (λ j q. rw (zero-add j) (split (p j (getD l j nobody)) (λ y. let w = only j (omega arith) y in absurd (omega arith)) (λ y. y)))
+        ∙ rw (zero-add k))
+
+    none : (ltb k (length l) && p k (getD l k nobody)) ≡ false → firstFrom p 0 l ≡ pick (ltb k (length l) && p k (getD l k nobody)) (At k) Nothing
+    none t =
+        rw t (first-nowhere p 0 l
+        (λ j q. rw (zero-add j) (split (p j (getD l j nobody)) (λ y. impossible (clash j q y)) (λ y. y))))
+      where
+        clash : (j : ℕ) → j < length l → p j (getD l j nobody) ≡ true → false ≡ true
+        clash j q y =
+            let w = only j q y in
+            let x : p k (getD l k nobody) ≡ true = rw (← w) y in
+            sym t ∙ rw (lt-ltb k (length l) (rw (← w) q), x)
+
+-- ---- laws of the look-up by number
 -- the look-up by arithmetic is one of the one record; a place that there is not is nobody's
 held-one : (h : Holder) (l : List Session) → heldIn h l ≡ pick (ownedBy h (getD l (namedPlace h) nobody)) (At (namedPlace h)) Nothing
 unfolding heldIn ownedBy namedPlace blankAt isFree
@@ -177,61 +233,41 @@ module _ (offset n : ℕ) (l : List Session) (fits : offset + places ≤ base) (
       (λ t. t)
 
   module _ (place usage : ℕ) (e : holderOf offset n ≡ H.At place usage) where
-    sole : (j : ℕ) → j < length l → bears offset n j (getD l j nobody) ≡ true → (j ≡ place) × ((getD l j nobody .usage ≡ usage) × (not (isFree (getD l j nobody)) ≡ true))
+    sole : (j : ℕ) → j < length l → bears offset n j (getD l j nobody) ≡ true → j ≡ place
     sole j h t =
         let f = bears-held offset n j (getD l j nobody) fits (omega arith) t in
         let g : H.At place usage ≡ H.At j (getD l j nobody .usage) = sym e ∙ f .0 in
-        let a : j ≡ place = cc in
-        let b : getD l j nobody .usage ≡ usage = cc in
-        (a, (b, f .1))
+        cc
 
-    theirs : place < length l → not (isFree (getD l place nobody)) ≡ true → getD l place nobody .usage ≡ usage → bears offset n place (getD l place nobody) ≡ true
+    -- the holder bears it where its record is taken and in that use
+    theirs : (s : Session) → bears offset n place s ≡ takenIn s usage
     unfolding bears
-    theirs h a b =
+    theirs s =
+        split (takenIn s usage)
+        (λ t.
         let g = holder-held offset n place usage e in
-        rw (a, b, le-leb 1 usage (g .used), eq-eqb (numberAt offset usage place) n (g .number))
-
-    held-owner : ownerFrom offset n 0 l ≡ heldIn (H.At place usage) l
-    unfolding heldIn
-    held-owner = split (ltb place (length l) && not (isFree (getD l place nobody)) && eqb (getD l place nobody .usage) usage) there none
+        let a = and-left (not (isFree s)) (eqb (s .usage) usage) t in
+        let b = eqb-true (s .usage) usage (and-right (not (isFree s)) (eqb (s .usage) usage) t) in
+        rw (a, b, le-leb 1 usage (g .used), eq-eqb (numberAt offset usage place) n (g .number), eq-eqb usage usage refl))
+        (λ t. split (bears offset n place s) (λ y. impossible (clash y t)) (λ y. y ∙ sym t))
       where
-        there : (ltb place (length l) && not (isFree (getD l place nobody)) && eqb (getD l place nobody .usage) usage) ≡ true
-            → ownerFrom offset n 0 l ≡ pick (ltb place (length l) && not (isFree (getD l place nobody)) && eqb (getD l place nobody .usage) usage) (At place) Nothing
-        there t =
-            let i : ltb place (length l) ≡ true = search (and-left, and-right) in
-            let a : not (isFree (getD l place nobody)) ≡ true = search (and-left, and-right) in
-            let b : eqb (getD l place nobody .usage) usage ≡ true = search (and-left, and-right) in
-            let h = ltb-true place (length l) i in
-            let z : 0 + place ≡ place = omega arith in
-            let hit : bears offset n (0 + place) (getD l place nobody) ≡ true = rw z (theirs h a (eqb-true (getD l place nobody .usage) usage b)) in
-            rw t (owner-hit offset n 0 place l h hit
-            (λ j q. let x : 0 + j ≡ j = omega arith in
-            rw x (split (bears offset n j (getD l j nobody)) (λ y. let w = sole j (omega arith) y .0 in absurd (omega arith)) (λ y. y)))
-            ∙ rw z)
-
-        none : (ltb place (length l) && not (isFree (getD l place nobody)) && eqb (getD l place nobody .usage) usage) ≡ false
-            → ownerFrom offset n 0 l ≡ pick (ltb place (length l) && not (isFree (getD l place nobody)) && eqb (getD l place nobody .usage) usage) (At place) Nothing
-        none t =
-            rw t (owner-none offset n 0 l
-            (λ j q. let x : 0 + j ≡ j = omega arith in
-            rw x (split (bears offset n j (getD l j nobody)) (λ y. absurd (clash j q y)) (λ y. y))))
-          where
-            clash : (j : ℕ) → j < length l → bears offset n j (getD l j nobody) ≡ true → ⊥
-            clash j q y =
-                let w = sole j q y in
-                let x : j ≡ place = w .0 in
-                let a : not (isFree (getD l place nobody)) ≡ true = rw (← x) (w .1 .1) in
-                let b : getD l place nobody .usage ≡ usage = rw (← x) (w .1 .0) in
-                let z : false ≡ true = sym t ∙ rw (lt-ltb place (length l) (omega arith), a, b, eq-eqb usage usage refl) in
-                impossible z
+        clash : bears offset n place s ≡ true → takenIn s usage ≡ false → false ≡ true
+        clash y t =
+            let p = holder-held offset n place usage e .place-in in
+            let f = bears-held offset n place s fits p y in
+            let g : H.At place usage ≡ H.At place (s .usage) = sym e ∙ f .0 in
+            let b : s .usage ≡ usage = cc in
+            sym t ∙ rw (f .1, eq-eqb (s .usage) usage b)
 
 pub owner-is : (offset n : ℕ) (l : List Session) → offset + places ≤ base → length l ≤ places → ownerOf offset n l ≡ heldIn (holderOf offset n) l
 unfolding ownerOf heldIn
 owner-is offset n l fits size = look (holderOf offset n) refl
   where
-    look : (h : Holder) → holderOf offset n ≡ h → ownerFrom offset n 0 l ≡ heldIn h l
-    look H.Nobody e = owner-none offset n 0 l (λ j q. let x : 0 + j ≡ j = omega arith in rw x (unheld offset n l fits size e j q))
-    look (H.At place usage) e = held-owner offset n l fits size place usage e
+    look : (h : Holder) → holderOf offset n ≡ h → firstFrom (bears offset n) 0 l ≡ heldIn h l
+    look H.Nobody e = first-nowhere (bears offset n) 0 l (λ j q. let x : 0 + j ≡ j = omega arith in rw x (unheld offset n l fits size e j q))
+    look (H.At place usage) e =
+        first-only (bears offset n) l place (sole offset n l fits size place usage e)
+        ∙ rw (theirs offset n l fits size place usage e (getD l place nobody))
 
 -- so one record tells the owner: that of the place which the number names
 module _ (teid : ℕ) (l : List Session) (size : length l ≤ places) where
@@ -242,3 +278,26 @@ module _ (teid : ℕ) (l : List Session) (size : length l ≤ places) where
   pub owner-user : ownerOf userOffset teid l ≡ pick (hasUser (getD l (userPlace teid) nobody) teid) (At (userPlace teid)) Nothing
   unfolding userPlace hasUser
   owner-user = owner-is userOffset teid l user-fits size ∙ held-one (holderOf userOffset teid) l
+
+-- ---- laws of the look-up by address: one record tells the session that has it
+dwells-at : (pool a i : ℕ) (s : Session) → dwells pool a i s ≡ true → addressOf pool i ≡ a
+unfolding dwells
+dwells-at pool a i s e = eqb-true (addressOf pool i) a (and-right (not (isFree s)) (eqb (addressOf pool i) a) e)
+
+dwells-live : (pool a : ℕ) (s : Session) → placeOf pool a < places → dwells pool a (placeOf pool a) s ≡ not (isFree s)
+unfolding dwells
+dwells-live pool a s h = split (isFree s) (λ e. rw e) (λ e. rw (e, eq-eqb (addressOf pool (placeOf pool a)) a (address-of-place pool a h)))
+
+module _ (pool a : ℕ) (l : List Session) (size : length l ≤ places) where
+  addressee-sole : (j : ℕ) → j < length l → dwells pool a j (getD l j nobody) ≡ true → j ≡ placeOf pool a
+  addressee-sole j h e =
+      let f = dwells-at pool a j (getD l j nobody) e in
+      rw (← f) (sym (place-of-address pool j (omega arith)))
+
+  pub addressee-is : addresseeOf pool a l ≡ pick (not (isFree (getD l (placeOf pool a) nobody))) (At (placeOf pool a)) Nothing
+  unfolding addresseeOf blankAt isFree
+  addressee-is =
+      first-only (dwells pool a) l (placeOf pool a) addressee-sole
+      ∙ split (ltb (placeOf pool a) (length l))
+      (λ e. rw (e, dwells-live pool a (getD l (placeOf pool a) nobody) (let h = ltb-true (placeOf pool a) (length l) e in omega arith)))
+      (λ e. rw (e, List·getD-eq-default l nobody (ltb-false (placeOf pool a) (length l) e)))

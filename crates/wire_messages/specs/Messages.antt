@@ -1,8 +1,9 @@
 -- The octets of every reply and own request, as document 01 and the two standards have them.
 -- Assumes nothing.
-use Prim.Native.Nat.{ℕ}
+use Prim.Native.Nat.{ℕ, _+_}
 use mathlib.Core.List.{List, [], _∷_, _++_}
 use mathlib.Core.Path.{_≡_, refl}
+use native.Mathlib.Omega.{arith}
 use lib.ListN.{length}
 use Rattle.base_octets.specs.BigEndian.{octetsOf}
 use Rattle.wire_messages.specs.Types.{versionType, createReplyType, modifyReplyType, bearerType}
@@ -77,6 +78,10 @@ unfoldable pub errorIndication : ℕ → ℕ → List ℕ
 errorIndication teid addr =
     0x32 ∷ 0x1A ∷ 0 ∷ 0x10 ∷ 0 ∷ 0 ∷ 0 ∷ 0 ∷ 0 ∷ 0 ∷ 0 ∷ 0 ∷ 0x10 ∷ octetsOf 4 teid ++ (0x85 ∷ 0 ∷ 4 ∷ octetsOf 4 addr)
 
+-- G-PDU without an optional part: the length of the packet, the peer's TEID, and the packet
+unfoldable pub gpduOf : ℕ → List ℕ → List ℕ
+gpduOf teid packet = 0x30 ∷ 0xFF ∷ octetsOf 2 (length packet) ++ octetsOf 4 teid ++ packet
+
 -- ---- their lengths, as document 01 states them
 pub size-echo : (type seq recovery : ℕ) → length (echoOf type seq recovery) ≡ 13
 unfolding echoOf octetsOf
@@ -109,3 +114,7 @@ size-user-echo seq = refl
 pub size-error : (teid addr : ℕ) → length (errorIndication teid addr) ≡ 24
 unfolding errorIndication octetsOf
 size-error teid addr = refl
+
+pub size-gpdu : (teid : ℕ) (packet : List ℕ) → length (gpduOf teid packet) ≡ length packet + 8
+unfolding gpduOf octetsOf
+size-gpdu teid packet = omega arith

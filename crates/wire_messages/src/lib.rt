@@ -1,7 +1,7 @@
 // The octets of every reply and own request, laid over the front of the lent buffer; the octets past them stay.
 ghost use mathlib.Core.Path.{_≡_};
 ghost use Rattle.base_octets.specs.Overlay.{Wrote};
-ghost use Rattle.wire_messages.specs.Messages.{versionNotSupported, echoOf, causeReply, faultReply, createAccepted, modifyBearer, deleteBearer, userEcho, errorIndication};
+ghost use Rattle.wire_messages.specs.Messages.{versionNotSupported, echoOf, causeReply, faultReply, createAccepted, modifyBearer, deleteBearer, userEcho, errorIndication, gpduOf};
 
 // The types of control messages, by name: those that are taken, those of their replies, and the unit's own Delete Bearer.
 pub struct MessageType {}
@@ -268,6 +268,30 @@ pub fn error_indication(reply: &mut [u8], teid: u32, addr: u32) -> usize
     ];
     base_octets::copy_front(&m, reply);
     m.len()
+}
+
+// G-PDU: the peer's TEID, and the packet behind the 8 octets of the header; each is copied once.
+pub fn gpdu_of(out: &mut [u8], teid: u32, packet: &[u8]) -> usize
+    ensures { λ r. ⌜ Wrote r (now (out .exit)) (now (out .entry)) (gpduOf teid (now (packet .entry))) ⌝ }
+{
+    let n = packet.len();
+    let m = [
+        0x30u8,
+        0xFF,
+        (n / 256 % 256) as u8,
+        (n % 256) as u8,
+        (teid / 256 / 256 / 256 % 256) as u8,
+        (teid / 256 / 256 % 256) as u8,
+        (teid / 256 % 256) as u8,
+        (teid % 256) as u8,
+    ];
+    base_octets::copy_front(&m, out);
+    let size = n + m.len();
+    if out.len() < m.len() {
+        return size;
+    }
+    base_octets::copy_front(packet, &mut out[m.len()..]);
+    size
 }
 
 // Create accepted: the session's own tunnel numbers and address, to the peer.

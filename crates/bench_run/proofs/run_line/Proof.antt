@@ -16,8 +16,8 @@ use Rattle.bench_text.proofs.Line.Laws as Line-l
 use Rattle.bench_run.specs.declared.Ask.{Ask}
 use Rattle.bench_run.proofs.Ask as Ask-t
 use Rattle.bench_run.proofs.Ask.Laws as Ask-l
-use Rattle.bench_run.specs.Run.{thenSent, userRun}
-use Rattle.bench_run.specs.Taken.{askOf, asks-close, asks-control, asks-none, asks-tick, asks-user, runLine}
+use Rattle.bench_run.specs.Run.{downRun, thenSent, userRun}
+use Rattle.bench_run.specs.Taken.{askOf, asks-close, asks-control, asks-down, asks-none, asks-tick, asks-user, runLine}
 use Rattle.bench_unit.specs.State.{beside, endBad, lentReply, ran, shown, unitShown}
 use Rattle.call_control.specs.Control.{controlTaken}
 use Rattle.call_own.specs.Calls.{closeOf, tickOf}
@@ -46,6 +46,10 @@ use Rattle.bench_run.proofs.run_user as c-run-user′
 use Rattle.bench_run.proofs.run_user.Symbol as c-run-user-def
 use Rattle.bench_run.proofs.run_user.Symbol.{name as #bench-run·run-user}
 use Rattle.bench_run.proofs.run_user.Met as c-run-user-thm
+use Rattle.bench_run.proofs.run_down as c-run-down′
+use Rattle.bench_run.proofs.run_down.Symbol as c-run-down-def
+use Rattle.bench_run.proofs.run_down.Symbol.{name as #bench-run·run-down}
+use Rattle.bench_run.proofs.run_down.Met as c-run-down-thm
 use Rattle.bench_run.proofs.run_tick as c-run-tick′
 use Rattle.bench_run.proofs.run_tick.Symbol as c-run-tick-def
 use Rattle.bench_run.proofs.run_tick.Symbol.{name as #bench-run·run-tick}
@@ -85,6 +89,9 @@ module _ {M : Type 1} (𝓤 : URA M) (H : Heap 𝓤) (A : Atoms 𝓤) (mem : Mem
 
   abbrev c-run-user : Contract 𝓤
   c-run-user = tripleOf 𝓤 H A c-run-user′.signature (c-run-user′.spec 𝓤 H A mem run)
+
+  abbrev c-run-down : Contract 𝓤
+  c-run-down = tripleOf 𝓤 H A c-run-down′.signature (c-run-down′.spec 𝓤 H A mem run)
 
   abbrev c-run-tick : Contract 𝓤
   c-run-tick = tripleOf 𝓤 H A c-run-tick′.signature (c-run-tick′.spec 𝓤 H A mem run)
@@ -150,8 +157,8 @@ module _ {M : Type 1} (𝓤 : URA M) (H : Heap 𝓤) (A : Atoms 𝓤) (W : Given
   abbrev Toks : Item 𝓤
   Toks = ‵ (flft κ₀ q₀) ⊛ ‵ (flft κ₁ q₁) ⊛ ‵ (flft κ₂ q₂) ⊛ ‵ ftrue
 
-  abbrev En : (l₀ l₁ l₂ l₃ l₄ l₅ l₆ l₇ l₈ l₉ l₁₀ l₁₁ l₁₂ l₁₃ l₁₄ l₁₅ l₁₆ l₁₇ l₁₈ l₁₉ l₂₀ l₂₁ l₂₂ l₂₃ l₂₄ l₂₅ l₂₆ l₂₇ l₂₈ : ℕ) → Env 𝓤 H
-  En l₀ l₁ l₂ l₃ l₄ l₅ l₆ l₇ l₈ l₉ l₁₀ l₁₁ l₁₂ l₁₃ l₁₄ l₁₅ l₁₆ l₁₇ l₁₈ l₁₉ l₂₀ l₂₁ l₂₂ l₂₃ l₂₄ l₂₅ l₂₆ l₂₇ l₂₈ = (Bench-l.mir, l₀) ∷ (Bench-l.mir, l₁) ∷ ((sliceTy (tyRef (named 0) mut (pointee (Session-t.the-row .written)))), l₂) ∷ (Line-l.mir, l₃) ∷ ((sliceTy (tyRef (named 1) imm (pointee (u8 .written)))), l₄) ∷ ((sliceTy (tyRef (named 2) mut (pointee (u8 .written)))), l₅) ∷ (Ask-l.mir, l₆) ∷ ((tyInt w8), l₇) ∷ ((tyInt w64), l₈) ∷ ((tyInt w64), l₉) ∷ (tyBool, l₁₀) ∷ ((tyRef erased mut (pointee (Session-t.the-row .written))), l₁₁) ∷ ((sliceTy (tyRef erased mut (pointee (Session-t.the-row .written)))), l₁₂) ∷ ((tyRef erased mut (pointee (u8 .written))), l₁₃) ∷ ((sliceTy (tyRef erased mut (pointee (u8 .written)))), l₁₄) ∷ ((tyRef erased mut (pointee (Session-t.the-row .written))), l₁₅) ∷ ((sliceTy (tyRef erased mut (pointee (Session-t.the-row .written)))), l₁₆) ∷ ((tyRef erased mut (pointee (u8 .written))), l₁₇) ∷ ((sliceTy (tyRef erased mut (pointee (u8 .written)))), l₁₈) ∷ ((tyRef erased mut (pointee (Session-t.the-row .written))), l₁₉) ∷ ((sliceTy (tyRef erased mut (pointee (Session-t.the-row .written)))), l₂₀) ∷ ((tyRef erased mut (pointee (u8 .written))), l₂₁) ∷ ((sliceTy (tyRef erased mut (pointee (u8 .written)))), l₂₂) ∷ ((tyRef erased mut (pointee (Session-t.the-row .written))), l₂₃) ∷ ((sliceTy (tyRef erased mut (pointee (Session-t.the-row .written)))), l₂₄) ∷ ((tyRef erased mut (pointee (u8 .written))), l₂₅) ∷ ((sliceTy (tyRef erased mut (pointee (u8 .written)))), l₂₆) ∷ ((tyRef erased mut (pointee (u8 .written))), l₂₇) ∷ ((sliceTy (tyRef erased mut (pointee (u8 .written)))), l₂₈) ∷ []
+  abbrev En : (l₀ l₁ l₂ l₃ l₄ l₅ l₆ l₇ l₈ l₉ l₁₀ l₁₁ l₁₂ l₁₃ l₁₄ l₁₅ l₁₆ l₁₇ l₁₈ l₁₉ l₂₀ l₂₁ l₂₂ l₂₃ l₂₄ l₂₅ l₂₆ l₂₇ l₂₈ l₂₉ l₃₀ l₃₁ l₃₂ : ℕ) → Env 𝓤 H
+  En l₀ l₁ l₂ l₃ l₄ l₅ l₆ l₇ l₈ l₉ l₁₀ l₁₁ l₁₂ l₁₃ l₁₄ l₁₅ l₁₆ l₁₇ l₁₈ l₁₉ l₂₀ l₂₁ l₂₂ l₂₃ l₂₄ l₂₅ l₂₆ l₂₇ l₂₈ l₂₉ l₃₀ l₃₁ l₃₂ = (Bench-l.mir, l₀) ∷ (Bench-l.mir, l₁) ∷ ((sliceTy (tyRef (named 0) mut (pointee (Session-t.the-row .written)))), l₂) ∷ (Line-l.mir, l₃) ∷ ((sliceTy (tyRef (named 1) imm (pointee (u8 .written)))), l₄) ∷ ((sliceTy (tyRef (named 2) mut (pointee (u8 .written)))), l₅) ∷ (Ask-l.mir, l₆) ∷ ((tyInt w8), l₇) ∷ ((tyInt w64), l₈) ∷ ((tyInt w64), l₉) ∷ (tyBool, l₁₀) ∷ ((tyRef erased mut (pointee (Session-t.the-row .written))), l₁₁) ∷ ((sliceTy (tyRef erased mut (pointee (Session-t.the-row .written)))), l₁₂) ∷ ((tyRef erased mut (pointee (u8 .written))), l₁₃) ∷ ((sliceTy (tyRef erased mut (pointee (u8 .written)))), l₁₄) ∷ ((tyRef erased mut (pointee (Session-t.the-row .written))), l₁₅) ∷ ((sliceTy (tyRef erased mut (pointee (Session-t.the-row .written)))), l₁₆) ∷ ((tyRef erased mut (pointee (u8 .written))), l₁₇) ∷ ((sliceTy (tyRef erased mut (pointee (u8 .written)))), l₁₈) ∷ ((tyRef erased mut (pointee (Session-t.the-row .written))), l₁₉) ∷ ((sliceTy (tyRef erased mut (pointee (Session-t.the-row .written)))), l₂₀) ∷ ((tyRef erased mut (pointee (u8 .written))), l₂₁) ∷ ((sliceTy (tyRef erased mut (pointee (u8 .written)))), l₂₂) ∷ ((tyRef erased mut (pointee (Session-t.the-row .written))), l₂₃) ∷ ((sliceTy (tyRef erased mut (pointee (Session-t.the-row .written)))), l₂₄) ∷ ((tyRef erased mut (pointee (u8 .written))), l₂₅) ∷ ((sliceTy (tyRef erased mut (pointee (u8 .written)))), l₂₆) ∷ ((tyRef erased mut (pointee (Session-t.the-row .written))), l₂₇) ∷ ((sliceTy (tyRef erased mut (pointee (Session-t.the-row .written)))), l₂₈) ∷ ((tyRef erased mut (pointee (u8 .written))), l₂₉) ∷ ((sliceTy (tyRef erased mut (pointee (u8 .written)))), l₃₀) ∷ ((tyRef erased mut (pointee (u8 .written))), l₃₁) ∷ ((sliceTy (tyRef erased mut (pointee (u8 .written)))), l₃₂) ∷ []
 
   -- what the contract says of the answer and of the last values
   abbrev Said : Bench → List Session → List ℕ → Type 0
@@ -164,129 +171,169 @@ module _ {M : Type 1} (𝓤 : URA M) (H : Heap 𝓤) (A : Atoms 𝓤) (W : Given
       suffices ! _ (ends-at 𝓤 H A entry′.ended stayed (entry′.clauses 𝓤 H A mem run) W bound w r (tt, (w-recs, (tt, (tt, (w-out, tt))))) (tt, (l-recs, (tt, (tt, (l-out, tt)))))) $ says ! e $ frame ! $
       nothing ! $ move ! (2 ∷ 0 ∷ []) $ fjoin ! $ nothing ! $ fjoin ! $ nothing ! $ fjoin ! $ move ! (1 ∷ 0 ∷ []) $ fjoin ! $ nothing ! $ fjoin ! $ done !
 
-  module _ (C : Calls 𝓤 H) (Λ : Loops 𝓤 H) (fm : FmC 𝓤 H (W .laws) C) (known-ask-of : Triple 𝓤 (C #bench-run·ask-of) (c-ask-of 𝓤 H A mem run)) (known-kind-of : Triple 𝓤 (C #bench-run·kind-of) (c-kind-of 𝓤 H A mem run)) (known-size-of : Triple 𝓤 (C #bench-run·size-of) (c-size-of 𝓤 H A mem run)) (known-place-of : Triple 𝓤 (C #bench-run·place-of) (c-place-of 𝓤 H A mem run)) (known-run-control : Triple 𝓤 (C #bench-run·run-control) (c-run-control 𝓤 H A mem run)) (known-run-user : Triple 𝓤 (C #bench-run·run-user) (c-run-user 𝓤 H A mem run)) (known-run-tick : Triple 𝓤 (C #bench-run·run-tick) (c-run-tick 𝓤 H A mem run)) (known-run-close : Triple 𝓤 (C #bench-run·run-close) (c-run-close 𝓤 H A mem run)) (known-end-bad : Triple 𝓤 (C #bench-unit·end-bad) (c-end-bad 𝓤 H A mem run)) where
-    module _ (is-b : Is Bench-t.the-row b (v-b ∷ [])) (room-recs : Room Session-t.the-row (length (recs .now))) (is-line : Is Line-t.the-row line (v-line ∷ [])) (room-octets : Room u8 (length (octets .now))) (room-out : Room u8 (length (out .now))) (l₀ l₁ l₂ l₃ l₄ l₅ l₆ l₇ l₈ l₉ l₁₀ l₁₁ l₁₂ l₁₃ l₁₄ l₁₅ l₁₆ l₁₇ l₁₈ l₁₉ l₂₀ l₂₁ l₂₂ l₂₃ l₂₄ l₂₅ l₂₆ l₂₇ l₂₈ : ℕ) where
-      part-13 : (w-ask-of : Val) → (r-ask-of : Ask) → (e-ask-of : r-ask-of ≡ askOf line) → (is-ask-of : Is Ask-t.the-row r-ask-of (w-ask-of ∷ [])) → (w-kind-of : Val) → (r-kind-of : ℕ) → (e-kind-of : r-kind-of ≡ r-ask-of .kind) → (is-kind-of : Is u8 r-kind-of (w-kind-of ∷ [])) → (w-size-of : Val) → (r-size-of : ℕ) → (e-size-of : r-size-of ≡ r-ask-of .size) → (is-size-of : Is usize r-size-of (w-size-of ∷ [])) → (w-place-of : Val) → (r-place-of : ℕ) → (e-place-of : r-place-of ≡ r-ask-of .place) → (is-place-of : Is usize r-place-of (w-place-of ∷ [])) → (t : (eqb r-kind-of 1) ≡ false) → (t2 : (eqb r-kind-of 2) ≡ false) → (t3 : (eqb r-kind-of 3) ≡ false) → (t4 : (eqb r-kind-of 4) ≡ false) → Sq W (‵ (froom (sliceTy (tyRef erased mut (pointee (u8 .written)))) l₂₈ 0) ∷ ‵ (fdies (sliceTy (tyRef erased mut (pointee (u8 .written)))) l₂₈) ∷ ‵ (froom (tyRef erased mut (pointee (u8 .written))) l₂₇ 0) ∷ ‵ (fdies (tyRef erased mut (pointee (u8 .written))) l₂₇) ∷ ‵ (froom (sliceTy (tyRef erased mut (pointee (u8 .written)))) l₂₆ 0) ∷ ‵ (fdies (sliceTy (tyRef erased mut (pointee (u8 .written)))) l₂₆) ∷ ‵ (froom (tyRef erased mut (pointee (u8 .written))) l₂₅ 0) ∷ ‵ (fdies (tyRef erased mut (pointee (u8 .written))) l₂₅) ∷ ‵ (froom (sliceTy (tyRef erased mut (pointee (Session-t.the-row .written)))) l₂₄ 0) ∷ ‵ (fdies (sliceTy (tyRef erased mut (pointee (Session-t.the-row .written)))) l₂₄) ∷ ‵ (froom (tyRef erased mut (pointee (Session-t.the-row .written))) l₂₃ 0) ∷ ‵ (fdies (tyRef erased mut (pointee (Session-t.the-row .written))) l₂₃) ∷ ‵ (froom (sliceTy (tyRef erased mut (pointee (u8 .written)))) l₂₂ 0) ∷ ‵ (fdies (sliceTy (tyRef erased mut (pointee (u8 .written)))) l₂₂) ∷ ‵ (froom (tyRef erased mut (pointee (u8 .written))) l₂₁ 0) ∷ ‵ (fdies (tyRef erased mut (pointee (u8 .written))) l₂₁) ∷ ‵ (froom (sliceTy (tyRef erased mut (pointee (Session-t.the-row .written)))) l₂₀ 0) ∷ ‵ (fdies (sliceTy (tyRef erased mut (pointee (Session-t.the-row .written)))) l₂₀) ∷ ‵ (froom (tyRef erased mut (pointee (Session-t.the-row .written))) l₁₉ 0) ∷ ‵ (fdies (tyRef erased mut (pointee (Session-t.the-row .written))) l₁₉) ∷ ‵ (froom (sliceTy (tyRef erased mut (pointee (u8 .written)))) l₁₈ 0) ∷ ‵ (fdies (sliceTy (tyRef erased mut (pointee (u8 .written)))) l₁₈) ∷ ‵ (froom (tyRef erased mut (pointee (u8 .written))) l₁₇ 0) ∷ ‵ (fdies (tyRef erased mut (pointee (u8 .written))) l₁₇) ∷ ‵ (froom (sliceTy (tyRef erased mut (pointee (Session-t.the-row .written)))) l₁₆ 0) ∷ ‵ (fdies (sliceTy (tyRef erased mut (pointee (Session-t.the-row .written)))) l₁₆) ∷ ‵ (froom (tyRef erased mut (pointee (Session-t.the-row .written))) l₁₅ 0) ∷ ‵ (fdies (tyRef erased mut (pointee (Session-t.the-row .written))) l₁₅) ∷ ‵ (froom (sliceTy (tyRef erased mut (pointee (u8 .written)))) l₁₄ 0) ∷ ‵ (fdies (sliceTy (tyRef erased mut (pointee (u8 .written)))) l₁₄) ∷ ‵ (froom (tyRef erased mut (pointee (u8 .written))) l₁₃ 0) ∷ ‵ (fdies (tyRef erased mut (pointee (u8 .written))) l₁₃) ∷ ‵ (froom (sliceTy (tyRef erased mut (pointee (Session-t.the-row .written)))) l₁₂ 0) ∷ ‵ (fdies (sliceTy (tyRef erased mut (pointee (Session-t.the-row .written)))) l₁₂) ∷ ‵ (froom (tyRef erased mut (pointee (Session-t.the-row .written))) l₁₁ 0) ∷ ‵ (fdies (tyRef erased mut (pointee (Session-t.the-row .written))) l₁₁) ∷ ‵ (fat fullShare tyBool l₁₀ 0 (vbool (eqb r-kind-of 4))) ∷ ‵ (fdies tyBool l₁₀) ∷ ‵ (fat fullShare (tyInt w64) l₉ 0 w-place-of) ∷ ‵ (fdies (tyInt w64) l₉) ∷ ‵ (fat fullShare (tyInt w64) l₈ 0 w-size-of) ∷ ‵ (fdies (tyInt w64) l₈) ∷ ‵ (fat fullShare (tyInt w8) l₇ 0 (vint w8 r-kind-of)) ∷ ‵ (fdies (tyInt w8) l₇) ∷ ‵ (fat fullShare Ask-l.mir l₆ 0 w-ask-of) ∷ ‵ (fdies Ask-l.mir l₆) ∷ ‵ (fat fullShare (sliceTy (tyRef (named 2) mut (pointee (u8 .written)))) l₅ 0 v-out) ∷ ‵ (fdies (sliceTy (tyRef (named 2) mut (pointee (u8 .written)))) l₅) ∷ ‵ (fat fullShare (sliceTy (tyRef (named 1) imm (pointee (u8 .written)))) l₄ 0 v-octets) ∷ ‵ (fdies (sliceTy (tyRef (named 1) imm (pointee (u8 .written)))) l₄) ∷ ‵ (fat fullShare Line-l.mir l₃ 0 v-line) ∷ ‵ (fdies Line-l.mir l₃) ∷ ‵ (fat fullShare (sliceTy (tyRef (named 0) mut (pointee (Session-t.the-row .written)))) l₂ 0 v-recs) ∷ ‵ (fdies (sliceTy (tyRef (named 0) mut (pointee (Session-t.the-row .written)))) l₂) ∷ ‵ (fat fullShare Bench-l.mir l₁ 0 v-b) ∷ ‵ (fdies Bench-l.mir l₁) ∷ ‵ (froom Bench-l.mir l₀ 0) ∷ ‵ (fdies Bench-l.mir l₀) ∷ ‵ Own-octets ∷ ‵ Own-out ∷ ‵ Own-recs ∷ ‵ (flft κ₀ q₀) ∷ ‵ (flft κ₁ q₁) ∷ ‵ (flft κ₂ q₂) ∷ []) (runs C Λ (En l₀ l₁ l₂ l₃ l₄ l₅ l₆ l₇ l₈ l₉ l₁₀ l₁₁ l₁₂ l₁₃ l₁₄ l₁₅ l₁₆ l₁₇ l₁₈ l₁₉ l₂₀ l₂₁ l₂₂ l₂₃ l₂₄ l₂₅ l₂₆ l₂₇ l₂₈) mir.t-13 (atRet (En l₀ l₁ l₂ l₃ l₄ l₅ l₆ l₇ l₈ l₉ l₁₀ l₁₁ l₁₂ l₁₃ l₁₄ l₁₅ l₁₆ l₁₇ l₁₈ l₁₉ l₂₀ l₂₁ l₂₂ l₂₃ l₂₄ l₂₅ l₂₆ l₂₇ l₂₈) Post))
-      part-13 w-ask-of r-ask-of e-ask-of is-ask-of w-kind-of r-kind-of e-kind-of is-kind-of w-size-of r-size-of e-size-of is-size-of w-place-of r-place-of e-place-of is-place-of t t2 t3 t4 =
-          -- _27 = & _5.0.*
-          assigns ! (addr ! (from ! (fld ! refl (hop ! (look-in ! 46 (sub ! 0 refl (whole !))) (stop !))))) (from ! (stop !)) (init ! 2 refl (tt, tt)) $
-          -- _28 = {_27, _5.1}
-          assigns ! (agg ! (and-then ! (load ! (from ! (stop !)) (look ! 2 refl)) (and-then ! (load ! (from ! (fld ! refl (stop !))) (look-in ! 46 (sub ! 1 refl (whole !)))) (no-more !)))) (from ! (stop !)) (init ! 0 refl (tt, (tt, (record { fits = room-out .0 }, tt)))) $
-          -- _0 = end_bad(_1, _28)
-          nothing ! $ move ! (64 ∷ 0 ∷ []) $ join ! $ nothing ! $ move ! (61 ∷ 0 ∷ []) $ fjoin ! $ owned ! Bench-t.the-row (Is Bench-t.the-row) (LL.makes Bench-t.the-type Bench-l.the-plain 𝓤 H A) b _ is-b $ fjoin ! $ move ! (1 ∷ 0 ∷ []) $
+  module _ (C : Calls 𝓤 H) (Λ : Loops 𝓤 H) (fm : FmC 𝓤 H (W .laws) C) (known-ask-of : Triple 𝓤 (C #bench-run·ask-of) (c-ask-of 𝓤 H A mem run)) (known-kind-of : Triple 𝓤 (C #bench-run·kind-of) (c-kind-of 𝓤 H A mem run)) (known-size-of : Triple 𝓤 (C #bench-run·size-of) (c-size-of 𝓤 H A mem run)) (known-place-of : Triple 𝓤 (C #bench-run·place-of) (c-place-of 𝓤 H A mem run)) (known-run-control : Triple 𝓤 (C #bench-run·run-control) (c-run-control 𝓤 H A mem run)) (known-run-user : Triple 𝓤 (C #bench-run·run-user) (c-run-user 𝓤 H A mem run)) (known-run-down : Triple 𝓤 (C #bench-run·run-down) (c-run-down 𝓤 H A mem run)) (known-run-tick : Triple 𝓤 (C #bench-run·run-tick) (c-run-tick 𝓤 H A mem run)) (known-run-close : Triple 𝓤 (C #bench-run·run-close) (c-run-close 𝓤 H A mem run)) (known-end-bad : Triple 𝓤 (C #bench-unit·end-bad) (c-end-bad 𝓤 H A mem run)) where
+    module _ (is-b : Is Bench-t.the-row b (v-b ∷ [])) (room-recs : Room Session-t.the-row (length (recs .now))) (is-line : Is Line-t.the-row line (v-line ∷ [])) (room-octets : Room u8 (length (octets .now))) (room-out : Room u8 (length (out .now))) (l₀ l₁ l₂ l₃ l₄ l₅ l₆ l₇ l₈ l₉ l₁₀ l₁₁ l₁₂ l₁₃ l₁₄ l₁₅ l₁₆ l₁₇ l₁₈ l₁₉ l₂₀ l₂₁ l₂₂ l₂₃ l₂₄ l₂₅ l₂₆ l₂₇ l₂₈ l₂₉ l₃₀ l₃₁ l₃₂ : ℕ) where
+      part-15 : (w-ask-of : Val) → (r-ask-of : Ask) → (e-ask-of : r-ask-of ≡ askOf line) → (is-ask-of : Is Ask-t.the-row r-ask-of (w-ask-of ∷ [])) → (w-kind-of : Val) → (r-kind-of : ℕ) → (e-kind-of : r-kind-of ≡ r-ask-of .kind) → (is-kind-of : Is u8 r-kind-of (w-kind-of ∷ [])) → (w-size-of : Val) → (r-size-of : ℕ) → (e-size-of : r-size-of ≡ r-ask-of .size) → (is-size-of : Is usize r-size-of (w-size-of ∷ [])) → (w-place-of : Val) → (r-place-of : ℕ) → (e-place-of : r-place-of ≡ r-ask-of .place) → (is-place-of : Is usize r-place-of (w-place-of ∷ [])) → (t : (eqb r-kind-of 1) ≡ false) → (t2 : (eqb r-kind-of 2) ≡ false) → (t3 : (eqb r-kind-of 3) ≡ false) → (t4 : (eqb r-kind-of 4) ≡ false) → (t5 : (eqb r-kind-of 5) ≡ false) → Sq W (‵ (froom (sliceTy (tyRef erased mut (pointee (u8 .written)))) l₃₂ 0) ∷ ‵ (fdies (sliceTy (tyRef erased mut (pointee (u8 .written)))) l₃₂) ∷ ‵ (froom (tyRef erased mut (pointee (u8 .written))) l₃₁ 0) ∷ ‵ (fdies (tyRef erased mut (pointee (u8 .written))) l₃₁) ∷ ‵ (froom (sliceTy (tyRef erased mut (pointee (u8 .written)))) l₃₀ 0) ∷ ‵ (fdies (sliceTy (tyRef erased mut (pointee (u8 .written)))) l₃₀) ∷ ‵ (froom (tyRef erased mut (pointee (u8 .written))) l₂₉ 0) ∷ ‵ (fdies (tyRef erased mut (pointee (u8 .written))) l₂₉) ∷ ‵ (froom (sliceTy (tyRef erased mut (pointee (Session-t.the-row .written)))) l₂₈ 0) ∷ ‵ (fdies (sliceTy (tyRef erased mut (pointee (Session-t.the-row .written)))) l₂₈) ∷ ‵ (froom (tyRef erased mut (pointee (Session-t.the-row .written))) l₂₇ 0) ∷ ‵ (fdies (tyRef erased mut (pointee (Session-t.the-row .written))) l₂₇) ∷ ‵ (froom (sliceTy (tyRef erased mut (pointee (u8 .written)))) l₂₆ 0) ∷ ‵ (fdies (sliceTy (tyRef erased mut (pointee (u8 .written)))) l₂₆) ∷ ‵ (froom (tyRef erased mut (pointee (u8 .written))) l₂₅ 0) ∷ ‵ (fdies (tyRef erased mut (pointee (u8 .written))) l₂₅) ∷ ‵ (froom (sliceTy (tyRef erased mut (pointee (Session-t.the-row .written)))) l₂₄ 0) ∷ ‵ (fdies (sliceTy (tyRef erased mut (pointee (Session-t.the-row .written)))) l₂₄) ∷ ‵ (froom (tyRef erased mut (pointee (Session-t.the-row .written))) l₂₃ 0) ∷ ‵ (fdies (tyRef erased mut (pointee (Session-t.the-row .written))) l₂₃) ∷ ‵ (froom (sliceTy (tyRef erased mut (pointee (u8 .written)))) l₂₂ 0) ∷ ‵ (fdies (sliceTy (tyRef erased mut (pointee (u8 .written)))) l₂₂) ∷ ‵ (froom (tyRef erased mut (pointee (u8 .written))) l₂₁ 0) ∷ ‵ (fdies (tyRef erased mut (pointee (u8 .written))) l₂₁) ∷ ‵ (froom (sliceTy (tyRef erased mut (pointee (Session-t.the-row .written)))) l₂₀ 0) ∷ ‵ (fdies (sliceTy (tyRef erased mut (pointee (Session-t.the-row .written)))) l₂₀) ∷ ‵ (froom (tyRef erased mut (pointee (Session-t.the-row .written))) l₁₉ 0) ∷ ‵ (fdies (tyRef erased mut (pointee (Session-t.the-row .written))) l₁₉) ∷ ‵ (froom (sliceTy (tyRef erased mut (pointee (u8 .written)))) l₁₈ 0) ∷ ‵ (fdies (sliceTy (tyRef erased mut (pointee (u8 .written)))) l₁₈) ∷ ‵ (froom (tyRef erased mut (pointee (u8 .written))) l₁₇ 0) ∷ ‵ (fdies (tyRef erased mut (pointee (u8 .written))) l₁₇) ∷ ‵ (froom (sliceTy (tyRef erased mut (pointee (Session-t.the-row .written)))) l₁₆ 0) ∷ ‵ (fdies (sliceTy (tyRef erased mut (pointee (Session-t.the-row .written)))) l₁₆) ∷ ‵ (froom (tyRef erased mut (pointee (Session-t.the-row .written))) l₁₅ 0) ∷ ‵ (fdies (tyRef erased mut (pointee (Session-t.the-row .written))) l₁₅) ∷ ‵ (froom (sliceTy (tyRef erased mut (pointee (u8 .written)))) l₁₄ 0) ∷ ‵ (fdies (sliceTy (tyRef erased mut (pointee (u8 .written)))) l₁₄) ∷ ‵ (froom (tyRef erased mut (pointee (u8 .written))) l₁₃ 0) ∷ ‵ (fdies (tyRef erased mut (pointee (u8 .written))) l₁₃) ∷ ‵ (froom (sliceTy (tyRef erased mut (pointee (Session-t.the-row .written)))) l₁₂ 0) ∷ ‵ (fdies (sliceTy (tyRef erased mut (pointee (Session-t.the-row .written)))) l₁₂) ∷ ‵ (froom (tyRef erased mut (pointee (Session-t.the-row .written))) l₁₁ 0) ∷ ‵ (fdies (tyRef erased mut (pointee (Session-t.the-row .written))) l₁₁) ∷ ‵ (fat fullShare tyBool l₁₀ 0 (vbool (eqb r-kind-of 5))) ∷ ‵ (fdies tyBool l₁₀) ∷ ‵ (fat fullShare (tyInt w64) l₉ 0 w-place-of) ∷ ‵ (fdies (tyInt w64) l₉) ∷ ‵ (fat fullShare (tyInt w64) l₈ 0 w-size-of) ∷ ‵ (fdies (tyInt w64) l₈) ∷ ‵ (fat fullShare (tyInt w8) l₇ 0 (vint w8 r-kind-of)) ∷ ‵ (fdies (tyInt w8) l₇) ∷ ‵ (fat fullShare Ask-l.mir l₆ 0 w-ask-of) ∷ ‵ (fdies Ask-l.mir l₆) ∷ ‵ (fat fullShare (sliceTy (tyRef (named 2) mut (pointee (u8 .written)))) l₅ 0 v-out) ∷ ‵ (fdies (sliceTy (tyRef (named 2) mut (pointee (u8 .written)))) l₅) ∷ ‵ (fat fullShare (sliceTy (tyRef (named 1) imm (pointee (u8 .written)))) l₄ 0 v-octets) ∷ ‵ (fdies (sliceTy (tyRef (named 1) imm (pointee (u8 .written)))) l₄) ∷ ‵ (fat fullShare Line-l.mir l₃ 0 v-line) ∷ ‵ (fdies Line-l.mir l₃) ∷ ‵ (fat fullShare (sliceTy (tyRef (named 0) mut (pointee (Session-t.the-row .written)))) l₂ 0 v-recs) ∷ ‵ (fdies (sliceTy (tyRef (named 0) mut (pointee (Session-t.the-row .written)))) l₂) ∷ ‵ (fat fullShare Bench-l.mir l₁ 0 v-b) ∷ ‵ (fdies Bench-l.mir l₁) ∷ ‵ (froom Bench-l.mir l₀ 0) ∷ ‵ (fdies Bench-l.mir l₀) ∷ ‵ Own-octets ∷ ‵ Own-out ∷ ‵ Own-recs ∷ ‵ (flft κ₀ q₀) ∷ ‵ (flft κ₁ q₁) ∷ ‵ (flft κ₂ q₂) ∷ []) (runs C Λ (En l₀ l₁ l₂ l₃ l₄ l₅ l₆ l₇ l₈ l₉ l₁₀ l₁₁ l₁₂ l₁₃ l₁₄ l₁₅ l₁₆ l₁₇ l₁₈ l₁₉ l₂₀ l₂₁ l₂₂ l₂₃ l₂₄ l₂₅ l₂₆ l₂₇ l₂₈ l₂₉ l₃₀ l₃₁ l₃₂) mir.t-15 (atRet (En l₀ l₁ l₂ l₃ l₄ l₅ l₆ l₇ l₈ l₉ l₁₀ l₁₁ l₁₂ l₁₃ l₁₄ l₁₅ l₁₆ l₁₇ l₁₈ l₁₉ l₂₀ l₂₁ l₂₂ l₂₃ l₂₄ l₂₅ l₂₆ l₂₇ l₂₈ l₂₉ l₃₀ l₃₁ l₃₂) Post))
+      part-15 w-ask-of r-ask-of e-ask-of is-ask-of w-kind-of r-kind-of e-kind-of is-kind-of w-size-of r-size-of e-size-of is-size-of w-place-of r-place-of e-place-of is-place-of t t2 t3 t4 t5 =
+          -- _31 = & _5.0.*
+          assigns ! (addr ! (from ! (fld ! refl (hop ! (look-in ! 54 (sub ! 0 refl (whole !))) (stop !))))) (from ! (stop !)) (init ! 2 refl (tt, tt)) $
+          -- _32 = {_31, _5.1}
+          assigns ! (agg ! (and-then ! (load ! (from ! (stop !)) (look ! 2 refl)) (and-then ! (load ! (from ! (fld ! refl (stop !))) (look-in ! 54 (sub ! 1 refl (whole !)))) (no-more !)))) (from ! (stop !)) (init ! 0 refl (tt, (tt, (record { fits = room-out .0 }, tt)))) $
+          -- _0 = end_bad(_1, _32)
+          nothing ! $ move ! (72 ∷ 0 ∷ []) $ join ! $ nothing ! $ move ! (69 ∷ 0 ∷ []) $ fjoin ! $ owned ! Bench-t.the-row (Is Bench-t.the-row) (LL.makes Bench-t.the-type Bench-l.the-plain 𝓤 H A) b _ is-b $ fjoin ! $ move ! (1 ∷ 0 ∷ []) $
           use2 W (raw (c-end-bad 𝓤 H A mem run .pre (((κ₂, tt), (q₂, tt), tt, (b, (out, tt)), (v-b ∷ [], (v-out ∷ [], tt))), tt))) (qed W ((‵ (flft κ₂ q₂) ⊛ ‵ ftrue) ∷ ‵ (fsep (Bench-t.the-row .own b (v-b ∷ [])) (fsep Own-out ftrue)) ∷ []) ∵ join ! $ frame ! $ done !) $
-          calls-at ! fm (c-end-bad 𝓤 H A mem run) known-end-bad (((κ₂, tt), (q₂, tt), tt, (b, (out, tt)), (v-b ∷ [], (v-out ∷ [], tt))), tt) (and-then ! (load ! (from ! (stop !)) (look ! 55 refl)) (and-then ! (load ! (from ! (stop !)) (look ! 1 refl)) (no-more !))) (λ w-end-bad.
+          calls-at ! fm (c-end-bad 𝓤 H A mem run) known-end-bad (((κ₂, tt), (q₂, tt), tt, (b, (out, tt)), (v-b ∷ [], (v-out ∷ [], tt))), tt) (and-then ! (load ! (from ! (stop !)) (look ! 63 refl)) (and-then ! (load ! (from ! (stop !)) (look ! 1 refl)) (no-more !))) (λ w-end-bad.
           use1 W (later (some (λ (r-end-bad : Bench). ((‵ (flft κ₂ q₂) ⊛ ‵ ftrue) ⊛ ‵ (Bench-t.the-row .own r-end-bad (w-end-bad ∷ []))) ⊛ raw (ensured 𝓤 H A c-end-bad′.ended (c-end-bad′.clauses 𝓤 H A mem run) (κ₂, tt) (b, (out, tt)) tt r-end-bad)))) (id⊢ 𝓤 _) $ await ! tt $
           pick ! (λ r-end-bad. split ! $ move ! (1 ∷ []) $
           use1 W (some (λ (z-end-bad : (Unit {0}) × ((List ℕ) × Unit {0})). ‵ (lasts c-end-bad′.ended (κ₂, tt) (b, (out, tt)) z-end-bad) ⊛ raw (fact 𝓤 (shown r-end-bad (z-end-bad .1 .0) ≡ endBad b (ys-out))))) (id⊢ 𝓤 _) $
           pick ! (λ z-end-bad. split ! $ move ! (1 ∷ []) $ heard ! (shown r-end-bad (z-end-bad .1 .0) ≡ endBad b (ys-out)) (λ e-end-bad. fsplit ! $ drop ! $ fsplit ! $ fsplit ! $ move ! (1 ∷ []) $ feqL ! (λ len-end-bad-out. move ! (1 ∷ []) $
           drop ! $ move ! (1 ∷ []) $ split ! $ split ! $ move ! (1 ∷ []) $ drop ! $ move ! (1 ∷ []) $ peeks ! Bench-t.the-row (Is Bench-t.the-row) (shows 𝓤 H A Bench-t.the-row) r-end-bad (w-end-bad ∷ []) (λ is-end-bad.
-          land ! (from ! (stop !)) (init ! 59 refl (LL.lawful Bench-t.the-type Bench-l.the-laws 𝓤 H A W .typed r-end-bad _ is-end-bad .0)) $ drop ! $
+          land ! (from ! (stop !)) (init ! 67 refl (LL.lawful Bench-t.the-type Bench-l.the-laws 𝓤 H A W .typed r-end-bad _ is-end-bad .0)) $ drop ! $
           -- return
-          returns ! (look ! 58 refl) $
-          forget ! 2 refl $ forget ! 4 refl $ forget ! 38 refl $ forget ! 40 refl $ forget ! 42 refl $ forget ! 44 refl $ forget ! 46 refl $ forget ! 48 refl $ forget ! 50 refl $ forget ! 52 refl $ forget ! 54 refl $ forget ! 56 refl $ forget ! 58 refl $
-          move ! (58 ∷ 59 ∷ []) $ free1 ! $ move ! (56 ∷ 57 ∷ []) $ free1 ! $ move ! (54 ∷ 55 ∷ []) $ free1 ! $ move ! (52 ∷ 53 ∷ []) $ free1 ! $ move ! (50 ∷ 51 ∷ []) $ free1 ! $ move ! (48 ∷ 49 ∷ []) $ free1 ! $ move ! (46 ∷ 47 ∷ []) $ free1 ! $ move ! (44 ∷ 45 ∷ []) $ free1 ! $ move ! (42 ∷ 43 ∷ []) $ free1 ! $ move ! (40 ∷ 41 ∷ []) $ free1 ! $ move ! (38 ∷ 39 ∷ []) $ free1 ! $ move ! (36 ∷ 37 ∷ []) $ free1 ! $ move ! (34 ∷ 35 ∷ []) $ free1 ! $ move ! (32 ∷ 33 ∷ []) $ free1 ! $ move ! (30 ∷ 31 ∷ []) $ free1 ! $ move ! (28 ∷ 29 ∷ []) $ free1 ! $ move ! (26 ∷ 27 ∷ []) $ free1 ! $ move ! (24 ∷ 25 ∷ []) $ free1 ! $ move ! (22 ∷ 23 ∷ []) $ free1 ! $ move ! (20 ∷ 21 ∷ []) $ free1 ! $ move ! (18 ∷ 19 ∷ []) $ free1 ! $ move ! (16 ∷ 17 ∷ []) $ free1 ! $ move ! (14 ∷ 15 ∷ []) $ free1 ! $ move ! (12 ∷ 13 ∷ []) $ free1 ! $ move ! (10 ∷ 11 ∷ []) $ free1 ! $ move ! (8 ∷ 9 ∷ []) $ free1 ! $ move ! (6 ∷ 7 ∷ []) $ free1 ! $ move ! (4 ∷ 5 ∷ []) $ free1 ! $ move ! (2 ∷ 3 ∷ []) $ free1 ! $ free0 ! $
+          returns ! (look ! 66 refl) $
+          forget ! 2 refl $ forget ! 4 refl $ forget ! 46 refl $ forget ! 48 refl $ forget ! 50 refl $ forget ! 52 refl $ forget ! 54 refl $ forget ! 56 refl $ forget ! 58 refl $ forget ! 60 refl $ forget ! 62 refl $ forget ! 64 refl $ forget ! 66 refl $
+          move ! (66 ∷ 67 ∷ []) $ free1 ! $ move ! (64 ∷ 65 ∷ []) $ free1 ! $ move ! (62 ∷ 63 ∷ []) $ free1 ! $ move ! (60 ∷ 61 ∷ []) $ free1 ! $ move ! (58 ∷ 59 ∷ []) $ free1 ! $ move ! (56 ∷ 57 ∷ []) $ free1 ! $ move ! (54 ∷ 55 ∷ []) $ free1 ! $ move ! (52 ∷ 53 ∷ []) $ free1 ! $ move ! (50 ∷ 51 ∷ []) $ free1 ! $ move ! (48 ∷ 49 ∷ []) $ free1 ! $ move ! (46 ∷ 47 ∷ []) $ free1 ! $ move ! (44 ∷ 45 ∷ []) $ free1 ! $ move ! (42 ∷ 43 ∷ []) $ free1 ! $ move ! (40 ∷ 41 ∷ []) $ free1 ! $ move ! (38 ∷ 39 ∷ []) $ free1 ! $ move ! (36 ∷ 37 ∷ []) $ free1 ! $ move ! (34 ∷ 35 ∷ []) $ free1 ! $ move ! (32 ∷ 33 ∷ []) $ free1 ! $ move ! (30 ∷ 31 ∷ []) $ free1 ! $ move ! (28 ∷ 29 ∷ []) $ free1 ! $ move ! (26 ∷ 27 ∷ []) $ free1 ! $ move ! (24 ∷ 25 ∷ []) $ free1 ! $ move ! (22 ∷ 23 ∷ []) $ free1 ! $ move ! (20 ∷ 21 ∷ []) $ free1 ! $ move ! (18 ∷ 19 ∷ []) $ free1 ! $ move ! (16 ∷ 17 ∷ []) $ free1 ! $ move ! (14 ∷ 15 ∷ []) $ free1 ! $ move ! (12 ∷ 13 ∷ []) $ free1 ! $ move ! (10 ∷ 11 ∷ []) $ free1 ! $ move ! (8 ∷ 9 ∷ []) $ free1 ! $ move ! (6 ∷ 7 ∷ []) $ free1 ! $ move ! (4 ∷ 5 ∷ []) $ free1 ! $ move ! (2 ∷ 3 ∷ []) $ free1 ! $ free0 ! $
           move ! (3 ∷ []) $ use1 W (‵ (finally Session-t.the-row (recs .name) ys-recs)) (gives-up-slice 𝓤 H A W (named 0) κ₀ Session-t.the-row recs v-recs) $
           owned ! Bench-t.the-row (Is Bench-t.the-row) (LL.makes Bench-t.the-type Bench-l.the-plain 𝓤 H A) r-end-bad _ is-end-bad $ nothing ! $ move ! (3 ∷ 0 ∷ []) $ join ! $ move ! (6 ∷ 0 ∷ []) $ join ! $ move ! (5 ∷ 0 ∷ []) $ join ! $
           keep ! (0 ∷ 2 ∷ 3 ∷ 1 ∷ []) $
-          by ! (exits r-end-bad w-end-bad ys-recs (z-end-bad .1 .0) (asks-none line (now octets) b ys-recs ys-out (ran r-end-bad ys-recs (z-end-bad .1 .0)) r-ask-of r-kind-of r-size-of r-place-of e-ask-of e-kind-of e-size-of e-place-of t t2 t3 t4 (ap (beside ys-recs) e-end-bad)) refl len-end-bad-out)))))))
+          by ! (exits r-end-bad w-end-bad ys-recs (z-end-bad .1 .0) (asks-none line (now octets) b ys-recs ys-out (ran r-end-bad ys-recs (z-end-bad .1 .0)) r-ask-of r-kind-of r-size-of r-place-of e-ask-of e-kind-of e-size-of e-place-of t t2 t3 t4 t5 (ap (beside ys-recs) e-end-bad)) refl len-end-bad-out)))))))
 
-      part-11 : (w-ask-of : Val) → (r-ask-of : Ask) → (e-ask-of : r-ask-of ≡ askOf line) → (is-ask-of : Is Ask-t.the-row r-ask-of (w-ask-of ∷ [])) → (w-kind-of : Val) → (r-kind-of : ℕ) → (e-kind-of : r-kind-of ≡ r-ask-of .kind) → (is-kind-of : Is u8 r-kind-of (w-kind-of ∷ [])) → (w-size-of : Val) → (r-size-of : ℕ) → (e-size-of : r-size-of ≡ r-ask-of .size) → (is-size-of : Is usize r-size-of (w-size-of ∷ [])) → (w-place-of : Val) → (r-place-of : ℕ) → (e-place-of : r-place-of ≡ r-ask-of .place) → (is-place-of : Is usize r-place-of (w-place-of ∷ [])) → (t : (eqb r-kind-of 1) ≡ false) → (t2 : (eqb r-kind-of 2) ≡ false) → (t3 : (eqb r-kind-of 3) ≡ false) → Sq W (‵ (froom (sliceTy (tyRef erased mut (pointee (u8 .written)))) l₂₈ 0) ∷ ‵ (fdies (sliceTy (tyRef erased mut (pointee (u8 .written)))) l₂₈) ∷ ‵ (froom (tyRef erased mut (pointee (u8 .written))) l₂₇ 0) ∷ ‵ (fdies (tyRef erased mut (pointee (u8 .written))) l₂₇) ∷ ‵ (froom (sliceTy (tyRef erased mut (pointee (u8 .written)))) l₂₆ 0) ∷ ‵ (fdies (sliceTy (tyRef erased mut (pointee (u8 .written)))) l₂₆) ∷ ‵ (froom (tyRef erased mut (pointee (u8 .written))) l₂₅ 0) ∷ ‵ (fdies (tyRef erased mut (pointee (u8 .written))) l₂₅) ∷ ‵ (froom (sliceTy (tyRef erased mut (pointee (Session-t.the-row .written)))) l₂₄ 0) ∷ ‵ (fdies (sliceTy (tyRef erased mut (pointee (Session-t.the-row .written)))) l₂₄) ∷ ‵ (froom (tyRef erased mut (pointee (Session-t.the-row .written))) l₂₃ 0) ∷ ‵ (fdies (tyRef erased mut (pointee (Session-t.the-row .written))) l₂₃) ∷ ‵ (froom (sliceTy (tyRef erased mut (pointee (u8 .written)))) l₂₂ 0) ∷ ‵ (fdies (sliceTy (tyRef erased mut (pointee (u8 .written)))) l₂₂) ∷ ‵ (froom (tyRef erased mut (pointee (u8 .written))) l₂₁ 0) ∷ ‵ (fdies (tyRef erased mut (pointee (u8 .written))) l₂₁) ∷ ‵ (froom (sliceTy (tyRef erased mut (pointee (Session-t.the-row .written)))) l₂₀ 0) ∷ ‵ (fdies (sliceTy (tyRef erased mut (pointee (Session-t.the-row .written)))) l₂₀) ∷ ‵ (froom (tyRef erased mut (pointee (Session-t.the-row .written))) l₁₉ 0) ∷ ‵ (fdies (tyRef erased mut (pointee (Session-t.the-row .written))) l₁₉) ∷ ‵ (froom (sliceTy (tyRef erased mut (pointee (u8 .written)))) l₁₈ 0) ∷ ‵ (fdies (sliceTy (tyRef erased mut (pointee (u8 .written)))) l₁₈) ∷ ‵ (froom (tyRef erased mut (pointee (u8 .written))) l₁₇ 0) ∷ ‵ (fdies (tyRef erased mut (pointee (u8 .written))) l₁₇) ∷ ‵ (froom (sliceTy (tyRef erased mut (pointee (Session-t.the-row .written)))) l₁₆ 0) ∷ ‵ (fdies (sliceTy (tyRef erased mut (pointee (Session-t.the-row .written)))) l₁₆) ∷ ‵ (froom (tyRef erased mut (pointee (Session-t.the-row .written))) l₁₅ 0) ∷ ‵ (fdies (tyRef erased mut (pointee (Session-t.the-row .written))) l₁₅) ∷ ‵ (froom (sliceTy (tyRef erased mut (pointee (u8 .written)))) l₁₄ 0) ∷ ‵ (fdies (sliceTy (tyRef erased mut (pointee (u8 .written)))) l₁₄) ∷ ‵ (froom (tyRef erased mut (pointee (u8 .written))) l₁₃ 0) ∷ ‵ (fdies (tyRef erased mut (pointee (u8 .written))) l₁₃) ∷ ‵ (froom (sliceTy (tyRef erased mut (pointee (Session-t.the-row .written)))) l₁₂ 0) ∷ ‵ (fdies (sliceTy (tyRef erased mut (pointee (Session-t.the-row .written)))) l₁₂) ∷ ‵ (froom (tyRef erased mut (pointee (Session-t.the-row .written))) l₁₁ 0) ∷ ‵ (fdies (tyRef erased mut (pointee (Session-t.the-row .written))) l₁₁) ∷ ‵ (fat fullShare tyBool l₁₀ 0 (vbool (eqb r-kind-of 3))) ∷ ‵ (fdies tyBool l₁₀) ∷ ‵ (fat fullShare (tyInt w64) l₉ 0 w-place-of) ∷ ‵ (fdies (tyInt w64) l₉) ∷ ‵ (fat fullShare (tyInt w64) l₈ 0 w-size-of) ∷ ‵ (fdies (tyInt w64) l₈) ∷ ‵ (fat fullShare (tyInt w8) l₇ 0 (vint w8 r-kind-of)) ∷ ‵ (fdies (tyInt w8) l₇) ∷ ‵ (fat fullShare Ask-l.mir l₆ 0 w-ask-of) ∷ ‵ (fdies Ask-l.mir l₆) ∷ ‵ (fat fullShare (sliceTy (tyRef (named 2) mut (pointee (u8 .written)))) l₅ 0 v-out) ∷ ‵ (fdies (sliceTy (tyRef (named 2) mut (pointee (u8 .written)))) l₅) ∷ ‵ (fat fullShare (sliceTy (tyRef (named 1) imm (pointee (u8 .written)))) l₄ 0 v-octets) ∷ ‵ (fdies (sliceTy (tyRef (named 1) imm (pointee (u8 .written)))) l₄) ∷ ‵ (fat fullShare Line-l.mir l₃ 0 v-line) ∷ ‵ (fdies Line-l.mir l₃) ∷ ‵ (fat fullShare (sliceTy (tyRef (named 0) mut (pointee (Session-t.the-row .written)))) l₂ 0 v-recs) ∷ ‵ (fdies (sliceTy (tyRef (named 0) mut (pointee (Session-t.the-row .written)))) l₂) ∷ ‵ (fat fullShare Bench-l.mir l₁ 0 v-b) ∷ ‵ (fdies Bench-l.mir l₁) ∷ ‵ (froom Bench-l.mir l₀ 0) ∷ ‵ (fdies Bench-l.mir l₀) ∷ ‵ Own-octets ∷ ‵ Own-out ∷ ‵ Own-recs ∷ ‵ (flft κ₀ q₀) ∷ ‵ (flft κ₁ q₁) ∷ ‵ (flft κ₂ q₂) ∷ []) (runs C Λ (En l₀ l₁ l₂ l₃ l₄ l₅ l₆ l₇ l₈ l₉ l₁₀ l₁₁ l₁₂ l₁₃ l₁₄ l₁₅ l₁₆ l₁₇ l₁₈ l₁₉ l₂₀ l₂₁ l₂₂ l₂₃ l₂₄ l₂₅ l₂₆ l₂₇ l₂₈) mir.t-11 (atRet (En l₀ l₁ l₂ l₃ l₄ l₅ l₆ l₇ l₈ l₉ l₁₀ l₁₁ l₁₂ l₁₃ l₁₄ l₁₅ l₁₆ l₁₇ l₁₈ l₁₉ l₂₀ l₂₁ l₂₂ l₂₃ l₂₄ l₂₅ l₂₆ l₂₇ l₂₈) Post))
-      part-11 w-ask-of r-ask-of e-ask-of is-ask-of w-kind-of r-kind-of e-kind-of is-kind-of w-size-of r-size-of e-size-of is-size-of w-place-of r-place-of e-place-of is-place-of t t2 t3 =
-          -- _10 = _7 eq 4
-          assigns ! (bin ! (load ! (from ! (stop !)) (look ! 42 refl)) (lit ! tt) tt) (from ! (stop !)) (overwrite ! 36 refl (tt, tt)) $
+      part-13 : (w-ask-of : Val) → (r-ask-of : Ask) → (e-ask-of : r-ask-of ≡ askOf line) → (is-ask-of : Is Ask-t.the-row r-ask-of (w-ask-of ∷ [])) → (w-kind-of : Val) → (r-kind-of : ℕ) → (e-kind-of : r-kind-of ≡ r-ask-of .kind) → (is-kind-of : Is u8 r-kind-of (w-kind-of ∷ [])) → (w-size-of : Val) → (r-size-of : ℕ) → (e-size-of : r-size-of ≡ r-ask-of .size) → (is-size-of : Is usize r-size-of (w-size-of ∷ [])) → (w-place-of : Val) → (r-place-of : ℕ) → (e-place-of : r-place-of ≡ r-ask-of .place) → (is-place-of : Is usize r-place-of (w-place-of ∷ [])) → (t : (eqb r-kind-of 1) ≡ false) → (t2 : (eqb r-kind-of 2) ≡ false) → (t3 : (eqb r-kind-of 3) ≡ false) → (t4 : (eqb r-kind-of 4) ≡ false) → Sq W (‵ (froom (sliceTy (tyRef erased mut (pointee (u8 .written)))) l₃₂ 0) ∷ ‵ (fdies (sliceTy (tyRef erased mut (pointee (u8 .written)))) l₃₂) ∷ ‵ (froom (tyRef erased mut (pointee (u8 .written))) l₃₁ 0) ∷ ‵ (fdies (tyRef erased mut (pointee (u8 .written))) l₃₁) ∷ ‵ (froom (sliceTy (tyRef erased mut (pointee (u8 .written)))) l₃₀ 0) ∷ ‵ (fdies (sliceTy (tyRef erased mut (pointee (u8 .written)))) l₃₀) ∷ ‵ (froom (tyRef erased mut (pointee (u8 .written))) l₂₉ 0) ∷ ‵ (fdies (tyRef erased mut (pointee (u8 .written))) l₂₉) ∷ ‵ (froom (sliceTy (tyRef erased mut (pointee (Session-t.the-row .written)))) l₂₈ 0) ∷ ‵ (fdies (sliceTy (tyRef erased mut (pointee (Session-t.the-row .written)))) l₂₈) ∷ ‵ (froom (tyRef erased mut (pointee (Session-t.the-row .written))) l₂₇ 0) ∷ ‵ (fdies (tyRef erased mut (pointee (Session-t.the-row .written))) l₂₇) ∷ ‵ (froom (sliceTy (tyRef erased mut (pointee (u8 .written)))) l₂₆ 0) ∷ ‵ (fdies (sliceTy (tyRef erased mut (pointee (u8 .written)))) l₂₆) ∷ ‵ (froom (tyRef erased mut (pointee (u8 .written))) l₂₅ 0) ∷ ‵ (fdies (tyRef erased mut (pointee (u8 .written))) l₂₅) ∷ ‵ (froom (sliceTy (tyRef erased mut (pointee (Session-t.the-row .written)))) l₂₄ 0) ∷ ‵ (fdies (sliceTy (tyRef erased mut (pointee (Session-t.the-row .written)))) l₂₄) ∷ ‵ (froom (tyRef erased mut (pointee (Session-t.the-row .written))) l₂₃ 0) ∷ ‵ (fdies (tyRef erased mut (pointee (Session-t.the-row .written))) l₂₃) ∷ ‵ (froom (sliceTy (tyRef erased mut (pointee (u8 .written)))) l₂₂ 0) ∷ ‵ (fdies (sliceTy (tyRef erased mut (pointee (u8 .written)))) l₂₂) ∷ ‵ (froom (tyRef erased mut (pointee (u8 .written))) l₂₁ 0) ∷ ‵ (fdies (tyRef erased mut (pointee (u8 .written))) l₂₁) ∷ ‵ (froom (sliceTy (tyRef erased mut (pointee (Session-t.the-row .written)))) l₂₀ 0) ∷ ‵ (fdies (sliceTy (tyRef erased mut (pointee (Session-t.the-row .written)))) l₂₀) ∷ ‵ (froom (tyRef erased mut (pointee (Session-t.the-row .written))) l₁₉ 0) ∷ ‵ (fdies (tyRef erased mut (pointee (Session-t.the-row .written))) l₁₉) ∷ ‵ (froom (sliceTy (tyRef erased mut (pointee (u8 .written)))) l₁₈ 0) ∷ ‵ (fdies (sliceTy (tyRef erased mut (pointee (u8 .written)))) l₁₈) ∷ ‵ (froom (tyRef erased mut (pointee (u8 .written))) l₁₇ 0) ∷ ‵ (fdies (tyRef erased mut (pointee (u8 .written))) l₁₇) ∷ ‵ (froom (sliceTy (tyRef erased mut (pointee (Session-t.the-row .written)))) l₁₆ 0) ∷ ‵ (fdies (sliceTy (tyRef erased mut (pointee (Session-t.the-row .written)))) l₁₆) ∷ ‵ (froom (tyRef erased mut (pointee (Session-t.the-row .written))) l₁₅ 0) ∷ ‵ (fdies (tyRef erased mut (pointee (Session-t.the-row .written))) l₁₅) ∷ ‵ (froom (sliceTy (tyRef erased mut (pointee (u8 .written)))) l₁₄ 0) ∷ ‵ (fdies (sliceTy (tyRef erased mut (pointee (u8 .written)))) l₁₄) ∷ ‵ (froom (tyRef erased mut (pointee (u8 .written))) l₁₃ 0) ∷ ‵ (fdies (tyRef erased mut (pointee (u8 .written))) l₁₃) ∷ ‵ (froom (sliceTy (tyRef erased mut (pointee (Session-t.the-row .written)))) l₁₂ 0) ∷ ‵ (fdies (sliceTy (tyRef erased mut (pointee (Session-t.the-row .written)))) l₁₂) ∷ ‵ (froom (tyRef erased mut (pointee (Session-t.the-row .written))) l₁₁ 0) ∷ ‵ (fdies (tyRef erased mut (pointee (Session-t.the-row .written))) l₁₁) ∷ ‵ (fat fullShare tyBool l₁₀ 0 (vbool (eqb r-kind-of 4))) ∷ ‵ (fdies tyBool l₁₀) ∷ ‵ (fat fullShare (tyInt w64) l₉ 0 w-place-of) ∷ ‵ (fdies (tyInt w64) l₉) ∷ ‵ (fat fullShare (tyInt w64) l₈ 0 w-size-of) ∷ ‵ (fdies (tyInt w64) l₈) ∷ ‵ (fat fullShare (tyInt w8) l₇ 0 (vint w8 r-kind-of)) ∷ ‵ (fdies (tyInt w8) l₇) ∷ ‵ (fat fullShare Ask-l.mir l₆ 0 w-ask-of) ∷ ‵ (fdies Ask-l.mir l₆) ∷ ‵ (fat fullShare (sliceTy (tyRef (named 2) mut (pointee (u8 .written)))) l₅ 0 v-out) ∷ ‵ (fdies (sliceTy (tyRef (named 2) mut (pointee (u8 .written)))) l₅) ∷ ‵ (fat fullShare (sliceTy (tyRef (named 1) imm (pointee (u8 .written)))) l₄ 0 v-octets) ∷ ‵ (fdies (sliceTy (tyRef (named 1) imm (pointee (u8 .written)))) l₄) ∷ ‵ (fat fullShare Line-l.mir l₃ 0 v-line) ∷ ‵ (fdies Line-l.mir l₃) ∷ ‵ (fat fullShare (sliceTy (tyRef (named 0) mut (pointee (Session-t.the-row .written)))) l₂ 0 v-recs) ∷ ‵ (fdies (sliceTy (tyRef (named 0) mut (pointee (Session-t.the-row .written)))) l₂) ∷ ‵ (fat fullShare Bench-l.mir l₁ 0 v-b) ∷ ‵ (fdies Bench-l.mir l₁) ∷ ‵ (froom Bench-l.mir l₀ 0) ∷ ‵ (fdies Bench-l.mir l₀) ∷ ‵ Own-octets ∷ ‵ Own-out ∷ ‵ Own-recs ∷ ‵ (flft κ₀ q₀) ∷ ‵ (flft κ₁ q₁) ∷ ‵ (flft κ₂ q₂) ∷ []) (runs C Λ (En l₀ l₁ l₂ l₃ l₄ l₅ l₆ l₇ l₈ l₉ l₁₀ l₁₁ l₁₂ l₁₃ l₁₄ l₁₅ l₁₆ l₁₇ l₁₈ l₁₉ l₂₀ l₂₁ l₂₂ l₂₃ l₂₄ l₂₅ l₂₆ l₂₇ l₂₈ l₂₉ l₃₀ l₃₁ l₃₂) mir.t-13 (atRet (En l₀ l₁ l₂ l₃ l₄ l₅ l₆ l₇ l₈ l₉ l₁₀ l₁₁ l₁₂ l₁₃ l₁₄ l₁₅ l₁₆ l₁₇ l₁₈ l₁₉ l₂₀ l₂₁ l₂₂ l₂₃ l₂₄ l₂₅ l₂₆ l₂₇ l₂₈ l₂₉ l₃₀ l₃₁ l₃₂) Post))
+      part-13 w-ask-of r-ask-of e-ask-of is-ask-of w-kind-of r-kind-of e-kind-of is-kind-of w-size-of r-size-of e-size-of is-size-of w-place-of r-place-of e-place-of is-place-of t t2 t3 t4 =
+          -- _10 = _7 eq 5
+          assigns ! (bin ! (load ! (from ! (stop !)) (look ! 50 refl)) (lit ! tt) tt) (from ! (stop !)) (overwrite ! 44 refl (tt, tt)) $
           -- if _10
-          first ! $ branches ! (load ! (from ! (stop !)) (look ! 36 refl)) (λ on4. let t4 = on-true (eqb r-kind-of 4) on4 in
-          -- _23 = & _2.0.*
-          assigns ! (addr ! (from ! (fld ! refl (hop ! (look-in ! 52 (sub ! 0 refl (whole !))) (stop !))))) (from ! (stop !)) (init ! 10 refl (tt, tt)) $
-          -- _24 = {_23, _2.1}
-          assigns ! (agg ! (and-then ! (load ! (from ! (stop !)) (look ! 10 refl)) (and-then ! (load ! (from ! (fld ! refl (stop !))) (look-in ! 52 (sub ! 1 refl (whole !)))) (no-more !)))) (from ! (stop !)) (init ! 8 refl (tt, (tt, (record { fits = room-recs .0 }, tt)))) $
-          -- _25 = & _5.0.*
-          assigns ! (addr ! (from ! (fld ! refl (hop ! (look-in ! 46 (sub ! 0 refl (whole !))) (stop !))))) (from ! (stop !)) (init ! 6 refl (tt, tt)) $
-          -- _26 = {_25, _5.1}
-          assigns ! (agg ! (and-then ! (load ! (from ! (stop !)) (look ! 6 refl)) (and-then ! (load ! (from ! (fld ! refl (stop !))) (look-in ! 46 (sub ! 1 refl (whole !)))) (no-more !)))) (from ! (stop !)) (init ! 4 refl (tt, (tt, (record { fits = room-out .0 }, tt)))) $
-          -- _0 = run_close(_1, _24, _9, _26)
-          nothing ! $ move ! (64 ∷ 0 ∷ []) $ join ! $ move ! (62 ∷ 0 ∷ []) $ join ! $ nothing ! $ move ! (61 ∷ 0 ∷ []) $ fjoin ! $ owned ! usize (Is usize) (uint-makes 𝓤 H A W w64) r-place-of _ is-place-of $ fjoin ! $ move ! (61 ∷ 0 ∷ []) $
+          first ! $ branches ! (load ! (from ! (stop !)) (look ! 44 refl)) (λ on5. let t5 = on-true (eqb r-kind-of 5) on5 in
+          -- _27 = & _2.0.*
+          assigns ! (addr ! (from ! (fld ! refl (hop ! (look-in ! 60 (sub ! 0 refl (whole !))) (stop !))))) (from ! (stop !)) (init ! 10 refl (tt, tt)) $
+          -- _28 = {_27, _2.1}
+          assigns ! (agg ! (and-then ! (load ! (from ! (stop !)) (look ! 10 refl)) (and-then ! (load ! (from ! (fld ! refl (stop !))) (look-in ! 60 (sub ! 1 refl (whole !)))) (no-more !)))) (from ! (stop !)) (init ! 8 refl (tt, (tt, (record { fits = room-recs .0 }, tt)))) $
+          -- _29 = & _5.0.*
+          assigns ! (addr ! (from ! (fld ! refl (hop ! (look-in ! 54 (sub ! 0 refl (whole !))) (stop !))))) (from ! (stop !)) (init ! 6 refl (tt, tt)) $
+          -- _30 = {_29, _5.1}
+          assigns ! (agg ! (and-then ! (load ! (from ! (stop !)) (look ! 6 refl)) (and-then ! (load ! (from ! (fld ! refl (stop !))) (look-in ! 54 (sub ! 1 refl (whole !)))) (no-more !)))) (from ! (stop !)) (init ! 4 refl (tt, (tt, (record { fits = room-out .0 }, tt)))) $
+          -- _0 = run_close(_1, _28, _9, _30)
+          nothing ! $ move ! (72 ∷ 0 ∷ []) $ join ! $ move ! (70 ∷ 0 ∷ []) $ join ! $ nothing ! $ move ! (69 ∷ 0 ∷ []) $ fjoin ! $ owned ! usize (Is usize) (uint-makes 𝓤 H A W w64) r-place-of _ is-place-of $ fjoin ! $ move ! (69 ∷ 0 ∷ []) $
           fjoin ! $ owned ! Bench-t.the-row (Is Bench-t.the-row) (LL.makes Bench-t.the-type Bench-l.the-plain 𝓤 H A) b _ is-b $ fjoin ! $ move ! (1 ∷ 0 ∷ []) $
           use2 W (raw (c-run-close 𝓤 H A mem run .pre (((κ₀, (κ₂, tt)), (q₀, (q₂, tt)), tt, (b, (recs, (r-place-of, (out, tt)))), (v-b ∷ [], (v-recs ∷ [], (w-place-of ∷ [], (v-out ∷ [], tt))))), tt))) (qed W ((‵ (flft κ₀ q₀) ⊛ ‵ (flft κ₂ q₂) ⊛ ‵ ftrue) ∷ ‵ (fsep (Bench-t.the-row .own b (v-b ∷ [])) (fsep Own-recs (fsep (usize .own r-place-of (w-place-of ∷ [])) (fsep Own-out ftrue)))) ∷ []) ∵ join ! $ frame ! $ done !) $
-          calls-at ! fm (c-run-close 𝓤 H A mem run) known-run-close (((κ₀, (κ₂, tt)), (q₀, (q₂, tt)), tt, (b, (recs, (r-place-of, (out, tt)))), (v-b ∷ [], (v-recs ∷ [], (w-place-of ∷ [], (v-out ∷ [], tt))))), tt) (and-then ! (load ! (from ! (stop !)) (look ! 55 refl)) (and-then ! (load ! (from ! (stop !)) (look ! 9 refl)) (and-then ! (load ! (from ! (stop !)) (look ! 39 refl)) (and-then ! (load ! (from ! (stop !)) (look ! 5 refl)) (no-more !))))) (λ w-run-close.
+          calls-at ! fm (c-run-close 𝓤 H A mem run) known-run-close (((κ₀, (κ₂, tt)), (q₀, (q₂, tt)), tt, (b, (recs, (r-place-of, (out, tt)))), (v-b ∷ [], (v-recs ∷ [], (w-place-of ∷ [], (v-out ∷ [], tt))))), tt) (and-then ! (load ! (from ! (stop !)) (look ! 63 refl)) (and-then ! (load ! (from ! (stop !)) (look ! 9 refl)) (and-then ! (load ! (from ! (stop !)) (look ! 47 refl)) (and-then ! (load ! (from ! (stop !)) (look ! 5 refl)) (no-more !))))) (λ w-run-close.
           use1 W (later (some (λ (r-run-close : Bench). ((‵ (flft κ₀ q₀) ⊛ ‵ (flft κ₂ q₂) ⊛ ‵ ftrue) ⊛ ‵ (Bench-t.the-row .own r-run-close (w-run-close ∷ []))) ⊛ raw (ensured 𝓤 H A c-run-close′.ended (c-run-close′.clauses 𝓤 H A mem run) (κ₀, (κ₂, tt)) (b, (recs, (r-place-of, (out, tt)))) tt r-run-close)))) (id⊢ 𝓤 _) $ await ! tt $
           pick ! (λ r-run-close. split ! $ move ! (1 ∷ []) $
           use1 W (some (λ (z-run-close : (Unit {0}) × ((List Session) × ((Unit {0}) × ((List ℕ) × Unit {0})))). ‵ (lasts c-run-close′.ended (κ₀, (κ₂, tt)) (b, (recs, (r-place-of, (out, tt)))) z-run-close) ⊛ raw (fact 𝓤 (ran r-run-close (z-run-close .1 .0) (z-run-close .1 .1 .1 .0) ≡ thenSent (unitShown (closeOf (b .node) (ys-recs) r-place-of) b (ys-out)))))) (id⊢ 𝓤 _) $
           pick ! (λ z-run-close. split ! $ move ! (1 ∷ []) $ heard ! (ran r-run-close (z-run-close .1 .0) (z-run-close .1 .1 .1 .0) ≡ thenSent (unitShown (closeOf (b .node) (ys-recs) r-place-of) b (ys-out))) (λ e-run-close. fsplit ! $
           drop ! $ fsplit ! $ fsplit ! $ move ! (1 ∷ []) $ feqL ! (λ len-run-close-recs. move ! (1 ∷ []) $ fsplit ! $ drop ! $ fsplit ! $ fsplit ! $ move ! (1 ∷ []) $ feqL ! (λ len-run-close-out. move ! (1 ∷ []) $ drop ! $ move ! (2 ∷ []) $
           split ! $ split ! $ move ! (1 ∷ []) $ split ! $ move ! (1 ∷ []) $ drop ! $ move ! (2 ∷ []) $ peeks ! Bench-t.the-row (Is Bench-t.the-row) (shows 𝓤 H A Bench-t.the-row) r-run-close (w-run-close ∷ []) (λ is-run-close.
-          land ! (from ! (stop !)) (init ! 61 refl (LL.lawful Bench-t.the-type Bench-l.the-laws 𝓤 H A W .typed r-run-close _ is-run-close .0)) $ drop ! $
+          land ! (from ! (stop !)) (init ! 69 refl (LL.lawful Bench-t.the-type Bench-l.the-laws 𝓤 H A W .typed r-run-close _ is-run-close .0)) $ drop ! $
           -- return
-          returns-within ! Post refl (look ! 60 refl) $
-          forget ! 8 refl $ forget ! 10 refl $ forget ! 12 refl $ forget ! 14 refl $ forget ! 40 refl $ forget ! 42 refl $ forget ! 44 refl $ forget ! 46 refl $ forget ! 48 refl $ forget ! 50 refl $ forget ! 52 refl $ forget ! 54 refl $ forget ! 56 refl $ forget ! 58 refl $ forget ! 60 refl $
-          move ! (60 ∷ 61 ∷ []) $ free1 ! $ move ! (58 ∷ 59 ∷ []) $ free1 ! $ move ! (56 ∷ 57 ∷ []) $ free1 ! $ move ! (54 ∷ 55 ∷ []) $ free1 ! $ move ! (52 ∷ 53 ∷ []) $ free1 ! $ move ! (50 ∷ 51 ∷ []) $ free1 ! $ move ! (48 ∷ 49 ∷ []) $ free1 ! $ move ! (46 ∷ 47 ∷ []) $ free1 ! $ move ! (44 ∷ 45 ∷ []) $ free1 ! $ move ! (42 ∷ 43 ∷ []) $ free1 ! $ move ! (40 ∷ 41 ∷ []) $ free1 ! $ move ! (38 ∷ 39 ∷ []) $ free1 ! $ move ! (36 ∷ 37 ∷ []) $ free1 ! $ move ! (34 ∷ 35 ∷ []) $ free1 ! $ move ! (32 ∷ 33 ∷ []) $ free1 ! $ move ! (30 ∷ 31 ∷ []) $ free1 ! $ move ! (28 ∷ 29 ∷ []) $ free1 ! $ move ! (26 ∷ 27 ∷ []) $ free1 ! $ move ! (24 ∷ 25 ∷ []) $ free1 ! $ move ! (22 ∷ 23 ∷ []) $ free1 ! $ move ! (20 ∷ 21 ∷ []) $ free1 ! $ move ! (18 ∷ 19 ∷ []) $ free1 ! $ move ! (16 ∷ 17 ∷ []) $ free1 ! $ move ! (14 ∷ 15 ∷ []) $ free1 ! $ move ! (12 ∷ 13 ∷ []) $ free1 ! $ move ! (10 ∷ 11 ∷ []) $ free1 ! $ move ! (8 ∷ 9 ∷ []) $ free1 ! $ move ! (6 ∷ 7 ∷ []) $ free1 ! $ move ! (4 ∷ 5 ∷ []) $ free1 ! $ free0 ! $
+          returns-within ! Post refl (look ! 68 refl) $
+          forget ! 8 refl $ forget ! 10 refl $ forget ! 12 refl $ forget ! 14 refl $ forget ! 48 refl $ forget ! 50 refl $ forget ! 52 refl $ forget ! 54 refl $ forget ! 56 refl $ forget ! 58 refl $ forget ! 60 refl $ forget ! 62 refl $ forget ! 64 refl $ forget ! 66 refl $ forget ! 68 refl $
+          move ! (68 ∷ 69 ∷ []) $ free1 ! $ move ! (66 ∷ 67 ∷ []) $ free1 ! $ move ! (64 ∷ 65 ∷ []) $ free1 ! $ move ! (62 ∷ 63 ∷ []) $ free1 ! $ move ! (60 ∷ 61 ∷ []) $ free1 ! $ move ! (58 ∷ 59 ∷ []) $ free1 ! $ move ! (56 ∷ 57 ∷ []) $ free1 ! $ move ! (54 ∷ 55 ∷ []) $ free1 ! $ move ! (52 ∷ 53 ∷ []) $ free1 ! $ move ! (50 ∷ 51 ∷ []) $ free1 ! $ move ! (48 ∷ 49 ∷ []) $ free1 ! $ move ! (46 ∷ 47 ∷ []) $ free1 ! $ move ! (44 ∷ 45 ∷ []) $ free1 ! $ move ! (42 ∷ 43 ∷ []) $ free1 ! $ move ! (40 ∷ 41 ∷ []) $ free1 ! $ move ! (38 ∷ 39 ∷ []) $ free1 ! $ move ! (36 ∷ 37 ∷ []) $ free1 ! $ move ! (34 ∷ 35 ∷ []) $ free1 ! $ move ! (32 ∷ 33 ∷ []) $ free1 ! $ move ! (30 ∷ 31 ∷ []) $ free1 ! $ move ! (28 ∷ 29 ∷ []) $ free1 ! $ move ! (26 ∷ 27 ∷ []) $ free1 ! $ move ! (24 ∷ 25 ∷ []) $ free1 ! $ move ! (22 ∷ 23 ∷ []) $ free1 ! $ move ! (20 ∷ 21 ∷ []) $ free1 ! $ move ! (18 ∷ 19 ∷ []) $ free1 ! $ move ! (16 ∷ 17 ∷ []) $ free1 ! $ move ! (14 ∷ 15 ∷ []) $ free1 ! $ move ! (12 ∷ 13 ∷ []) $ free1 ! $ move ! (10 ∷ 11 ∷ []) $ free1 ! $ move ! (8 ∷ 9 ∷ []) $ free1 ! $ move ! (6 ∷ 7 ∷ []) $ free1 ! $ move ! (4 ∷ 5 ∷ []) $ free1 ! $ free0 ! $
           owned ! Bench-t.the-row (Is Bench-t.the-row) (LL.makes Bench-t.the-type Bench-l.the-plain 𝓤 H A) r-run-close _ is-run-close $ nothing ! $ move ! (2 ∷ 0 ∷ []) $ join ! $ move ! (6 ∷ 0 ∷ []) $ join ! $ move ! (2 ∷ 0 ∷ []) $ join ! $
           keep ! (0 ∷ 3 ∷ 2 ∷ 1 ∷ []) $
-          by ! (exits r-run-close w-run-close (z-run-close .1 .0) (z-run-close .1 .1 .1 .0) (asks-close line (now octets) b ys-recs ys-out (ran r-run-close (z-run-close .1 .0) (z-run-close .1 .1 .1 .0)) r-ask-of r-kind-of r-size-of r-place-of e-ask-of e-kind-of e-size-of e-place-of t t2 t3 t4 e-run-close) len-run-close-recs len-run-close-out)))))))))
-          (λ off4. let t4 = off-false (eqb r-kind-of 4) off4 in
-          skips ! $ exec ! C Λ (En l₀ l₁ l₂ l₃ l₄ l₅ l₆ l₇ l₈ l₉ l₁₀ l₁₁ l₁₂ l₁₃ l₁₄ l₁₅ l₁₆ l₁₇ l₁₈ l₁₉ l₂₀ l₂₁ l₂₂ l₂₃ l₂₄ l₂₅ l₂₆ l₂₇ l₂₈) mir.t-13 (atRet (En l₀ l₁ l₂ l₃ l₄ l₅ l₆ l₇ l₈ l₉ l₁₀ l₁₁ l₁₂ l₁₃ l₁₄ l₁₅ l₁₆ l₁₇ l₁₈ l₁₉ l₂₀ l₂₁ l₂₂ l₂₃ l₂₄ l₂₅ l₂₆ l₂₇ l₂₈) Post) $
-          keep ! (0 ∷ 1 ∷ 2 ∷ 3 ∷ 4 ∷ 5 ∷ 6 ∷ 7 ∷ 8 ∷ 9 ∷ 10 ∷ 11 ∷ 12 ∷ 13 ∷ 14 ∷ 15 ∷ 16 ∷ 17 ∷ 18 ∷ 19 ∷ 20 ∷ 21 ∷ 22 ∷ 23 ∷ 24 ∷ 25 ∷ 26 ∷ 27 ∷ 28 ∷ 29 ∷ 30 ∷ 31 ∷ 32 ∷ 33 ∷ 34 ∷ 35 ∷ 36 ∷ 37 ∷ 38 ∷ 39 ∷ 40 ∷ 41 ∷ 42 ∷ 43 ∷ 44 ∷ 45 ∷ 46 ∷ 47 ∷ 48 ∷ 49 ∷ 50 ∷ 51 ∷ 52 ∷ 53 ∷ 54 ∷ 55 ∷ 56 ∷ 57 ∷ 58 ∷ 59 ∷ 60 ∷ 61 ∷ 62 ∷ 63 ∷ []) $
-          part-13 w-ask-of r-ask-of e-ask-of is-ask-of w-kind-of r-kind-of e-kind-of is-kind-of w-size-of r-size-of e-size-of is-size-of w-place-of r-place-of e-place-of is-place-of t t2 t3 t4)
+          by ! (exits r-run-close w-run-close (z-run-close .1 .0) (z-run-close .1 .1 .1 .0) (asks-close line (now octets) b ys-recs ys-out (ran r-run-close (z-run-close .1 .0) (z-run-close .1 .1 .1 .0)) r-ask-of r-kind-of r-size-of r-place-of e-ask-of e-kind-of e-size-of e-place-of t t2 t3 t4 t5 e-run-close) len-run-close-recs len-run-close-out)))))))))
+          (λ off5. let t5 = off-false (eqb r-kind-of 5) off5 in
+          skips ! $ exec ! C Λ (En l₀ l₁ l₂ l₃ l₄ l₅ l₆ l₇ l₈ l₉ l₁₀ l₁₁ l₁₂ l₁₃ l₁₄ l₁₅ l₁₆ l₁₇ l₁₈ l₁₉ l₂₀ l₂₁ l₂₂ l₂₃ l₂₄ l₂₅ l₂₆ l₂₇ l₂₈ l₂₉ l₃₀ l₃₁ l₃₂) mir.t-15 (atRet (En l₀ l₁ l₂ l₃ l₄ l₅ l₆ l₇ l₈ l₉ l₁₀ l₁₁ l₁₂ l₁₃ l₁₄ l₁₅ l₁₆ l₁₇ l₁₈ l₁₉ l₂₀ l₂₁ l₂₂ l₂₃ l₂₄ l₂₅ l₂₆ l₂₇ l₂₈ l₂₉ l₃₀ l₃₁ l₃₂) Post) $
+          keep ! (0 ∷ 1 ∷ 2 ∷ 3 ∷ 4 ∷ 5 ∷ 6 ∷ 7 ∷ 8 ∷ 9 ∷ 10 ∷ 11 ∷ 12 ∷ 13 ∷ 14 ∷ 15 ∷ 16 ∷ 17 ∷ 18 ∷ 19 ∷ 20 ∷ 21 ∷ 22 ∷ 23 ∷ 24 ∷ 25 ∷ 26 ∷ 27 ∷ 28 ∷ 29 ∷ 30 ∷ 31 ∷ 32 ∷ 33 ∷ 34 ∷ 35 ∷ 36 ∷ 37 ∷ 38 ∷ 39 ∷ 40 ∷ 41 ∷ 42 ∷ 43 ∷ 44 ∷ 45 ∷ 46 ∷ 47 ∷ 48 ∷ 49 ∷ 50 ∷ 51 ∷ 52 ∷ 53 ∷ 54 ∷ 55 ∷ 56 ∷ 57 ∷ 58 ∷ 59 ∷ 60 ∷ 61 ∷ 62 ∷ 63 ∷ 64 ∷ 65 ∷ 66 ∷ 67 ∷ 68 ∷ 69 ∷ 70 ∷ 71 ∷ []) $
+          part-15 w-ask-of r-ask-of e-ask-of is-ask-of w-kind-of r-kind-of e-kind-of is-kind-of w-size-of r-size-of e-size-of is-size-of w-place-of r-place-of e-place-of is-place-of t t2 t3 t4 t5)
 
-      part-9 : (w-ask-of : Val) → (r-ask-of : Ask) → (e-ask-of : r-ask-of ≡ askOf line) → (is-ask-of : Is Ask-t.the-row r-ask-of (w-ask-of ∷ [])) → (w-kind-of : Val) → (r-kind-of : ℕ) → (e-kind-of : r-kind-of ≡ r-ask-of .kind) → (is-kind-of : Is u8 r-kind-of (w-kind-of ∷ [])) → (w-size-of : Val) → (r-size-of : ℕ) → (e-size-of : r-size-of ≡ r-ask-of .size) → (is-size-of : Is usize r-size-of (w-size-of ∷ [])) → (w-place-of : Val) → (r-place-of : ℕ) → (e-place-of : r-place-of ≡ r-ask-of .place) → (is-place-of : Is usize r-place-of (w-place-of ∷ [])) → (t : (eqb r-kind-of 1) ≡ false) → (t2 : (eqb r-kind-of 2) ≡ false) → Sq W (‵ (froom (sliceTy (tyRef erased mut (pointee (u8 .written)))) l₂₈ 0) ∷ ‵ (fdies (sliceTy (tyRef erased mut (pointee (u8 .written)))) l₂₈) ∷ ‵ (froom (tyRef erased mut (pointee (u8 .written))) l₂₇ 0) ∷ ‵ (fdies (tyRef erased mut (pointee (u8 .written))) l₂₇) ∷ ‵ (froom (sliceTy (tyRef erased mut (pointee (u8 .written)))) l₂₆ 0) ∷ ‵ (fdies (sliceTy (tyRef erased mut (pointee (u8 .written)))) l₂₆) ∷ ‵ (froom (tyRef erased mut (pointee (u8 .written))) l₂₅ 0) ∷ ‵ (fdies (tyRef erased mut (pointee (u8 .written))) l₂₅) ∷ ‵ (froom (sliceTy (tyRef erased mut (pointee (Session-t.the-row .written)))) l₂₄ 0) ∷ ‵ (fdies (sliceTy (tyRef erased mut (pointee (Session-t.the-row .written)))) l₂₄) ∷ ‵ (froom (tyRef erased mut (pointee (Session-t.the-row .written))) l₂₃ 0) ∷ ‵ (fdies (tyRef erased mut (pointee (Session-t.the-row .written))) l₂₃) ∷ ‵ (froom (sliceTy (tyRef erased mut (pointee (u8 .written)))) l₂₂ 0) ∷ ‵ (fdies (sliceTy (tyRef erased mut (pointee (u8 .written)))) l₂₂) ∷ ‵ (froom (tyRef erased mut (pointee (u8 .written))) l₂₁ 0) ∷ ‵ (fdies (tyRef erased mut (pointee (u8 .written))) l₂₁) ∷ ‵ (froom (sliceTy (tyRef erased mut (pointee (Session-t.the-row .written)))) l₂₀ 0) ∷ ‵ (fdies (sliceTy (tyRef erased mut (pointee (Session-t.the-row .written)))) l₂₀) ∷ ‵ (froom (tyRef erased mut (pointee (Session-t.the-row .written))) l₁₉ 0) ∷ ‵ (fdies (tyRef erased mut (pointee (Session-t.the-row .written))) l₁₉) ∷ ‵ (froom (sliceTy (tyRef erased mut (pointee (u8 .written)))) l₁₈ 0) ∷ ‵ (fdies (sliceTy (tyRef erased mut (pointee (u8 .written)))) l₁₈) ∷ ‵ (froom (tyRef erased mut (pointee (u8 .written))) l₁₇ 0) ∷ ‵ (fdies (tyRef erased mut (pointee (u8 .written))) l₁₇) ∷ ‵ (froom (sliceTy (tyRef erased mut (pointee (Session-t.the-row .written)))) l₁₆ 0) ∷ ‵ (fdies (sliceTy (tyRef erased mut (pointee (Session-t.the-row .written)))) l₁₆) ∷ ‵ (froom (tyRef erased mut (pointee (Session-t.the-row .written))) l₁₅ 0) ∷ ‵ (fdies (tyRef erased mut (pointee (Session-t.the-row .written))) l₁₅) ∷ ‵ (froom (sliceTy (tyRef erased mut (pointee (u8 .written)))) l₁₄ 0) ∷ ‵ (fdies (sliceTy (tyRef erased mut (pointee (u8 .written)))) l₁₄) ∷ ‵ (froom (tyRef erased mut (pointee (u8 .written))) l₁₃ 0) ∷ ‵ (fdies (tyRef erased mut (pointee (u8 .written))) l₁₃) ∷ ‵ (froom (sliceTy (tyRef erased mut (pointee (Session-t.the-row .written)))) l₁₂ 0) ∷ ‵ (fdies (sliceTy (tyRef erased mut (pointee (Session-t.the-row .written)))) l₁₂) ∷ ‵ (froom (tyRef erased mut (pointee (Session-t.the-row .written))) l₁₁ 0) ∷ ‵ (fdies (tyRef erased mut (pointee (Session-t.the-row .written))) l₁₁) ∷ ‵ (fat fullShare tyBool l₁₀ 0 (vbool (eqb r-kind-of 2))) ∷ ‵ (fdies tyBool l₁₀) ∷ ‵ (fat fullShare (tyInt w64) l₉ 0 w-place-of) ∷ ‵ (fdies (tyInt w64) l₉) ∷ ‵ (fat fullShare (tyInt w64) l₈ 0 w-size-of) ∷ ‵ (fdies (tyInt w64) l₈) ∷ ‵ (fat fullShare (tyInt w8) l₇ 0 (vint w8 r-kind-of)) ∷ ‵ (fdies (tyInt w8) l₇) ∷ ‵ (fat fullShare Ask-l.mir l₆ 0 w-ask-of) ∷ ‵ (fdies Ask-l.mir l₆) ∷ ‵ (fat fullShare (sliceTy (tyRef (named 2) mut (pointee (u8 .written)))) l₅ 0 v-out) ∷ ‵ (fdies (sliceTy (tyRef (named 2) mut (pointee (u8 .written)))) l₅) ∷ ‵ (fat fullShare (sliceTy (tyRef (named 1) imm (pointee (u8 .written)))) l₄ 0 v-octets) ∷ ‵ (fdies (sliceTy (tyRef (named 1) imm (pointee (u8 .written)))) l₄) ∷ ‵ (fat fullShare Line-l.mir l₃ 0 v-line) ∷ ‵ (fdies Line-l.mir l₃) ∷ ‵ (fat fullShare (sliceTy (tyRef (named 0) mut (pointee (Session-t.the-row .written)))) l₂ 0 v-recs) ∷ ‵ (fdies (sliceTy (tyRef (named 0) mut (pointee (Session-t.the-row .written)))) l₂) ∷ ‵ (fat fullShare Bench-l.mir l₁ 0 v-b) ∷ ‵ (fdies Bench-l.mir l₁) ∷ ‵ (froom Bench-l.mir l₀ 0) ∷ ‵ (fdies Bench-l.mir l₀) ∷ ‵ Own-octets ∷ ‵ Own-out ∷ ‵ Own-recs ∷ ‵ (flft κ₀ q₀) ∷ ‵ (flft κ₁ q₁) ∷ ‵ (flft κ₂ q₂) ∷ []) (runs C Λ (En l₀ l₁ l₂ l₃ l₄ l₅ l₆ l₇ l₈ l₉ l₁₀ l₁₁ l₁₂ l₁₃ l₁₄ l₁₅ l₁₆ l₁₇ l₁₈ l₁₉ l₂₀ l₂₁ l₂₂ l₂₃ l₂₄ l₂₅ l₂₆ l₂₇ l₂₈) mir.t-9 (atRet (En l₀ l₁ l₂ l₃ l₄ l₅ l₆ l₇ l₈ l₉ l₁₀ l₁₁ l₁₂ l₁₃ l₁₄ l₁₅ l₁₆ l₁₇ l₁₈ l₁₉ l₂₀ l₂₁ l₂₂ l₂₃ l₂₄ l₂₅ l₂₆ l₂₇ l₂₈) Post))
-      part-9 w-ask-of r-ask-of e-ask-of is-ask-of w-kind-of r-kind-of e-kind-of is-kind-of w-size-of r-size-of e-size-of is-size-of w-place-of r-place-of e-place-of is-place-of t t2 =
-          -- _10 = _7 eq 3
-          assigns ! (bin ! (load ! (from ! (stop !)) (look ! 42 refl)) (lit ! tt) tt) (from ! (stop !)) (overwrite ! 36 refl (tt, tt)) $
+      part-11 : (w-ask-of : Val) → (r-ask-of : Ask) → (e-ask-of : r-ask-of ≡ askOf line) → (is-ask-of : Is Ask-t.the-row r-ask-of (w-ask-of ∷ [])) → (w-kind-of : Val) → (r-kind-of : ℕ) → (e-kind-of : r-kind-of ≡ r-ask-of .kind) → (is-kind-of : Is u8 r-kind-of (w-kind-of ∷ [])) → (w-size-of : Val) → (r-size-of : ℕ) → (e-size-of : r-size-of ≡ r-ask-of .size) → (is-size-of : Is usize r-size-of (w-size-of ∷ [])) → (w-place-of : Val) → (r-place-of : ℕ) → (e-place-of : r-place-of ≡ r-ask-of .place) → (is-place-of : Is usize r-place-of (w-place-of ∷ [])) → (t : (eqb r-kind-of 1) ≡ false) → (t2 : (eqb r-kind-of 2) ≡ false) → (t3 : (eqb r-kind-of 3) ≡ false) → Sq W (‵ (froom (sliceTy (tyRef erased mut (pointee (u8 .written)))) l₃₂ 0) ∷ ‵ (fdies (sliceTy (tyRef erased mut (pointee (u8 .written)))) l₃₂) ∷ ‵ (froom (tyRef erased mut (pointee (u8 .written))) l₃₁ 0) ∷ ‵ (fdies (tyRef erased mut (pointee (u8 .written))) l₃₁) ∷ ‵ (froom (sliceTy (tyRef erased mut (pointee (u8 .written)))) l₃₀ 0) ∷ ‵ (fdies (sliceTy (tyRef erased mut (pointee (u8 .written)))) l₃₀) ∷ ‵ (froom (tyRef erased mut (pointee (u8 .written))) l₂₉ 0) ∷ ‵ (fdies (tyRef erased mut (pointee (u8 .written))) l₂₉) ∷ ‵ (froom (sliceTy (tyRef erased mut (pointee (Session-t.the-row .written)))) l₂₈ 0) ∷ ‵ (fdies (sliceTy (tyRef erased mut (pointee (Session-t.the-row .written)))) l₂₈) ∷ ‵ (froom (tyRef erased mut (pointee (Session-t.the-row .written))) l₂₇ 0) ∷ ‵ (fdies (tyRef erased mut (pointee (Session-t.the-row .written))) l₂₇) ∷ ‵ (froom (sliceTy (tyRef erased mut (pointee (u8 .written)))) l₂₆ 0) ∷ ‵ (fdies (sliceTy (tyRef erased mut (pointee (u8 .written)))) l₂₆) ∷ ‵ (froom (tyRef erased mut (pointee (u8 .written))) l₂₅ 0) ∷ ‵ (fdies (tyRef erased mut (pointee (u8 .written))) l₂₅) ∷ ‵ (froom (sliceTy (tyRef erased mut (pointee (Session-t.the-row .written)))) l₂₄ 0) ∷ ‵ (fdies (sliceTy (tyRef erased mut (pointee (Session-t.the-row .written)))) l₂₄) ∷ ‵ (froom (tyRef erased mut (pointee (Session-t.the-row .written))) l₂₃ 0) ∷ ‵ (fdies (tyRef erased mut (pointee (Session-t.the-row .written))) l₂₃) ∷ ‵ (froom (sliceTy (tyRef erased mut (pointee (u8 .written)))) l₂₂ 0) ∷ ‵ (fdies (sliceTy (tyRef erased mut (pointee (u8 .written)))) l₂₂) ∷ ‵ (froom (tyRef erased mut (pointee (u8 .written))) l₂₁ 0) ∷ ‵ (fdies (tyRef erased mut (pointee (u8 .written))) l₂₁) ∷ ‵ (froom (sliceTy (tyRef erased mut (pointee (Session-t.the-row .written)))) l₂₀ 0) ∷ ‵ (fdies (sliceTy (tyRef erased mut (pointee (Session-t.the-row .written)))) l₂₀) ∷ ‵ (froom (tyRef erased mut (pointee (Session-t.the-row .written))) l₁₉ 0) ∷ ‵ (fdies (tyRef erased mut (pointee (Session-t.the-row .written))) l₁₉) ∷ ‵ (froom (sliceTy (tyRef erased mut (pointee (u8 .written)))) l₁₈ 0) ∷ ‵ (fdies (sliceTy (tyRef erased mut (pointee (u8 .written)))) l₁₈) ∷ ‵ (froom (tyRef erased mut (pointee (u8 .written))) l₁₇ 0) ∷ ‵ (fdies (tyRef erased mut (pointee (u8 .written))) l₁₇) ∷ ‵ (froom (sliceTy (tyRef erased mut (pointee (Session-t.the-row .written)))) l₁₆ 0) ∷ ‵ (fdies (sliceTy (tyRef erased mut (pointee (Session-t.the-row .written)))) l₁₆) ∷ ‵ (froom (tyRef erased mut (pointee (Session-t.the-row .written))) l₁₅ 0) ∷ ‵ (fdies (tyRef erased mut (pointee (Session-t.the-row .written))) l₁₅) ∷ ‵ (froom (sliceTy (tyRef erased mut (pointee (u8 .written)))) l₁₄ 0) ∷ ‵ (fdies (sliceTy (tyRef erased mut (pointee (u8 .written)))) l₁₄) ∷ ‵ (froom (tyRef erased mut (pointee (u8 .written))) l₁₃ 0) ∷ ‵ (fdies (tyRef erased mut (pointee (u8 .written))) l₁₃) ∷ ‵ (froom (sliceTy (tyRef erased mut (pointee (Session-t.the-row .written)))) l₁₂ 0) ∷ ‵ (fdies (sliceTy (tyRef erased mut (pointee (Session-t.the-row .written)))) l₁₂) ∷ ‵ (froom (tyRef erased mut (pointee (Session-t.the-row .written))) l₁₁ 0) ∷ ‵ (fdies (tyRef erased mut (pointee (Session-t.the-row .written))) l₁₁) ∷ ‵ (fat fullShare tyBool l₁₀ 0 (vbool (eqb r-kind-of 3))) ∷ ‵ (fdies tyBool l₁₀) ∷ ‵ (fat fullShare (tyInt w64) l₉ 0 w-place-of) ∷ ‵ (fdies (tyInt w64) l₉) ∷ ‵ (fat fullShare (tyInt w64) l₈ 0 w-size-of) ∷ ‵ (fdies (tyInt w64) l₈) ∷ ‵ (fat fullShare (tyInt w8) l₇ 0 (vint w8 r-kind-of)) ∷ ‵ (fdies (tyInt w8) l₇) ∷ ‵ (fat fullShare Ask-l.mir l₆ 0 w-ask-of) ∷ ‵ (fdies Ask-l.mir l₆) ∷ ‵ (fat fullShare (sliceTy (tyRef (named 2) mut (pointee (u8 .written)))) l₅ 0 v-out) ∷ ‵ (fdies (sliceTy (tyRef (named 2) mut (pointee (u8 .written)))) l₅) ∷ ‵ (fat fullShare (sliceTy (tyRef (named 1) imm (pointee (u8 .written)))) l₄ 0 v-octets) ∷ ‵ (fdies (sliceTy (tyRef (named 1) imm (pointee (u8 .written)))) l₄) ∷ ‵ (fat fullShare Line-l.mir l₃ 0 v-line) ∷ ‵ (fdies Line-l.mir l₃) ∷ ‵ (fat fullShare (sliceTy (tyRef (named 0) mut (pointee (Session-t.the-row .written)))) l₂ 0 v-recs) ∷ ‵ (fdies (sliceTy (tyRef (named 0) mut (pointee (Session-t.the-row .written)))) l₂) ∷ ‵ (fat fullShare Bench-l.mir l₁ 0 v-b) ∷ ‵ (fdies Bench-l.mir l₁) ∷ ‵ (froom Bench-l.mir l₀ 0) ∷ ‵ (fdies Bench-l.mir l₀) ∷ ‵ Own-octets ∷ ‵ Own-out ∷ ‵ Own-recs ∷ ‵ (flft κ₀ q₀) ∷ ‵ (flft κ₁ q₁) ∷ ‵ (flft κ₂ q₂) ∷ []) (runs C Λ (En l₀ l₁ l₂ l₃ l₄ l₅ l₆ l₇ l₈ l₉ l₁₀ l₁₁ l₁₂ l₁₃ l₁₄ l₁₅ l₁₆ l₁₇ l₁₈ l₁₉ l₂₀ l₂₁ l₂₂ l₂₃ l₂₄ l₂₅ l₂₆ l₂₇ l₂₈ l₂₉ l₃₀ l₃₁ l₃₂) mir.t-11 (atRet (En l₀ l₁ l₂ l₃ l₄ l₅ l₆ l₇ l₈ l₉ l₁₀ l₁₁ l₁₂ l₁₃ l₁₄ l₁₅ l₁₆ l₁₇ l₁₈ l₁₉ l₂₀ l₂₁ l₂₂ l₂₃ l₂₄ l₂₅ l₂₆ l₂₇ l₂₈ l₂₉ l₃₀ l₃₁ l₃₂) Post))
+      part-11 w-ask-of r-ask-of e-ask-of is-ask-of w-kind-of r-kind-of e-kind-of is-kind-of w-size-of r-size-of e-size-of is-size-of w-place-of r-place-of e-place-of is-place-of t t2 t3 =
+          -- _10 = _7 eq 4
+          assigns ! (bin ! (load ! (from ! (stop !)) (look ! 50 refl)) (lit ! tt) tt) (from ! (stop !)) (overwrite ! 44 refl (tt, tt)) $
           -- if _10
-          first ! $ branches ! (load ! (from ! (stop !)) (look ! 36 refl)) (λ on3. let t3 = on-true (eqb r-kind-of 3) on3 in
-          -- _19 = & _2.0.*
-          assigns ! (addr ! (from ! (fld ! refl (hop ! (look-in ! 52 (sub ! 0 refl (whole !))) (stop !))))) (from ! (stop !)) (init ! 18 refl (tt, tt)) $
-          -- _20 = {_19, _2.1}
-          assigns ! (agg ! (and-then ! (load ! (from ! (stop !)) (look ! 18 refl)) (and-then ! (load ! (from ! (fld ! refl (stop !))) (look-in ! 52 (sub ! 1 refl (whole !)))) (no-more !)))) (from ! (stop !)) (init ! 16 refl (tt, (tt, (record { fits = room-recs .0 }, tt)))) $
-          -- _21 = & _5.0.*
-          assigns ! (addr ! (from ! (fld ! refl (hop ! (look-in ! 46 (sub ! 0 refl (whole !))) (stop !))))) (from ! (stop !)) (init ! 14 refl (tt, tt)) $
-          -- _22 = {_21, _5.1}
-          assigns ! (agg ! (and-then ! (load ! (from ! (stop !)) (look ! 14 refl)) (and-then ! (load ! (from ! (fld ! refl (stop !))) (look-in ! 46 (sub ! 1 refl (whole !)))) (no-more !)))) (from ! (stop !)) (init ! 12 refl (tt, (tt, (record { fits = room-out .0 }, tt)))) $
-          -- _0 = run_tick(_1, _20, _22)
-          nothing ! $ move ! (64 ∷ 0 ∷ []) $ join ! $ move ! (62 ∷ 0 ∷ []) $ join ! $ nothing ! $ move ! (61 ∷ 0 ∷ []) $ fjoin ! $ move ! (61 ∷ 0 ∷ []) $ fjoin ! $
+          first ! $ branches ! (load ! (from ! (stop !)) (look ! 44 refl)) (λ on4. let t4 = on-true (eqb r-kind-of 4) on4 in
+          -- _23 = & _2.0.*
+          assigns ! (addr ! (from ! (fld ! refl (hop ! (look-in ! 60 (sub ! 0 refl (whole !))) (stop !))))) (from ! (stop !)) (init ! 18 refl (tt, tt)) $
+          -- _24 = {_23, _2.1}
+          assigns ! (agg ! (and-then ! (load ! (from ! (stop !)) (look ! 18 refl)) (and-then ! (load ! (from ! (fld ! refl (stop !))) (look-in ! 60 (sub ! 1 refl (whole !)))) (no-more !)))) (from ! (stop !)) (init ! 16 refl (tt, (tt, (record { fits = room-recs .0 }, tt)))) $
+          -- _25 = & _5.0.*
+          assigns ! (addr ! (from ! (fld ! refl (hop ! (look-in ! 54 (sub ! 0 refl (whole !))) (stop !))))) (from ! (stop !)) (init ! 14 refl (tt, tt)) $
+          -- _26 = {_25, _5.1}
+          assigns ! (agg ! (and-then ! (load ! (from ! (stop !)) (look ! 14 refl)) (and-then ! (load ! (from ! (fld ! refl (stop !))) (look-in ! 54 (sub ! 1 refl (whole !)))) (no-more !)))) (from ! (stop !)) (init ! 12 refl (tt, (tt, (record { fits = room-out .0 }, tt)))) $
+          -- _0 = run_tick(_1, _24, _26)
+          nothing ! $ move ! (72 ∷ 0 ∷ []) $ join ! $ move ! (70 ∷ 0 ∷ []) $ join ! $ nothing ! $ move ! (69 ∷ 0 ∷ []) $ fjoin ! $ move ! (69 ∷ 0 ∷ []) $ fjoin ! $
           owned ! Bench-t.the-row (Is Bench-t.the-row) (LL.makes Bench-t.the-type Bench-l.the-plain 𝓤 H A) b _ is-b $ fjoin ! $ move ! (1 ∷ 0 ∷ []) $
           use2 W (raw (c-run-tick 𝓤 H A mem run .pre (((κ₀, (κ₂, tt)), (q₀, (q₂, tt)), tt, (b, (recs, (out, tt))), (v-b ∷ [], (v-recs ∷ [], (v-out ∷ [], tt)))), tt))) (qed W ((‵ (flft κ₀ q₀) ⊛ ‵ (flft κ₂ q₂) ⊛ ‵ ftrue) ∷ ‵ (fsep (Bench-t.the-row .own b (v-b ∷ [])) (fsep Own-recs (fsep Own-out ftrue))) ∷ []) ∵ join ! $ frame ! $ done !) $
-          calls-at ! fm (c-run-tick 𝓤 H A mem run) known-run-tick (((κ₀, (κ₂, tt)), (q₀, (q₂, tt)), tt, (b, (recs, (out, tt))), (v-b ∷ [], (v-recs ∷ [], (v-out ∷ [], tt)))), tt) (and-then ! (load ! (from ! (stop !)) (look ! 55 refl)) (and-then ! (load ! (from ! (stop !)) (look ! 17 refl)) (and-then ! (load ! (from ! (stop !)) (look ! 13 refl)) (no-more !)))) (λ w-run-tick.
+          calls-at ! fm (c-run-tick 𝓤 H A mem run) known-run-tick (((κ₀, (κ₂, tt)), (q₀, (q₂, tt)), tt, (b, (recs, (out, tt))), (v-b ∷ [], (v-recs ∷ [], (v-out ∷ [], tt)))), tt) (and-then ! (load ! (from ! (stop !)) (look ! 63 refl)) (and-then ! (load ! (from ! (stop !)) (look ! 17 refl)) (and-then ! (load ! (from ! (stop !)) (look ! 13 refl)) (no-more !)))) (λ w-run-tick.
           use1 W (later (some (λ (r-run-tick : Bench). ((‵ (flft κ₀ q₀) ⊛ ‵ (flft κ₂ q₂) ⊛ ‵ ftrue) ⊛ ‵ (Bench-t.the-row .own r-run-tick (w-run-tick ∷ []))) ⊛ raw (ensured 𝓤 H A c-run-tick′.ended (c-run-tick′.clauses 𝓤 H A mem run) (κ₀, (κ₂, tt)) (b, (recs, (out, tt))) tt r-run-tick)))) (id⊢ 𝓤 _) $ await ! tt $
           pick ! (λ r-run-tick. split ! $ move ! (1 ∷ []) $
           use1 W (some (λ (z-run-tick : (Unit {0}) × ((List Session) × ((List ℕ) × Unit {0}))). ‵ (lasts c-run-tick′.ended (κ₀, (κ₂, tt)) (b, (recs, (out, tt))) z-run-tick) ⊛ raw (fact 𝓤 (ran r-run-tick (z-run-tick .1 .0) (z-run-tick .1 .1 .0) ≡ thenSent (unitShown (tickOf (b .node) (ys-recs)) b (ys-out)))))) (id⊢ 𝓤 _) $
           pick ! (λ z-run-tick. split ! $ move ! (1 ∷ []) $ heard ! (ran r-run-tick (z-run-tick .1 .0) (z-run-tick .1 .1 .0) ≡ thenSent (unitShown (tickOf (b .node) (ys-recs)) b (ys-out))) (λ e-run-tick. fsplit ! $ drop ! $ fsplit ! $
           fsplit ! $ move ! (1 ∷ []) $ feqL ! (λ len-run-tick-recs. move ! (1 ∷ []) $ fsplit ! $ fsplit ! $ move ! (1 ∷ []) $ feqL ! (λ len-run-tick-out. move ! (1 ∷ []) $ drop ! $ move ! (2 ∷ []) $ split ! $ split ! $ move ! (1 ∷ []) $
           split ! $ move ! (1 ∷ []) $ drop ! $ move ! (2 ∷ []) $ peeks ! Bench-t.the-row (Is Bench-t.the-row) (shows 𝓤 H A Bench-t.the-row) r-run-tick (w-run-tick ∷ []) (λ is-run-tick.
-          land ! (from ! (stop !)) (init ! 61 refl (LL.lawful Bench-t.the-type Bench-l.the-laws 𝓤 H A W .typed r-run-tick _ is-run-tick .0)) $ drop ! $
+          land ! (from ! (stop !)) (init ! 69 refl (LL.lawful Bench-t.the-type Bench-l.the-laws 𝓤 H A W .typed r-run-tick _ is-run-tick .0)) $ drop ! $
           -- return
-          returns-within ! Post refl (look ! 60 refl) $
-          forget ! 16 refl $ forget ! 18 refl $ forget ! 20 refl $ forget ! 22 refl $ forget ! 40 refl $ forget ! 42 refl $ forget ! 44 refl $ forget ! 46 refl $ forget ! 48 refl $ forget ! 50 refl $ forget ! 52 refl $ forget ! 54 refl $ forget ! 56 refl $ forget ! 58 refl $ forget ! 60 refl $
-          move ! (60 ∷ 61 ∷ []) $ free1 ! $ move ! (58 ∷ 59 ∷ []) $ free1 ! $ move ! (56 ∷ 57 ∷ []) $ free1 ! $ move ! (54 ∷ 55 ∷ []) $ free1 ! $ move ! (52 ∷ 53 ∷ []) $ free1 ! $ move ! (50 ∷ 51 ∷ []) $ free1 ! $ move ! (48 ∷ 49 ∷ []) $ free1 ! $ move ! (46 ∷ 47 ∷ []) $ free1 ! $ move ! (44 ∷ 45 ∷ []) $ free1 ! $ move ! (42 ∷ 43 ∷ []) $ free1 ! $ move ! (40 ∷ 41 ∷ []) $ free1 ! $ move ! (38 ∷ 39 ∷ []) $ free1 ! $ move ! (36 ∷ 37 ∷ []) $ free1 ! $ move ! (34 ∷ 35 ∷ []) $ free1 ! $ move ! (32 ∷ 33 ∷ []) $ free1 ! $ move ! (30 ∷ 31 ∷ []) $ free1 ! $ move ! (28 ∷ 29 ∷ []) $ free1 ! $ move ! (26 ∷ 27 ∷ []) $ free1 ! $ move ! (24 ∷ 25 ∷ []) $ free1 ! $ move ! (22 ∷ 23 ∷ []) $ free1 ! $ move ! (20 ∷ 21 ∷ []) $ free1 ! $ move ! (18 ∷ 19 ∷ []) $ free1 ! $ move ! (16 ∷ 17 ∷ []) $ free1 ! $ move ! (14 ∷ 15 ∷ []) $ free1 ! $ move ! (12 ∷ 13 ∷ []) $ free1 ! $ move ! (10 ∷ 11 ∷ []) $ free1 ! $ move ! (8 ∷ 9 ∷ []) $ free1 ! $ move ! (6 ∷ 7 ∷ []) $ free1 ! $ move ! (4 ∷ 5 ∷ []) $ free1 ! $ free0 ! $
+          returns-within ! Post refl (look ! 68 refl) $
+          forget ! 16 refl $ forget ! 18 refl $ forget ! 20 refl $ forget ! 22 refl $ forget ! 48 refl $ forget ! 50 refl $ forget ! 52 refl $ forget ! 54 refl $ forget ! 56 refl $ forget ! 58 refl $ forget ! 60 refl $ forget ! 62 refl $ forget ! 64 refl $ forget ! 66 refl $ forget ! 68 refl $
+          move ! (68 ∷ 69 ∷ []) $ free1 ! $ move ! (66 ∷ 67 ∷ []) $ free1 ! $ move ! (64 ∷ 65 ∷ []) $ free1 ! $ move ! (62 ∷ 63 ∷ []) $ free1 ! $ move ! (60 ∷ 61 ∷ []) $ free1 ! $ move ! (58 ∷ 59 ∷ []) $ free1 ! $ move ! (56 ∷ 57 ∷ []) $ free1 ! $ move ! (54 ∷ 55 ∷ []) $ free1 ! $ move ! (52 ∷ 53 ∷ []) $ free1 ! $ move ! (50 ∷ 51 ∷ []) $ free1 ! $ move ! (48 ∷ 49 ∷ []) $ free1 ! $ move ! (46 ∷ 47 ∷ []) $ free1 ! $ move ! (44 ∷ 45 ∷ []) $ free1 ! $ move ! (42 ∷ 43 ∷ []) $ free1 ! $ move ! (40 ∷ 41 ∷ []) $ free1 ! $ move ! (38 ∷ 39 ∷ []) $ free1 ! $ move ! (36 ∷ 37 ∷ []) $ free1 ! $ move ! (34 ∷ 35 ∷ []) $ free1 ! $ move ! (32 ∷ 33 ∷ []) $ free1 ! $ move ! (30 ∷ 31 ∷ []) $ free1 ! $ move ! (28 ∷ 29 ∷ []) $ free1 ! $ move ! (26 ∷ 27 ∷ []) $ free1 ! $ move ! (24 ∷ 25 ∷ []) $ free1 ! $ move ! (22 ∷ 23 ∷ []) $ free1 ! $ move ! (20 ∷ 21 ∷ []) $ free1 ! $ move ! (18 ∷ 19 ∷ []) $ free1 ! $ move ! (16 ∷ 17 ∷ []) $ free1 ! $ move ! (14 ∷ 15 ∷ []) $ free1 ! $ move ! (12 ∷ 13 ∷ []) $ free1 ! $ move ! (10 ∷ 11 ∷ []) $ free1 ! $ move ! (8 ∷ 9 ∷ []) $ free1 ! $ move ! (6 ∷ 7 ∷ []) $ free1 ! $ move ! (4 ∷ 5 ∷ []) $ free1 ! $ free0 ! $
           owned ! Bench-t.the-row (Is Bench-t.the-row) (LL.makes Bench-t.the-type Bench-l.the-plain 𝓤 H A) r-run-tick _ is-run-tick $ nothing ! $ move ! (2 ∷ 0 ∷ []) $ join ! $ move ! (6 ∷ 0 ∷ []) $ join ! $ move ! (2 ∷ 0 ∷ []) $ join ! $
           keep ! (0 ∷ 3 ∷ 2 ∷ 1 ∷ []) $
-          by ! (exits r-run-tick w-run-tick (z-run-tick .1 .0) (z-run-tick .1 .1 .0) (asks-tick line (now octets) b ys-recs ys-out (ran r-run-tick (z-run-tick .1 .0) (z-run-tick .1 .1 .0)) r-ask-of r-kind-of r-size-of r-place-of e-ask-of e-kind-of e-size-of e-place-of t t2 t3 e-run-tick) len-run-tick-recs len-run-tick-out)))))))))
+          by ! (exits r-run-tick w-run-tick (z-run-tick .1 .0) (z-run-tick .1 .1 .0) (asks-tick line (now octets) b ys-recs ys-out (ran r-run-tick (z-run-tick .1 .0) (z-run-tick .1 .1 .0)) r-ask-of r-kind-of r-size-of r-place-of e-ask-of e-kind-of e-size-of e-place-of t t2 t3 t4 e-run-tick) len-run-tick-recs len-run-tick-out)))))))))
+          (λ off4. let t4 = off-false (eqb r-kind-of 4) off4 in
+          skips ! $ exec ! C Λ (En l₀ l₁ l₂ l₃ l₄ l₅ l₆ l₇ l₈ l₉ l₁₀ l₁₁ l₁₂ l₁₃ l₁₄ l₁₅ l₁₆ l₁₇ l₁₈ l₁₉ l₂₀ l₂₁ l₂₂ l₂₃ l₂₄ l₂₅ l₂₆ l₂₇ l₂₈ l₂₉ l₃₀ l₃₁ l₃₂) mir.t-13 (atRet (En l₀ l₁ l₂ l₃ l₄ l₅ l₆ l₇ l₈ l₉ l₁₀ l₁₁ l₁₂ l₁₃ l₁₄ l₁₅ l₁₆ l₁₇ l₁₈ l₁₉ l₂₀ l₂₁ l₂₂ l₂₃ l₂₄ l₂₅ l₂₆ l₂₇ l₂₈ l₂₉ l₃₀ l₃₁ l₃₂) Post) $
+          keep ! (0 ∷ 1 ∷ 2 ∷ 3 ∷ 4 ∷ 5 ∷ 6 ∷ 7 ∷ 8 ∷ 9 ∷ 10 ∷ 11 ∷ 12 ∷ 13 ∷ 14 ∷ 15 ∷ 16 ∷ 17 ∷ 18 ∷ 19 ∷ 20 ∷ 21 ∷ 22 ∷ 23 ∷ 24 ∷ 25 ∷ 26 ∷ 27 ∷ 28 ∷ 29 ∷ 30 ∷ 31 ∷ 32 ∷ 33 ∷ 34 ∷ 35 ∷ 36 ∷ 37 ∷ 38 ∷ 39 ∷ 40 ∷ 41 ∷ 42 ∷ 43 ∷ 44 ∷ 45 ∷ 46 ∷ 47 ∷ 48 ∷ 49 ∷ 50 ∷ 51 ∷ 52 ∷ 53 ∷ 54 ∷ 55 ∷ 56 ∷ 57 ∷ 58 ∷ 59 ∷ 60 ∷ 61 ∷ 62 ∷ 63 ∷ 64 ∷ 65 ∷ 66 ∷ 67 ∷ 68 ∷ 69 ∷ 70 ∷ 71 ∷ []) $
+          part-13 w-ask-of r-ask-of e-ask-of is-ask-of w-kind-of r-kind-of e-kind-of is-kind-of w-size-of r-size-of e-size-of is-size-of w-place-of r-place-of e-place-of is-place-of t t2 t3 t4)
+
+      part-9 : (w-ask-of : Val) → (r-ask-of : Ask) → (e-ask-of : r-ask-of ≡ askOf line) → (is-ask-of : Is Ask-t.the-row r-ask-of (w-ask-of ∷ [])) → (w-kind-of : Val) → (r-kind-of : ℕ) → (e-kind-of : r-kind-of ≡ r-ask-of .kind) → (is-kind-of : Is u8 r-kind-of (w-kind-of ∷ [])) → (w-size-of : Val) → (r-size-of : ℕ) → (e-size-of : r-size-of ≡ r-ask-of .size) → (is-size-of : Is usize r-size-of (w-size-of ∷ [])) → (w-place-of : Val) → (r-place-of : ℕ) → (e-place-of : r-place-of ≡ r-ask-of .place) → (is-place-of : Is usize r-place-of (w-place-of ∷ [])) → (t : (eqb r-kind-of 1) ≡ false) → (t2 : (eqb r-kind-of 2) ≡ false) → Sq W (‵ (froom (sliceTy (tyRef erased mut (pointee (u8 .written)))) l₃₂ 0) ∷ ‵ (fdies (sliceTy (tyRef erased mut (pointee (u8 .written)))) l₃₂) ∷ ‵ (froom (tyRef erased mut (pointee (u8 .written))) l₃₁ 0) ∷ ‵ (fdies (tyRef erased mut (pointee (u8 .written))) l₃₁) ∷ ‵ (froom (sliceTy (tyRef erased mut (pointee (u8 .written)))) l₃₀ 0) ∷ ‵ (fdies (sliceTy (tyRef erased mut (pointee (u8 .written)))) l₃₀) ∷ ‵ (froom (tyRef erased mut (pointee (u8 .written))) l₂₉ 0) ∷ ‵ (fdies (tyRef erased mut (pointee (u8 .written))) l₂₉) ∷ ‵ (froom (sliceTy (tyRef erased mut (pointee (Session-t.the-row .written)))) l₂₈ 0) ∷ ‵ (fdies (sliceTy (tyRef erased mut (pointee (Session-t.the-row .written)))) l₂₈) ∷ ‵ (froom (tyRef erased mut (pointee (Session-t.the-row .written))) l₂₇ 0) ∷ ‵ (fdies (tyRef erased mut (pointee (Session-t.the-row .written))) l₂₇) ∷ ‵ (froom (sliceTy (tyRef erased mut (pointee (u8 .written)))) l₂₆ 0) ∷ ‵ (fdies (sliceTy (tyRef erased mut (pointee (u8 .written)))) l₂₆) ∷ ‵ (froom (tyRef erased mut (pointee (u8 .written))) l₂₅ 0) ∷ ‵ (fdies (tyRef erased mut (pointee (u8 .written))) l₂₅) ∷ ‵ (froom (sliceTy (tyRef erased mut (pointee (Session-t.the-row .written)))) l₂₄ 0) ∷ ‵ (fdies (sliceTy (tyRef erased mut (pointee (Session-t.the-row .written)))) l₂₄) ∷ ‵ (froom (tyRef erased mut (pointee (Session-t.the-row .written))) l₂₃ 0) ∷ ‵ (fdies (tyRef erased mut (pointee (Session-t.the-row .written))) l₂₃) ∷ ‵ (froom (sliceTy (tyRef erased mut (pointee (u8 .written)))) l₂₂ 0) ∷ ‵ (fdies (sliceTy (tyRef erased mut (pointee (u8 .written)))) l₂₂) ∷ ‵ (froom (tyRef erased mut (pointee (u8 .written))) l₂₁ 0) ∷ ‵ (fdies (tyRef erased mut (pointee (u8 .written))) l₂₁) ∷ ‵ (froom (sliceTy (tyRef erased mut (pointee (Session-t.the-row .written)))) l₂₀ 0) ∷ ‵ (fdies (sliceTy (tyRef erased mut (pointee (Session-t.the-row .written)))) l₂₀) ∷ ‵ (froom (tyRef erased mut (pointee (Session-t.the-row .written))) l₁₉ 0) ∷ ‵ (fdies (tyRef erased mut (pointee (Session-t.the-row .written))) l₁₉) ∷ ‵ (froom (sliceTy (tyRef erased mut (pointee (u8 .written)))) l₁₈ 0) ∷ ‵ (fdies (sliceTy (tyRef erased mut (pointee (u8 .written)))) l₁₈) ∷ ‵ (froom (tyRef erased mut (pointee (u8 .written))) l₁₇ 0) ∷ ‵ (fdies (tyRef erased mut (pointee (u8 .written))) l₁₇) ∷ ‵ (froom (sliceTy (tyRef erased mut (pointee (Session-t.the-row .written)))) l₁₆ 0) ∷ ‵ (fdies (sliceTy (tyRef erased mut (pointee (Session-t.the-row .written)))) l₁₆) ∷ ‵ (froom (tyRef erased mut (pointee (Session-t.the-row .written))) l₁₅ 0) ∷ ‵ (fdies (tyRef erased mut (pointee (Session-t.the-row .written))) l₁₅) ∷ ‵ (froom (sliceTy (tyRef erased mut (pointee (u8 .written)))) l₁₄ 0) ∷ ‵ (fdies (sliceTy (tyRef erased mut (pointee (u8 .written)))) l₁₄) ∷ ‵ (froom (tyRef erased mut (pointee (u8 .written))) l₁₃ 0) ∷ ‵ (fdies (tyRef erased mut (pointee (u8 .written))) l₁₃) ∷ ‵ (froom (sliceTy (tyRef erased mut (pointee (Session-t.the-row .written)))) l₁₂ 0) ∷ ‵ (fdies (sliceTy (tyRef erased mut (pointee (Session-t.the-row .written)))) l₁₂) ∷ ‵ (froom (tyRef erased mut (pointee (Session-t.the-row .written))) l₁₁ 0) ∷ ‵ (fdies (tyRef erased mut (pointee (Session-t.the-row .written))) l₁₁) ∷ ‵ (fat fullShare tyBool l₁₀ 0 (vbool (eqb r-kind-of 2))) ∷ ‵ (fdies tyBool l₁₀) ∷ ‵ (fat fullShare (tyInt w64) l₉ 0 w-place-of) ∷ ‵ (fdies (tyInt w64) l₉) ∷ ‵ (fat fullShare (tyInt w64) l₈ 0 w-size-of) ∷ ‵ (fdies (tyInt w64) l₈) ∷ ‵ (fat fullShare (tyInt w8) l₇ 0 (vint w8 r-kind-of)) ∷ ‵ (fdies (tyInt w8) l₇) ∷ ‵ (fat fullShare Ask-l.mir l₆ 0 w-ask-of) ∷ ‵ (fdies Ask-l.mir l₆) ∷ ‵ (fat fullShare (sliceTy (tyRef (named 2) mut (pointee (u8 .written)))) l₅ 0 v-out) ∷ ‵ (fdies (sliceTy (tyRef (named 2) mut (pointee (u8 .written)))) l₅) ∷ ‵ (fat fullShare (sliceTy (tyRef (named 1) imm (pointee (u8 .written)))) l₄ 0 v-octets) ∷ ‵ (fdies (sliceTy (tyRef (named 1) imm (pointee (u8 .written)))) l₄) ∷ ‵ (fat fullShare Line-l.mir l₃ 0 v-line) ∷ ‵ (fdies Line-l.mir l₃) ∷ ‵ (fat fullShare (sliceTy (tyRef (named 0) mut (pointee (Session-t.the-row .written)))) l₂ 0 v-recs) ∷ ‵ (fdies (sliceTy (tyRef (named 0) mut (pointee (Session-t.the-row .written)))) l₂) ∷ ‵ (fat fullShare Bench-l.mir l₁ 0 v-b) ∷ ‵ (fdies Bench-l.mir l₁) ∷ ‵ (froom Bench-l.mir l₀ 0) ∷ ‵ (fdies Bench-l.mir l₀) ∷ ‵ Own-octets ∷ ‵ Own-out ∷ ‵ Own-recs ∷ ‵ (flft κ₀ q₀) ∷ ‵ (flft κ₁ q₁) ∷ ‵ (flft κ₂ q₂) ∷ []) (runs C Λ (En l₀ l₁ l₂ l₃ l₄ l₅ l₆ l₇ l₈ l₉ l₁₀ l₁₁ l₁₂ l₁₃ l₁₄ l₁₅ l₁₆ l₁₇ l₁₈ l₁₉ l₂₀ l₂₁ l₂₂ l₂₃ l₂₄ l₂₅ l₂₆ l₂₇ l₂₈ l₂₉ l₃₀ l₃₁ l₃₂) mir.t-9 (atRet (En l₀ l₁ l₂ l₃ l₄ l₅ l₆ l₇ l₈ l₉ l₁₀ l₁₁ l₁₂ l₁₃ l₁₄ l₁₅ l₁₆ l₁₇ l₁₈ l₁₉ l₂₀ l₂₁ l₂₂ l₂₃ l₂₄ l₂₅ l₂₆ l₂₇ l₂₈ l₂₉ l₃₀ l₃₁ l₃₂) Post))
+      part-9 w-ask-of r-ask-of e-ask-of is-ask-of w-kind-of r-kind-of e-kind-of is-kind-of w-size-of r-size-of e-size-of is-size-of w-place-of r-place-of e-place-of is-place-of t t2 =
+          -- _10 = _7 eq 3
+          assigns ! (bin ! (load ! (from ! (stop !)) (look ! 50 refl)) (lit ! tt) tt) (from ! (stop !)) (overwrite ! 44 refl (tt, tt)) $
+          -- if _10
+          first ! $ branches ! (load ! (from ! (stop !)) (look ! 44 refl)) (λ on3. let t3 = on-true (eqb r-kind-of 3) on3 in
+          -- _19 = & _2.0.*
+          assigns ! (addr ! (from ! (fld ! refl (hop ! (look-in ! 60 (sub ! 0 refl (whole !))) (stop !))))) (from ! (stop !)) (init ! 26 refl (tt, tt)) $
+          -- _20 = {_19, _2.1}
+          assigns ! (agg ! (and-then ! (load ! (from ! (stop !)) (look ! 26 refl)) (and-then ! (load ! (from ! (fld ! refl (stop !))) (look-in ! 60 (sub ! 1 refl (whole !)))) (no-more !)))) (from ! (stop !)) (init ! 24 refl (tt, (tt, (record { fits = room-recs .0 }, tt)))) $
+          -- _21 = & _5.0.*
+          assigns ! (addr ! (from ! (fld ! refl (hop ! (look-in ! 54 (sub ! 0 refl (whole !))) (stop !))))) (from ! (stop !)) (init ! 22 refl (tt, tt)) $
+          -- _22 = {_21, _5.1}
+          assigns ! (agg ! (and-then ! (load ! (from ! (stop !)) (look ! 22 refl)) (and-then ! (load ! (from ! (fld ! refl (stop !))) (look-in ! 54 (sub ! 1 refl (whole !)))) (no-more !)))) (from ! (stop !)) (init ! 20 refl (tt, (tt, (record { fits = room-out .0 }, tt)))) $
+          -- _0 = run_down(_1, _20, _4, _8, _22)
+          move ! (66 ∷ []) $ use1 W (‵ Own-octets ⊛ ‵ Own-octets) (shr-slice-copy 𝓤 H A W (named 1) κ₁ u8 .twice octets (v-octets ∷ [])) $ split ! $ nothing ! $ move ! (73 ∷ 0 ∷ []) $ join ! $ move ! (72 ∷ 0 ∷ []) $ join ! $
+          move ! (71 ∷ 0 ∷ []) $ join ! $ nothing ! $ move ! (70 ∷ 0 ∷ []) $ fjoin ! $ owned ! usize (Is usize) (uint-makes 𝓤 H A W w64) r-size-of _ is-size-of $ fjoin ! $ move ! (3 ∷ 0 ∷ []) $ fjoin ! $ move ! (69 ∷ 0 ∷ []) $ fjoin ! $
+          owned ! Bench-t.the-row (Is Bench-t.the-row) (LL.makes Bench-t.the-type Bench-l.the-plain 𝓤 H A) b _ is-b $ fjoin ! $ move ! (1 ∷ 0 ∷ []) $
+          use2 W (raw (c-run-down 𝓤 H A mem run .pre (((κ₀, (κ₁, (κ₂, tt))), (q₀, (q₁, (q₂, tt))), tt, (b, (recs, (octets, (r-size-of, (out, tt))))), (v-b ∷ [], (v-recs ∷ [], (v-octets ∷ [], (w-size-of ∷ [], (v-out ∷ [], tt)))))), tt))) (qed W ((‵ (flft κ₀ q₀) ⊛ ‵ (flft κ₁ q₁) ⊛ ‵ (flft κ₂ q₂) ⊛ ‵ ftrue) ∷ ‵ (fsep (Bench-t.the-row .own b (v-b ∷ [])) (fsep Own-recs (fsep Own-octets (fsep (usize .own r-size-of (w-size-of ∷ [])) (fsep Own-out ftrue))))) ∷ []) ∵ join ! $ frame ! $ done !) $
+          calls-at ! fm (c-run-down 𝓤 H A mem run) known-run-down (((κ₀, (κ₁, (κ₂, tt))), (q₀, (q₁, (q₂, tt))), tt, (b, (recs, (octets, (r-size-of, (out, tt))))), (v-b ∷ [], (v-recs ∷ [], (v-octets ∷ [], (w-size-of ∷ [], (v-out ∷ [], tt)))))), tt) (and-then ! (load ! (from ! (stop !)) (look ! 64 refl)) (and-then ! (load ! (from ! (stop !)) (look ! 26 refl)) (and-then ! (load ! (from ! (stop !)) (look ! 58 refl)) (and-then ! (load ! (from ! (stop !)) (look ! 50 refl)) (and-then ! (load ! (from ! (stop !)) (look ! 22 refl)) (no-more !)))))) (λ w-run-down.
+          use1 W (later (some (λ (r-run-down : Bench). ((‵ (flft κ₀ q₀) ⊛ ‵ (flft κ₁ q₁) ⊛ ‵ (flft κ₂ q₂) ⊛ ‵ ftrue) ⊛ ‵ (Bench-t.the-row .own r-run-down (w-run-down ∷ []))) ⊛ raw (ensured 𝓤 H A c-run-down′.ended (c-run-down′.clauses 𝓤 H A mem run) (κ₀, (κ₁, (κ₂, tt))) (b, (recs, (octets, (r-size-of, (out, tt))))) tt r-run-down)))) (id⊢ 𝓤 _) $ await ! tt $
+          pick ! (λ r-run-down. split ! $ move ! (1 ∷ []) $
+          use1 W (some (λ (z-run-down : (Unit {0}) × ((List Session) × ((Unit {0}) × ((Unit {0}) × ((List ℕ) × Unit {0}))))). ‵ (lasts c-run-down′.ended (κ₀, (κ₁, (κ₂, tt))) (b, (recs, (octets, (r-size-of, (out, tt))))) z-run-down) ⊛ raw (fact 𝓤 (ran r-run-down (z-run-down .1 .0) (z-run-down .1 .1 .1 .1 .0) ≡ downRun (take r-size-of (octets .now)) b (ys-recs) (ys-out))))) (id⊢ 𝓤 _) $
+          pick ! (λ z-run-down. split ! $ move ! (1 ∷ []) $ heard ! (ran r-run-down (z-run-down .1 .0) (z-run-down .1 .1 .1 .1 .0) ≡ downRun (take r-size-of (octets .now)) b (ys-recs) (ys-out)) (λ e-run-down. fsplit ! $ drop ! $ fsplit ! $
+          fsplit ! $ move ! (1 ∷ []) $ feqL ! (λ len-run-down-recs. move ! (1 ∷ []) $ fsplit ! $ drop ! $ fsplit ! $ drop ! $ fsplit ! $ fsplit ! $ move ! (1 ∷ []) $ feqL ! (λ len-run-down-out. move ! (1 ∷ []) $ drop ! $ move ! (2 ∷ []) $
+          split ! $ split ! $ move ! (1 ∷ []) $ split ! $ move ! (1 ∷ []) $ split ! $ move ! (1 ∷ []) $ drop ! $ move ! (3 ∷ []) $
+          peeks ! Bench-t.the-row (Is Bench-t.the-row) (shows 𝓤 H A Bench-t.the-row) r-run-down (w-run-down ∷ []) (λ is-run-down.
+          land ! (from ! (stop !)) (init ! 71 refl (LL.lawful Bench-t.the-type Bench-l.the-laws 𝓤 H A W .typed r-run-down _ is-run-down .0)) $ drop ! $
+          -- return
+          returns-within ! Post refl (look ! 70 refl) $
+          forget ! 26 refl $ forget ! 28 refl $ forget ! 30 refl $ forget ! 32 refl $ forget ! 50 refl $ forget ! 52 refl $ forget ! 54 refl $ forget ! 56 refl $ forget ! 58 refl $ forget ! 60 refl $ forget ! 62 refl $ forget ! 64 refl $ forget ! 66 refl $ forget ! 68 refl $ forget ! 70 refl $
+          move ! (70 ∷ 71 ∷ []) $ free1 ! $ move ! (68 ∷ 69 ∷ []) $ free1 ! $ move ! (66 ∷ 67 ∷ []) $ free1 ! $ move ! (64 ∷ 65 ∷ []) $ free1 ! $ move ! (62 ∷ 63 ∷ []) $ free1 ! $ move ! (60 ∷ 61 ∷ []) $ free1 ! $ move ! (58 ∷ 59 ∷ []) $ free1 ! $ move ! (56 ∷ 57 ∷ []) $ free1 ! $ move ! (54 ∷ 55 ∷ []) $ free1 ! $ move ! (52 ∷ 53 ∷ []) $ free1 ! $ move ! (50 ∷ 51 ∷ []) $ free1 ! $ move ! (48 ∷ 49 ∷ []) $ free1 ! $ move ! (46 ∷ 47 ∷ []) $ free1 ! $ move ! (44 ∷ 45 ∷ []) $ free1 ! $ move ! (42 ∷ 43 ∷ []) $ free1 ! $ move ! (40 ∷ 41 ∷ []) $ free1 ! $ move ! (38 ∷ 39 ∷ []) $ free1 ! $ move ! (36 ∷ 37 ∷ []) $ free1 ! $ move ! (34 ∷ 35 ∷ []) $ free1 ! $ move ! (32 ∷ 33 ∷ []) $ free1 ! $ move ! (30 ∷ 31 ∷ []) $ free1 ! $ move ! (28 ∷ 29 ∷ []) $ free1 ! $ move ! (26 ∷ 27 ∷ []) $ free1 ! $ move ! (24 ∷ 25 ∷ []) $ free1 ! $ move ! (22 ∷ 23 ∷ []) $ free1 ! $ move ! (20 ∷ 21 ∷ []) $ free1 ! $ move ! (18 ∷ 19 ∷ []) $ free1 ! $ move ! (16 ∷ 17 ∷ []) $ free1 ! $ move ! (14 ∷ 15 ∷ []) $ free1 ! $ move ! (12 ∷ 13 ∷ []) $ free1 ! $ move ! (10 ∷ 11 ∷ []) $ free1 ! $ move ! (8 ∷ 9 ∷ []) $ free1 ! $ move ! (6 ∷ 7 ∷ []) $ free1 ! $ free0 ! $
+          owned ! Bench-t.the-row (Is Bench-t.the-row) (LL.makes Bench-t.the-type Bench-l.the-plain 𝓤 H A) r-run-down _ is-run-down $ nothing ! $ move ! (2 ∷ 0 ∷ []) $ join ! $ move ! (2 ∷ 0 ∷ []) $ join ! $ move ! (2 ∷ 0 ∷ []) $ join ! $
+          keep ! (0 ∷ 3 ∷ 2 ∷ 1 ∷ []) $
+          by ! (exits r-run-down w-run-down (z-run-down .1 .0) (z-run-down .1 .1 .1 .1 .0) (asks-down line (now octets) b ys-recs ys-out (ran r-run-down (z-run-down .1 .0) (z-run-down .1 .1 .1 .1 .0)) r-ask-of r-kind-of r-size-of r-place-of e-ask-of e-kind-of e-size-of e-place-of t t2 t3 e-run-down) len-run-down-recs len-run-down-out)))))))))
           (λ off3. let t3 = off-false (eqb r-kind-of 3) off3 in
-          skips ! $ exec ! C Λ (En l₀ l₁ l₂ l₃ l₄ l₅ l₆ l₇ l₈ l₉ l₁₀ l₁₁ l₁₂ l₁₃ l₁₄ l₁₅ l₁₆ l₁₇ l₁₈ l₁₉ l₂₀ l₂₁ l₂₂ l₂₃ l₂₄ l₂₅ l₂₆ l₂₇ l₂₈) mir.t-11 (atRet (En l₀ l₁ l₂ l₃ l₄ l₅ l₆ l₇ l₈ l₉ l₁₀ l₁₁ l₁₂ l₁₃ l₁₄ l₁₅ l₁₆ l₁₇ l₁₈ l₁₉ l₂₀ l₂₁ l₂₂ l₂₃ l₂₄ l₂₅ l₂₆ l₂₇ l₂₈) Post) $
-          keep ! (0 ∷ 1 ∷ 2 ∷ 3 ∷ 4 ∷ 5 ∷ 6 ∷ 7 ∷ 8 ∷ 9 ∷ 10 ∷ 11 ∷ 12 ∷ 13 ∷ 14 ∷ 15 ∷ 16 ∷ 17 ∷ 18 ∷ 19 ∷ 20 ∷ 21 ∷ 22 ∷ 23 ∷ 24 ∷ 25 ∷ 26 ∷ 27 ∷ 28 ∷ 29 ∷ 30 ∷ 31 ∷ 32 ∷ 33 ∷ 34 ∷ 35 ∷ 36 ∷ 37 ∷ 38 ∷ 39 ∷ 40 ∷ 41 ∷ 42 ∷ 43 ∷ 44 ∷ 45 ∷ 46 ∷ 47 ∷ 48 ∷ 49 ∷ 50 ∷ 51 ∷ 52 ∷ 53 ∷ 54 ∷ 55 ∷ 56 ∷ 57 ∷ 58 ∷ 59 ∷ 60 ∷ 61 ∷ 62 ∷ 63 ∷ []) $
+          skips ! $ exec ! C Λ (En l₀ l₁ l₂ l₃ l₄ l₅ l₆ l₇ l₈ l₉ l₁₀ l₁₁ l₁₂ l₁₃ l₁₄ l₁₅ l₁₆ l₁₇ l₁₈ l₁₉ l₂₀ l₂₁ l₂₂ l₂₃ l₂₄ l₂₅ l₂₆ l₂₇ l₂₈ l₂₉ l₃₀ l₃₁ l₃₂) mir.t-11 (atRet (En l₀ l₁ l₂ l₃ l₄ l₅ l₆ l₇ l₈ l₉ l₁₀ l₁₁ l₁₂ l₁₃ l₁₄ l₁₅ l₁₆ l₁₇ l₁₈ l₁₉ l₂₀ l₂₁ l₂₂ l₂₃ l₂₄ l₂₅ l₂₆ l₂₇ l₂₈ l₂₉ l₃₀ l₃₁ l₃₂) Post) $
+          keep ! (0 ∷ 1 ∷ 2 ∷ 3 ∷ 4 ∷ 5 ∷ 6 ∷ 7 ∷ 8 ∷ 9 ∷ 10 ∷ 11 ∷ 12 ∷ 13 ∷ 14 ∷ 15 ∷ 16 ∷ 17 ∷ 18 ∷ 19 ∷ 20 ∷ 21 ∷ 22 ∷ 23 ∷ 24 ∷ 25 ∷ 26 ∷ 27 ∷ 28 ∷ 29 ∷ 30 ∷ 31 ∷ 32 ∷ 33 ∷ 34 ∷ 35 ∷ 36 ∷ 37 ∷ 38 ∷ 39 ∷ 40 ∷ 41 ∷ 42 ∷ 43 ∷ 44 ∷ 45 ∷ 46 ∷ 47 ∷ 48 ∷ 49 ∷ 50 ∷ 51 ∷ 52 ∷ 53 ∷ 54 ∷ 55 ∷ 56 ∷ 57 ∷ 58 ∷ 59 ∷ 60 ∷ 61 ∷ 62 ∷ 63 ∷ 64 ∷ 65 ∷ 66 ∷ 67 ∷ 68 ∷ 69 ∷ 70 ∷ 71 ∷ []) $
           part-11 w-ask-of r-ask-of e-ask-of is-ask-of w-kind-of r-kind-of e-kind-of is-kind-of w-size-of r-size-of e-size-of is-size-of w-place-of r-place-of e-place-of is-place-of t t2 t3)
 
-      part-7 : (w-ask-of : Val) → (r-ask-of : Ask) → (e-ask-of : r-ask-of ≡ askOf line) → (is-ask-of : Is Ask-t.the-row r-ask-of (w-ask-of ∷ [])) → (w-kind-of : Val) → (r-kind-of : ℕ) → (e-kind-of : r-kind-of ≡ r-ask-of .kind) → (is-kind-of : Is u8 r-kind-of (w-kind-of ∷ [])) → (w-size-of : Val) → (r-size-of : ℕ) → (e-size-of : r-size-of ≡ r-ask-of .size) → (is-size-of : Is usize r-size-of (w-size-of ∷ [])) → (w-place-of : Val) → (r-place-of : ℕ) → (e-place-of : r-place-of ≡ r-ask-of .place) → (is-place-of : Is usize r-place-of (w-place-of ∷ [])) → (t : (eqb r-kind-of 1) ≡ false) → Sq W (‵ (froom (sliceTy (tyRef erased mut (pointee (u8 .written)))) l₂₈ 0) ∷ ‵ (fdies (sliceTy (tyRef erased mut (pointee (u8 .written)))) l₂₈) ∷ ‵ (froom (tyRef erased mut (pointee (u8 .written))) l₂₇ 0) ∷ ‵ (fdies (tyRef erased mut (pointee (u8 .written))) l₂₇) ∷ ‵ (froom (sliceTy (tyRef erased mut (pointee (u8 .written)))) l₂₆ 0) ∷ ‵ (fdies (sliceTy (tyRef erased mut (pointee (u8 .written)))) l₂₆) ∷ ‵ (froom (tyRef erased mut (pointee (u8 .written))) l₂₅ 0) ∷ ‵ (fdies (tyRef erased mut (pointee (u8 .written))) l₂₅) ∷ ‵ (froom (sliceTy (tyRef erased mut (pointee (Session-t.the-row .written)))) l₂₄ 0) ∷ ‵ (fdies (sliceTy (tyRef erased mut (pointee (Session-t.the-row .written)))) l₂₄) ∷ ‵ (froom (tyRef erased mut (pointee (Session-t.the-row .written))) l₂₃ 0) ∷ ‵ (fdies (tyRef erased mut (pointee (Session-t.the-row .written))) l₂₃) ∷ ‵ (froom (sliceTy (tyRef erased mut (pointee (u8 .written)))) l₂₂ 0) ∷ ‵ (fdies (sliceTy (tyRef erased mut (pointee (u8 .written)))) l₂₂) ∷ ‵ (froom (tyRef erased mut (pointee (u8 .written))) l₂₁ 0) ∷ ‵ (fdies (tyRef erased mut (pointee (u8 .written))) l₂₁) ∷ ‵ (froom (sliceTy (tyRef erased mut (pointee (Session-t.the-row .written)))) l₂₀ 0) ∷ ‵ (fdies (sliceTy (tyRef erased mut (pointee (Session-t.the-row .written)))) l₂₀) ∷ ‵ (froom (tyRef erased mut (pointee (Session-t.the-row .written))) l₁₉ 0) ∷ ‵ (fdies (tyRef erased mut (pointee (Session-t.the-row .written))) l₁₉) ∷ ‵ (froom (sliceTy (tyRef erased mut (pointee (u8 .written)))) l₁₈ 0) ∷ ‵ (fdies (sliceTy (tyRef erased mut (pointee (u8 .written)))) l₁₈) ∷ ‵ (froom (tyRef erased mut (pointee (u8 .written))) l₁₇ 0) ∷ ‵ (fdies (tyRef erased mut (pointee (u8 .written))) l₁₇) ∷ ‵ (froom (sliceTy (tyRef erased mut (pointee (Session-t.the-row .written)))) l₁₆ 0) ∷ ‵ (fdies (sliceTy (tyRef erased mut (pointee (Session-t.the-row .written)))) l₁₆) ∷ ‵ (froom (tyRef erased mut (pointee (Session-t.the-row .written))) l₁₅ 0) ∷ ‵ (fdies (tyRef erased mut (pointee (Session-t.the-row .written))) l₁₅) ∷ ‵ (froom (sliceTy (tyRef erased mut (pointee (u8 .written)))) l₁₄ 0) ∷ ‵ (fdies (sliceTy (tyRef erased mut (pointee (u8 .written)))) l₁₄) ∷ ‵ (froom (tyRef erased mut (pointee (u8 .written))) l₁₃ 0) ∷ ‵ (fdies (tyRef erased mut (pointee (u8 .written))) l₁₃) ∷ ‵ (froom (sliceTy (tyRef erased mut (pointee (Session-t.the-row .written)))) l₁₂ 0) ∷ ‵ (fdies (sliceTy (tyRef erased mut (pointee (Session-t.the-row .written)))) l₁₂) ∷ ‵ (froom (tyRef erased mut (pointee (Session-t.the-row .written))) l₁₁ 0) ∷ ‵ (fdies (tyRef erased mut (pointee (Session-t.the-row .written))) l₁₁) ∷ ‵ (fat fullShare tyBool l₁₀ 0 (vbool (eqb r-kind-of 1))) ∷ ‵ (fdies tyBool l₁₀) ∷ ‵ (fat fullShare (tyInt w64) l₉ 0 w-place-of) ∷ ‵ (fdies (tyInt w64) l₉) ∷ ‵ (fat fullShare (tyInt w64) l₈ 0 w-size-of) ∷ ‵ (fdies (tyInt w64) l₈) ∷ ‵ (fat fullShare (tyInt w8) l₇ 0 (vint w8 r-kind-of)) ∷ ‵ (fdies (tyInt w8) l₇) ∷ ‵ (fat fullShare Ask-l.mir l₆ 0 w-ask-of) ∷ ‵ (fdies Ask-l.mir l₆) ∷ ‵ (fat fullShare (sliceTy (tyRef (named 2) mut (pointee (u8 .written)))) l₅ 0 v-out) ∷ ‵ (fdies (sliceTy (tyRef (named 2) mut (pointee (u8 .written)))) l₅) ∷ ‵ (fat fullShare (sliceTy (tyRef (named 1) imm (pointee (u8 .written)))) l₄ 0 v-octets) ∷ ‵ (fdies (sliceTy (tyRef (named 1) imm (pointee (u8 .written)))) l₄) ∷ ‵ (fat fullShare Line-l.mir l₃ 0 v-line) ∷ ‵ (fdies Line-l.mir l₃) ∷ ‵ (fat fullShare (sliceTy (tyRef (named 0) mut (pointee (Session-t.the-row .written)))) l₂ 0 v-recs) ∷ ‵ (fdies (sliceTy (tyRef (named 0) mut (pointee (Session-t.the-row .written)))) l₂) ∷ ‵ (fat fullShare Bench-l.mir l₁ 0 v-b) ∷ ‵ (fdies Bench-l.mir l₁) ∷ ‵ (froom Bench-l.mir l₀ 0) ∷ ‵ (fdies Bench-l.mir l₀) ∷ ‵ Own-octets ∷ ‵ Own-out ∷ ‵ Own-recs ∷ ‵ (flft κ₀ q₀) ∷ ‵ (flft κ₁ q₁) ∷ ‵ (flft κ₂ q₂) ∷ []) (runs C Λ (En l₀ l₁ l₂ l₃ l₄ l₅ l₆ l₇ l₈ l₉ l₁₀ l₁₁ l₁₂ l₁₃ l₁₄ l₁₅ l₁₆ l₁₇ l₁₈ l₁₉ l₂₀ l₂₁ l₂₂ l₂₃ l₂₄ l₂₅ l₂₆ l₂₇ l₂₈) mir.t-7 (atRet (En l₀ l₁ l₂ l₃ l₄ l₅ l₆ l₇ l₈ l₉ l₁₀ l₁₁ l₁₂ l₁₃ l₁₄ l₁₅ l₁₆ l₁₇ l₁₈ l₁₉ l₂₀ l₂₁ l₂₂ l₂₃ l₂₄ l₂₅ l₂₆ l₂₇ l₂₈) Post))
+      part-7 : (w-ask-of : Val) → (r-ask-of : Ask) → (e-ask-of : r-ask-of ≡ askOf line) → (is-ask-of : Is Ask-t.the-row r-ask-of (w-ask-of ∷ [])) → (w-kind-of : Val) → (r-kind-of : ℕ) → (e-kind-of : r-kind-of ≡ r-ask-of .kind) → (is-kind-of : Is u8 r-kind-of (w-kind-of ∷ [])) → (w-size-of : Val) → (r-size-of : ℕ) → (e-size-of : r-size-of ≡ r-ask-of .size) → (is-size-of : Is usize r-size-of (w-size-of ∷ [])) → (w-place-of : Val) → (r-place-of : ℕ) → (e-place-of : r-place-of ≡ r-ask-of .place) → (is-place-of : Is usize r-place-of (w-place-of ∷ [])) → (t : (eqb r-kind-of 1) ≡ false) → Sq W (‵ (froom (sliceTy (tyRef erased mut (pointee (u8 .written)))) l₃₂ 0) ∷ ‵ (fdies (sliceTy (tyRef erased mut (pointee (u8 .written)))) l₃₂) ∷ ‵ (froom (tyRef erased mut (pointee (u8 .written))) l₃₁ 0) ∷ ‵ (fdies (tyRef erased mut (pointee (u8 .written))) l₃₁) ∷ ‵ (froom (sliceTy (tyRef erased mut (pointee (u8 .written)))) l₃₀ 0) ∷ ‵ (fdies (sliceTy (tyRef erased mut (pointee (u8 .written)))) l₃₀) ∷ ‵ (froom (tyRef erased mut (pointee (u8 .written))) l₂₉ 0) ∷ ‵ (fdies (tyRef erased mut (pointee (u8 .written))) l₂₉) ∷ ‵ (froom (sliceTy (tyRef erased mut (pointee (Session-t.the-row .written)))) l₂₈ 0) ∷ ‵ (fdies (sliceTy (tyRef erased mut (pointee (Session-t.the-row .written)))) l₂₈) ∷ ‵ (froom (tyRef erased mut (pointee (Session-t.the-row .written))) l₂₇ 0) ∷ ‵ (fdies (tyRef erased mut (pointee (Session-t.the-row .written))) l₂₇) ∷ ‵ (froom (sliceTy (tyRef erased mut (pointee (u8 .written)))) l₂₆ 0) ∷ ‵ (fdies (sliceTy (tyRef erased mut (pointee (u8 .written)))) l₂₆) ∷ ‵ (froom (tyRef erased mut (pointee (u8 .written))) l₂₅ 0) ∷ ‵ (fdies (tyRef erased mut (pointee (u8 .written))) l₂₅) ∷ ‵ (froom (sliceTy (tyRef erased mut (pointee (Session-t.the-row .written)))) l₂₄ 0) ∷ ‵ (fdies (sliceTy (tyRef erased mut (pointee (Session-t.the-row .written)))) l₂₄) ∷ ‵ (froom (tyRef erased mut (pointee (Session-t.the-row .written))) l₂₃ 0) ∷ ‵ (fdies (tyRef erased mut (pointee (Session-t.the-row .written))) l₂₃) ∷ ‵ (froom (sliceTy (tyRef erased mut (pointee (u8 .written)))) l₂₂ 0) ∷ ‵ (fdies (sliceTy (tyRef erased mut (pointee (u8 .written)))) l₂₂) ∷ ‵ (froom (tyRef erased mut (pointee (u8 .written))) l₂₁ 0) ∷ ‵ (fdies (tyRef erased mut (pointee (u8 .written))) l₂₁) ∷ ‵ (froom (sliceTy (tyRef erased mut (pointee (Session-t.the-row .written)))) l₂₀ 0) ∷ ‵ (fdies (sliceTy (tyRef erased mut (pointee (Session-t.the-row .written)))) l₂₀) ∷ ‵ (froom (tyRef erased mut (pointee (Session-t.the-row .written))) l₁₉ 0) ∷ ‵ (fdies (tyRef erased mut (pointee (Session-t.the-row .written))) l₁₉) ∷ ‵ (froom (sliceTy (tyRef erased mut (pointee (u8 .written)))) l₁₈ 0) ∷ ‵ (fdies (sliceTy (tyRef erased mut (pointee (u8 .written)))) l₁₈) ∷ ‵ (froom (tyRef erased mut (pointee (u8 .written))) l₁₇ 0) ∷ ‵ (fdies (tyRef erased mut (pointee (u8 .written))) l₁₇) ∷ ‵ (froom (sliceTy (tyRef erased mut (pointee (Session-t.the-row .written)))) l₁₆ 0) ∷ ‵ (fdies (sliceTy (tyRef erased mut (pointee (Session-t.the-row .written)))) l₁₆) ∷ ‵ (froom (tyRef erased mut (pointee (Session-t.the-row .written))) l₁₅ 0) ∷ ‵ (fdies (tyRef erased mut (pointee (Session-t.the-row .written))) l₁₅) ∷ ‵ (froom (sliceTy (tyRef erased mut (pointee (u8 .written)))) l₁₄ 0) ∷ ‵ (fdies (sliceTy (tyRef erased mut (pointee (u8 .written)))) l₁₄) ∷ ‵ (froom (tyRef erased mut (pointee (u8 .written))) l₁₃ 0) ∷ ‵ (fdies (tyRef erased mut (pointee (u8 .written))) l₁₃) ∷ ‵ (froom (sliceTy (tyRef erased mut (pointee (Session-t.the-row .written)))) l₁₂ 0) ∷ ‵ (fdies (sliceTy (tyRef erased mut (pointee (Session-t.the-row .written)))) l₁₂) ∷ ‵ (froom (tyRef erased mut (pointee (Session-t.the-row .written))) l₁₁ 0) ∷ ‵ (fdies (tyRef erased mut (pointee (Session-t.the-row .written))) l₁₁) ∷ ‵ (fat fullShare tyBool l₁₀ 0 (vbool (eqb r-kind-of 1))) ∷ ‵ (fdies tyBool l₁₀) ∷ ‵ (fat fullShare (tyInt w64) l₉ 0 w-place-of) ∷ ‵ (fdies (tyInt w64) l₉) ∷ ‵ (fat fullShare (tyInt w64) l₈ 0 w-size-of) ∷ ‵ (fdies (tyInt w64) l₈) ∷ ‵ (fat fullShare (tyInt w8) l₇ 0 (vint w8 r-kind-of)) ∷ ‵ (fdies (tyInt w8) l₇) ∷ ‵ (fat fullShare Ask-l.mir l₆ 0 w-ask-of) ∷ ‵ (fdies Ask-l.mir l₆) ∷ ‵ (fat fullShare (sliceTy (tyRef (named 2) mut (pointee (u8 .written)))) l₅ 0 v-out) ∷ ‵ (fdies (sliceTy (tyRef (named 2) mut (pointee (u8 .written)))) l₅) ∷ ‵ (fat fullShare (sliceTy (tyRef (named 1) imm (pointee (u8 .written)))) l₄ 0 v-octets) ∷ ‵ (fdies (sliceTy (tyRef (named 1) imm (pointee (u8 .written)))) l₄) ∷ ‵ (fat fullShare Line-l.mir l₃ 0 v-line) ∷ ‵ (fdies Line-l.mir l₃) ∷ ‵ (fat fullShare (sliceTy (tyRef (named 0) mut (pointee (Session-t.the-row .written)))) l₂ 0 v-recs) ∷ ‵ (fdies (sliceTy (tyRef (named 0) mut (pointee (Session-t.the-row .written)))) l₂) ∷ ‵ (fat fullShare Bench-l.mir l₁ 0 v-b) ∷ ‵ (fdies Bench-l.mir l₁) ∷ ‵ (froom Bench-l.mir l₀ 0) ∷ ‵ (fdies Bench-l.mir l₀) ∷ ‵ Own-octets ∷ ‵ Own-out ∷ ‵ Own-recs ∷ ‵ (flft κ₀ q₀) ∷ ‵ (flft κ₁ q₁) ∷ ‵ (flft κ₂ q₂) ∷ []) (runs C Λ (En l₀ l₁ l₂ l₃ l₄ l₅ l₆ l₇ l₈ l₉ l₁₀ l₁₁ l₁₂ l₁₃ l₁₄ l₁₅ l₁₆ l₁₇ l₁₈ l₁₉ l₂₀ l₂₁ l₂₂ l₂₃ l₂₄ l₂₅ l₂₆ l₂₇ l₂₈ l₂₉ l₃₀ l₃₁ l₃₂) mir.t-7 (atRet (En l₀ l₁ l₂ l₃ l₄ l₅ l₆ l₇ l₈ l₉ l₁₀ l₁₁ l₁₂ l₁₃ l₁₄ l₁₅ l₁₆ l₁₇ l₁₈ l₁₉ l₂₀ l₂₁ l₂₂ l₂₃ l₂₄ l₂₅ l₂₆ l₂₇ l₂₈ l₂₉ l₃₀ l₃₁ l₃₂) Post))
       part-7 w-ask-of r-ask-of e-ask-of is-ask-of w-kind-of r-kind-of e-kind-of is-kind-of w-size-of r-size-of e-size-of is-size-of w-place-of r-place-of e-place-of is-place-of t =
           -- _10 = _7 eq 2
-          assigns ! (bin ! (load ! (from ! (stop !)) (look ! 42 refl)) (lit ! tt) tt) (from ! (stop !)) (overwrite ! 36 refl (tt, tt)) $
+          assigns ! (bin ! (load ! (from ! (stop !)) (look ! 50 refl)) (lit ! tt) tt) (from ! (stop !)) (overwrite ! 44 refl (tt, tt)) $
           -- if _10
-          first ! $ branches ! (load ! (from ! (stop !)) (look ! 36 refl)) (λ on2. let t2 = on-true (eqb r-kind-of 2) on2 in
+          first ! $ branches ! (load ! (from ! (stop !)) (look ! 44 refl)) (λ on2. let t2 = on-true (eqb r-kind-of 2) on2 in
           -- _15 = & _2.0.*
-          assigns ! (addr ! (from ! (fld ! refl (hop ! (look-in ! 52 (sub ! 0 refl (whole !))) (stop !))))) (from ! (stop !)) (init ! 26 refl (tt, tt)) $
+          assigns ! (addr ! (from ! (fld ! refl (hop ! (look-in ! 60 (sub ! 0 refl (whole !))) (stop !))))) (from ! (stop !)) (init ! 34 refl (tt, tt)) $
           -- _16 = {_15, _2.1}
-          assigns ! (agg ! (and-then ! (load ! (from ! (stop !)) (look ! 26 refl)) (and-then ! (load ! (from ! (fld ! refl (stop !))) (look-in ! 52 (sub ! 1 refl (whole !)))) (no-more !)))) (from ! (stop !)) (init ! 24 refl (tt, (tt, (record { fits = room-recs .0 }, tt)))) $
+          assigns ! (agg ! (and-then ! (load ! (from ! (stop !)) (look ! 34 refl)) (and-then ! (load ! (from ! (fld ! refl (stop !))) (look-in ! 60 (sub ! 1 refl (whole !)))) (no-more !)))) (from ! (stop !)) (init ! 32 refl (tt, (tt, (record { fits = room-recs .0 }, tt)))) $
           -- _17 = & _5.0.*
-          assigns ! (addr ! (from ! (fld ! refl (hop ! (look-in ! 46 (sub ! 0 refl (whole !))) (stop !))))) (from ! (stop !)) (init ! 22 refl (tt, tt)) $
+          assigns ! (addr ! (from ! (fld ! refl (hop ! (look-in ! 54 (sub ! 0 refl (whole !))) (stop !))))) (from ! (stop !)) (init ! 30 refl (tt, tt)) $
           -- _18 = {_17, _5.1}
-          assigns ! (agg ! (and-then ! (load ! (from ! (stop !)) (look ! 22 refl)) (and-then ! (load ! (from ! (fld ! refl (stop !))) (look-in ! 46 (sub ! 1 refl (whole !)))) (no-more !)))) (from ! (stop !)) (init ! 20 refl (tt, (tt, (record { fits = room-out .0 }, tt)))) $
+          assigns ! (agg ! (and-then ! (load ! (from ! (stop !)) (look ! 30 refl)) (and-then ! (load ! (from ! (fld ! refl (stop !))) (look-in ! 54 (sub ! 1 refl (whole !)))) (no-more !)))) (from ! (stop !)) (init ! 28 refl (tt, (tt, (record { fits = room-out .0 }, tt)))) $
           -- _0 = run_user(_1, _16, _4, _8, _18)
-          move ! (58 ∷ []) $ use1 W (‵ Own-octets ⊛ ‵ Own-octets) (shr-slice-copy 𝓤 H A W (named 1) κ₁ u8 .twice octets (v-octets ∷ [])) $ split ! $ nothing ! $ move ! (65 ∷ 0 ∷ []) $ join ! $ move ! (64 ∷ 0 ∷ []) $ join ! $
-          move ! (63 ∷ 0 ∷ []) $ join ! $ nothing ! $ move ! (62 ∷ 0 ∷ []) $ fjoin ! $ owned ! usize (Is usize) (uint-makes 𝓤 H A W w64) r-size-of _ is-size-of $ fjoin ! $ move ! (3 ∷ 0 ∷ []) $ fjoin ! $ move ! (61 ∷ 0 ∷ []) $ fjoin ! $
+          move ! (66 ∷ []) $ use1 W (‵ Own-octets ⊛ ‵ Own-octets) (shr-slice-copy 𝓤 H A W (named 1) κ₁ u8 .twice octets (v-octets ∷ [])) $ split ! $ nothing ! $ move ! (73 ∷ 0 ∷ []) $ join ! $ move ! (72 ∷ 0 ∷ []) $ join ! $
+          move ! (71 ∷ 0 ∷ []) $ join ! $ nothing ! $ move ! (70 ∷ 0 ∷ []) $ fjoin ! $ owned ! usize (Is usize) (uint-makes 𝓤 H A W w64) r-size-of _ is-size-of $ fjoin ! $ move ! (3 ∷ 0 ∷ []) $ fjoin ! $ move ! (69 ∷ 0 ∷ []) $ fjoin ! $
           owned ! Bench-t.the-row (Is Bench-t.the-row) (LL.makes Bench-t.the-type Bench-l.the-plain 𝓤 H A) b _ is-b $ fjoin ! $ move ! (1 ∷ 0 ∷ []) $
           use2 W (raw (c-run-user 𝓤 H A mem run .pre (((κ₀, (κ₁, (κ₂, tt))), (q₀, (q₁, (q₂, tt))), tt, (b, (recs, (octets, (r-size-of, (out, tt))))), (v-b ∷ [], (v-recs ∷ [], (v-octets ∷ [], (w-size-of ∷ [], (v-out ∷ [], tt)))))), tt))) (qed W ((‵ (flft κ₀ q₀) ⊛ ‵ (flft κ₁ q₁) ⊛ ‵ (flft κ₂ q₂) ⊛ ‵ ftrue) ∷ ‵ (fsep (Bench-t.the-row .own b (v-b ∷ [])) (fsep Own-recs (fsep Own-octets (fsep (usize .own r-size-of (w-size-of ∷ [])) (fsep Own-out ftrue))))) ∷ []) ∵ join ! $ frame ! $ done !) $
-          calls-at ! fm (c-run-user 𝓤 H A mem run) known-run-user (((κ₀, (κ₁, (κ₂, tt))), (q₀, (q₁, (q₂, tt))), tt, (b, (recs, (octets, (r-size-of, (out, tt))))), (v-b ∷ [], (v-recs ∷ [], (v-octets ∷ [], (w-size-of ∷ [], (v-out ∷ [], tt)))))), tt) (and-then ! (load ! (from ! (stop !)) (look ! 56 refl)) (and-then ! (load ! (from ! (stop !)) (look ! 26 refl)) (and-then ! (load ! (from ! (stop !)) (look ! 50 refl)) (and-then ! (load ! (from ! (stop !)) (look ! 42 refl)) (and-then ! (load ! (from ! (stop !)) (look ! 22 refl)) (no-more !)))))) (λ w-run-user.
+          calls-at ! fm (c-run-user 𝓤 H A mem run) known-run-user (((κ₀, (κ₁, (κ₂, tt))), (q₀, (q₁, (q₂, tt))), tt, (b, (recs, (octets, (r-size-of, (out, tt))))), (v-b ∷ [], (v-recs ∷ [], (v-octets ∷ [], (w-size-of ∷ [], (v-out ∷ [], tt)))))), tt) (and-then ! (load ! (from ! (stop !)) (look ! 64 refl)) (and-then ! (load ! (from ! (stop !)) (look ! 34 refl)) (and-then ! (load ! (from ! (stop !)) (look ! 58 refl)) (and-then ! (load ! (from ! (stop !)) (look ! 50 refl)) (and-then ! (load ! (from ! (stop !)) (look ! 30 refl)) (no-more !)))))) (λ w-run-user.
           use1 W (later (some (λ (r-run-user : Bench). ((‵ (flft κ₀ q₀) ⊛ ‵ (flft κ₁ q₁) ⊛ ‵ (flft κ₂ q₂) ⊛ ‵ ftrue) ⊛ ‵ (Bench-t.the-row .own r-run-user (w-run-user ∷ []))) ⊛ raw (ensured 𝓤 H A c-run-user′.ended (c-run-user′.clauses 𝓤 H A mem run) (κ₀, (κ₁, (κ₂, tt))) (b, (recs, (octets, (r-size-of, (out, tt))))) tt r-run-user)))) (id⊢ 𝓤 _) $ await ! tt $
           pick ! (λ r-run-user. split ! $ move ! (1 ∷ []) $
           use1 W (some (λ (z-run-user : (Unit {0}) × ((List Session) × ((Unit {0}) × ((Unit {0}) × ((List ℕ) × Unit {0}))))). ‵ (lasts c-run-user′.ended (κ₀, (κ₁, (κ₂, tt))) (b, (recs, (octets, (r-size-of, (out, tt))))) z-run-user) ⊛ raw (fact 𝓤 (ran r-run-user (z-run-user .1 .0) (z-run-user .1 .1 .1 .1 .0) ≡ userRun (take r-size-of (octets .now)) b (ys-recs) (ys-out))))) (id⊢ 𝓤 _) $
@@ -294,72 +341,72 @@ module _ {M : Type 1} (𝓤 : URA M) (H : Heap 𝓤) (A : Atoms 𝓤) (W : Given
           fsplit ! $ move ! (1 ∷ []) $ feqL ! (λ len-run-user-recs. move ! (1 ∷ []) $ fsplit ! $ drop ! $ fsplit ! $ drop ! $ fsplit ! $ fsplit ! $ move ! (1 ∷ []) $ feqL ! (λ len-run-user-out. move ! (1 ∷ []) $ drop ! $ move ! (2 ∷ []) $
           split ! $ split ! $ move ! (1 ∷ []) $ split ! $ move ! (1 ∷ []) $ split ! $ move ! (1 ∷ []) $ drop ! $ move ! (3 ∷ []) $
           peeks ! Bench-t.the-row (Is Bench-t.the-row) (shows 𝓤 H A Bench-t.the-row) r-run-user (w-run-user ∷ []) (λ is-run-user.
-          land ! (from ! (stop !)) (init ! 63 refl (LL.lawful Bench-t.the-type Bench-l.the-laws 𝓤 H A W .typed r-run-user _ is-run-user .0)) $ drop ! $
+          land ! (from ! (stop !)) (init ! 71 refl (LL.lawful Bench-t.the-type Bench-l.the-laws 𝓤 H A W .typed r-run-user _ is-run-user .0)) $ drop ! $
           -- return
-          returns-within ! Post refl (look ! 62 refl) $
-          forget ! 26 refl $ forget ! 28 refl $ forget ! 30 refl $ forget ! 32 refl $ forget ! 42 refl $ forget ! 44 refl $ forget ! 46 refl $ forget ! 48 refl $ forget ! 50 refl $ forget ! 52 refl $ forget ! 54 refl $ forget ! 56 refl $ forget ! 58 refl $ forget ! 60 refl $ forget ! 62 refl $
-          move ! (62 ∷ 63 ∷ []) $ free1 ! $ move ! (60 ∷ 61 ∷ []) $ free1 ! $ move ! (58 ∷ 59 ∷ []) $ free1 ! $ move ! (56 ∷ 57 ∷ []) $ free1 ! $ move ! (54 ∷ 55 ∷ []) $ free1 ! $ move ! (52 ∷ 53 ∷ []) $ free1 ! $ move ! (50 ∷ 51 ∷ []) $ free1 ! $ move ! (48 ∷ 49 ∷ []) $ free1 ! $ move ! (46 ∷ 47 ∷ []) $ free1 ! $ move ! (44 ∷ 45 ∷ []) $ free1 ! $ move ! (42 ∷ 43 ∷ []) $ free1 ! $ move ! (40 ∷ 41 ∷ []) $ free1 ! $ move ! (38 ∷ 39 ∷ []) $ free1 ! $ move ! (36 ∷ 37 ∷ []) $ free1 ! $ move ! (34 ∷ 35 ∷ []) $ free1 ! $ move ! (32 ∷ 33 ∷ []) $ free1 ! $ move ! (30 ∷ 31 ∷ []) $ free1 ! $ move ! (28 ∷ 29 ∷ []) $ free1 ! $ move ! (26 ∷ 27 ∷ []) $ free1 ! $ move ! (24 ∷ 25 ∷ []) $ free1 ! $ move ! (22 ∷ 23 ∷ []) $ free1 ! $ move ! (20 ∷ 21 ∷ []) $ free1 ! $ move ! (18 ∷ 19 ∷ []) $ free1 ! $ move ! (16 ∷ 17 ∷ []) $ free1 ! $ move ! (14 ∷ 15 ∷ []) $ free1 ! $ move ! (12 ∷ 13 ∷ []) $ free1 ! $ move ! (10 ∷ 11 ∷ []) $ free1 ! $ move ! (8 ∷ 9 ∷ []) $ free1 ! $ move ! (6 ∷ 7 ∷ []) $ free1 ! $ free0 ! $
+          returns-within ! Post refl (look ! 70 refl) $
+          forget ! 34 refl $ forget ! 36 refl $ forget ! 38 refl $ forget ! 40 refl $ forget ! 50 refl $ forget ! 52 refl $ forget ! 54 refl $ forget ! 56 refl $ forget ! 58 refl $ forget ! 60 refl $ forget ! 62 refl $ forget ! 64 refl $ forget ! 66 refl $ forget ! 68 refl $ forget ! 70 refl $
+          move ! (70 ∷ 71 ∷ []) $ free1 ! $ move ! (68 ∷ 69 ∷ []) $ free1 ! $ move ! (66 ∷ 67 ∷ []) $ free1 ! $ move ! (64 ∷ 65 ∷ []) $ free1 ! $ move ! (62 ∷ 63 ∷ []) $ free1 ! $ move ! (60 ∷ 61 ∷ []) $ free1 ! $ move ! (58 ∷ 59 ∷ []) $ free1 ! $ move ! (56 ∷ 57 ∷ []) $ free1 ! $ move ! (54 ∷ 55 ∷ []) $ free1 ! $ move ! (52 ∷ 53 ∷ []) $ free1 ! $ move ! (50 ∷ 51 ∷ []) $ free1 ! $ move ! (48 ∷ 49 ∷ []) $ free1 ! $ move ! (46 ∷ 47 ∷ []) $ free1 ! $ move ! (44 ∷ 45 ∷ []) $ free1 ! $ move ! (42 ∷ 43 ∷ []) $ free1 ! $ move ! (40 ∷ 41 ∷ []) $ free1 ! $ move ! (38 ∷ 39 ∷ []) $ free1 ! $ move ! (36 ∷ 37 ∷ []) $ free1 ! $ move ! (34 ∷ 35 ∷ []) $ free1 ! $ move ! (32 ∷ 33 ∷ []) $ free1 ! $ move ! (30 ∷ 31 ∷ []) $ free1 ! $ move ! (28 ∷ 29 ∷ []) $ free1 ! $ move ! (26 ∷ 27 ∷ []) $ free1 ! $ move ! (24 ∷ 25 ∷ []) $ free1 ! $ move ! (22 ∷ 23 ∷ []) $ free1 ! $ move ! (20 ∷ 21 ∷ []) $ free1 ! $ move ! (18 ∷ 19 ∷ []) $ free1 ! $ move ! (16 ∷ 17 ∷ []) $ free1 ! $ move ! (14 ∷ 15 ∷ []) $ free1 ! $ move ! (12 ∷ 13 ∷ []) $ free1 ! $ move ! (10 ∷ 11 ∷ []) $ free1 ! $ move ! (8 ∷ 9 ∷ []) $ free1 ! $ move ! (6 ∷ 7 ∷ []) $ free1 ! $ free0 ! $
           owned ! Bench-t.the-row (Is Bench-t.the-row) (LL.makes Bench-t.the-type Bench-l.the-plain 𝓤 H A) r-run-user _ is-run-user $ nothing ! $ move ! (2 ∷ 0 ∷ []) $ join ! $ move ! (2 ∷ 0 ∷ []) $ join ! $ move ! (2 ∷ 0 ∷ []) $ join ! $
           keep ! (0 ∷ 3 ∷ 2 ∷ 1 ∷ []) $
           by ! (exits r-run-user w-run-user (z-run-user .1 .0) (z-run-user .1 .1 .1 .1 .0) (asks-user line (now octets) b ys-recs ys-out (ran r-run-user (z-run-user .1 .0) (z-run-user .1 .1 .1 .1 .0)) r-ask-of r-kind-of r-size-of r-place-of e-ask-of e-kind-of e-size-of e-place-of t t2 e-run-user) len-run-user-recs len-run-user-out)))))))))
           (λ off2. let t2 = off-false (eqb r-kind-of 2) off2 in
-          skips ! $ exec ! C Λ (En l₀ l₁ l₂ l₃ l₄ l₅ l₆ l₇ l₈ l₉ l₁₀ l₁₁ l₁₂ l₁₃ l₁₄ l₁₅ l₁₆ l₁₇ l₁₈ l₁₉ l₂₀ l₂₁ l₂₂ l₂₃ l₂₄ l₂₅ l₂₆ l₂₇ l₂₈) mir.t-9 (atRet (En l₀ l₁ l₂ l₃ l₄ l₅ l₆ l₇ l₈ l₉ l₁₀ l₁₁ l₁₂ l₁₃ l₁₄ l₁₅ l₁₆ l₁₇ l₁₈ l₁₉ l₂₀ l₂₁ l₂₂ l₂₃ l₂₄ l₂₅ l₂₆ l₂₇ l₂₈) Post) $
-          keep ! (0 ∷ 1 ∷ 2 ∷ 3 ∷ 4 ∷ 5 ∷ 6 ∷ 7 ∷ 8 ∷ 9 ∷ 10 ∷ 11 ∷ 12 ∷ 13 ∷ 14 ∷ 15 ∷ 16 ∷ 17 ∷ 18 ∷ 19 ∷ 20 ∷ 21 ∷ 22 ∷ 23 ∷ 24 ∷ 25 ∷ 26 ∷ 27 ∷ 28 ∷ 29 ∷ 30 ∷ 31 ∷ 32 ∷ 33 ∷ 34 ∷ 35 ∷ 36 ∷ 37 ∷ 38 ∷ 39 ∷ 40 ∷ 41 ∷ 42 ∷ 43 ∷ 44 ∷ 45 ∷ 46 ∷ 47 ∷ 48 ∷ 49 ∷ 50 ∷ 51 ∷ 52 ∷ 53 ∷ 54 ∷ 55 ∷ 56 ∷ 57 ∷ 58 ∷ 59 ∷ 60 ∷ 61 ∷ 62 ∷ 63 ∷ []) $
+          skips ! $ exec ! C Λ (En l₀ l₁ l₂ l₃ l₄ l₅ l₆ l₇ l₈ l₉ l₁₀ l₁₁ l₁₂ l₁₃ l₁₄ l₁₅ l₁₆ l₁₇ l₁₈ l₁₉ l₂₀ l₂₁ l₂₂ l₂₃ l₂₄ l₂₅ l₂₆ l₂₇ l₂₈ l₂₉ l₃₀ l₃₁ l₃₂) mir.t-9 (atRet (En l₀ l₁ l₂ l₃ l₄ l₅ l₆ l₇ l₈ l₉ l₁₀ l₁₁ l₁₂ l₁₃ l₁₄ l₁₅ l₁₆ l₁₇ l₁₈ l₁₉ l₂₀ l₂₁ l₂₂ l₂₃ l₂₄ l₂₅ l₂₆ l₂₇ l₂₈ l₂₉ l₃₀ l₃₁ l₃₂) Post) $
+          keep ! (0 ∷ 1 ∷ 2 ∷ 3 ∷ 4 ∷ 5 ∷ 6 ∷ 7 ∷ 8 ∷ 9 ∷ 10 ∷ 11 ∷ 12 ∷ 13 ∷ 14 ∷ 15 ∷ 16 ∷ 17 ∷ 18 ∷ 19 ∷ 20 ∷ 21 ∷ 22 ∷ 23 ∷ 24 ∷ 25 ∷ 26 ∷ 27 ∷ 28 ∷ 29 ∷ 30 ∷ 31 ∷ 32 ∷ 33 ∷ 34 ∷ 35 ∷ 36 ∷ 37 ∷ 38 ∷ 39 ∷ 40 ∷ 41 ∷ 42 ∷ 43 ∷ 44 ∷ 45 ∷ 46 ∷ 47 ∷ 48 ∷ 49 ∷ 50 ∷ 51 ∷ 52 ∷ 53 ∷ 54 ∷ 55 ∷ 56 ∷ 57 ∷ 58 ∷ 59 ∷ 60 ∷ 61 ∷ 62 ∷ 63 ∷ 64 ∷ 65 ∷ 66 ∷ 67 ∷ 68 ∷ 69 ∷ 70 ∷ 71 ∷ []) $
           part-9 w-ask-of r-ask-of e-ask-of is-ask-of w-kind-of r-kind-of e-kind-of is-kind-of w-size-of r-size-of e-size-of is-size-of w-place-of r-place-of e-place-of is-place-of t t2)
 
-      part-1 : Sq W (‵ (froom (sliceTy (tyRef erased mut (pointee (u8 .written)))) l₂₈ 0) ∷ ‵ (fdies (sliceTy (tyRef erased mut (pointee (u8 .written)))) l₂₈) ∷ ‵ (froom (tyRef erased mut (pointee (u8 .written))) l₂₇ 0) ∷ ‵ (fdies (tyRef erased mut (pointee (u8 .written))) l₂₇) ∷ ‵ (froom (sliceTy (tyRef erased mut (pointee (u8 .written)))) l₂₆ 0) ∷ ‵ (fdies (sliceTy (tyRef erased mut (pointee (u8 .written)))) l₂₆) ∷ ‵ (froom (tyRef erased mut (pointee (u8 .written))) l₂₅ 0) ∷ ‵ (fdies (tyRef erased mut (pointee (u8 .written))) l₂₅) ∷ ‵ (froom (sliceTy (tyRef erased mut (pointee (Session-t.the-row .written)))) l₂₄ 0) ∷ ‵ (fdies (sliceTy (tyRef erased mut (pointee (Session-t.the-row .written)))) l₂₄) ∷ ‵ (froom (tyRef erased mut (pointee (Session-t.the-row .written))) l₂₃ 0) ∷ ‵ (fdies (tyRef erased mut (pointee (Session-t.the-row .written))) l₂₃) ∷ ‵ (froom (sliceTy (tyRef erased mut (pointee (u8 .written)))) l₂₂ 0) ∷ ‵ (fdies (sliceTy (tyRef erased mut (pointee (u8 .written)))) l₂₂) ∷ ‵ (froom (tyRef erased mut (pointee (u8 .written))) l₂₁ 0) ∷ ‵ (fdies (tyRef erased mut (pointee (u8 .written))) l₂₁) ∷ ‵ (froom (sliceTy (tyRef erased mut (pointee (Session-t.the-row .written)))) l₂₀ 0) ∷ ‵ (fdies (sliceTy (tyRef erased mut (pointee (Session-t.the-row .written)))) l₂₀) ∷ ‵ (froom (tyRef erased mut (pointee (Session-t.the-row .written))) l₁₉ 0) ∷ ‵ (fdies (tyRef erased mut (pointee (Session-t.the-row .written))) l₁₉) ∷ ‵ (froom (sliceTy (tyRef erased mut (pointee (u8 .written)))) l₁₈ 0) ∷ ‵ (fdies (sliceTy (tyRef erased mut (pointee (u8 .written)))) l₁₈) ∷ ‵ (froom (tyRef erased mut (pointee (u8 .written))) l₁₇ 0) ∷ ‵ (fdies (tyRef erased mut (pointee (u8 .written))) l₁₇) ∷ ‵ (froom (sliceTy (tyRef erased mut (pointee (Session-t.the-row .written)))) l₁₆ 0) ∷ ‵ (fdies (sliceTy (tyRef erased mut (pointee (Session-t.the-row .written)))) l₁₆) ∷ ‵ (froom (tyRef erased mut (pointee (Session-t.the-row .written))) l₁₅ 0) ∷ ‵ (fdies (tyRef erased mut (pointee (Session-t.the-row .written))) l₁₅) ∷ ‵ (froom (sliceTy (tyRef erased mut (pointee (u8 .written)))) l₁₄ 0) ∷ ‵ (fdies (sliceTy (tyRef erased mut (pointee (u8 .written)))) l₁₄) ∷ ‵ (froom (tyRef erased mut (pointee (u8 .written))) l₁₃ 0) ∷ ‵ (fdies (tyRef erased mut (pointee (u8 .written))) l₁₃) ∷ ‵ (froom (sliceTy (tyRef erased mut (pointee (Session-t.the-row .written)))) l₁₂ 0) ∷ ‵ (fdies (sliceTy (tyRef erased mut (pointee (Session-t.the-row .written)))) l₁₂) ∷ ‵ (froom (tyRef erased mut (pointee (Session-t.the-row .written))) l₁₁ 0) ∷ ‵ (fdies (tyRef erased mut (pointee (Session-t.the-row .written))) l₁₁) ∷ ‵ (froom tyBool l₁₀ 0) ∷ ‵ (fdies tyBool l₁₀) ∷ ‵ (froom (tyInt w64) l₉ 0) ∷ ‵ (fdies (tyInt w64) l₉) ∷ ‵ (froom (tyInt w64) l₈ 0) ∷ ‵ (fdies (tyInt w64) l₈) ∷ ‵ (froom (tyInt w8) l₇ 0) ∷ ‵ (fdies (tyInt w8) l₇) ∷ ‵ (froom Ask-l.mir l₆ 0) ∷ ‵ (fdies Ask-l.mir l₆) ∷ ‵ (fat fullShare (sliceTy (tyRef (named 2) mut (pointee (u8 .written)))) l₅ 0 v-out) ∷ ‵ (fdies (sliceTy (tyRef (named 2) mut (pointee (u8 .written)))) l₅) ∷ ‵ (fat fullShare (sliceTy (tyRef (named 1) imm (pointee (u8 .written)))) l₄ 0 v-octets) ∷ ‵ (fdies (sliceTy (tyRef (named 1) imm (pointee (u8 .written)))) l₄) ∷ ‵ (fat fullShare Line-l.mir l₃ 0 v-line) ∷ ‵ (fdies Line-l.mir l₃) ∷ ‵ (fat fullShare (sliceTy (tyRef (named 0) mut (pointee (Session-t.the-row .written)))) l₂ 0 v-recs) ∷ ‵ (fdies (sliceTy (tyRef (named 0) mut (pointee (Session-t.the-row .written)))) l₂) ∷ ‵ (fat fullShare Bench-l.mir l₁ 0 v-b) ∷ ‵ (fdies Bench-l.mir l₁) ∷ ‵ (froom Bench-l.mir l₀ 0) ∷ ‵ (fdies Bench-l.mir l₀) ∷ ‵ Own-octets ∷ ‵ Own-out ∷ ‵ Own-recs ∷ ‵ (flft κ₀ q₀) ∷ ‵ (flft κ₁ q₁) ∷ ‵ (flft κ₂ q₂) ∷ []) (runs C Λ (En l₀ l₁ l₂ l₃ l₄ l₅ l₆ l₇ l₈ l₉ l₁₀ l₁₁ l₁₂ l₁₃ l₁₄ l₁₅ l₁₆ l₁₇ l₁₈ l₁₉ l₂₀ l₂₁ l₂₂ l₂₃ l₂₄ l₂₅ l₂₆ l₂₇ l₂₈) mir.t-1 (atRet (En l₀ l₁ l₂ l₃ l₄ l₅ l₆ l₇ l₈ l₉ l₁₀ l₁₁ l₁₂ l₁₃ l₁₄ l₁₅ l₁₆ l₁₇ l₁₈ l₁₉ l₂₀ l₂₁ l₂₂ l₂₃ l₂₄ l₂₅ l₂₆ l₂₇ l₂₈) Post))
+      part-1 : Sq W (‵ (froom (sliceTy (tyRef erased mut (pointee (u8 .written)))) l₃₂ 0) ∷ ‵ (fdies (sliceTy (tyRef erased mut (pointee (u8 .written)))) l₃₂) ∷ ‵ (froom (tyRef erased mut (pointee (u8 .written))) l₃₁ 0) ∷ ‵ (fdies (tyRef erased mut (pointee (u8 .written))) l₃₁) ∷ ‵ (froom (sliceTy (tyRef erased mut (pointee (u8 .written)))) l₃₀ 0) ∷ ‵ (fdies (sliceTy (tyRef erased mut (pointee (u8 .written)))) l₃₀) ∷ ‵ (froom (tyRef erased mut (pointee (u8 .written))) l₂₉ 0) ∷ ‵ (fdies (tyRef erased mut (pointee (u8 .written))) l₂₉) ∷ ‵ (froom (sliceTy (tyRef erased mut (pointee (Session-t.the-row .written)))) l₂₈ 0) ∷ ‵ (fdies (sliceTy (tyRef erased mut (pointee (Session-t.the-row .written)))) l₂₈) ∷ ‵ (froom (tyRef erased mut (pointee (Session-t.the-row .written))) l₂₇ 0) ∷ ‵ (fdies (tyRef erased mut (pointee (Session-t.the-row .written))) l₂₇) ∷ ‵ (froom (sliceTy (tyRef erased mut (pointee (u8 .written)))) l₂₆ 0) ∷ ‵ (fdies (sliceTy (tyRef erased mut (pointee (u8 .written)))) l₂₆) ∷ ‵ (froom (tyRef erased mut (pointee (u8 .written))) l₂₅ 0) ∷ ‵ (fdies (tyRef erased mut (pointee (u8 .written))) l₂₅) ∷ ‵ (froom (sliceTy (tyRef erased mut (pointee (Session-t.the-row .written)))) l₂₄ 0) ∷ ‵ (fdies (sliceTy (tyRef erased mut (pointee (Session-t.the-row .written)))) l₂₄) ∷ ‵ (froom (tyRef erased mut (pointee (Session-t.the-row .written))) l₂₃ 0) ∷ ‵ (fdies (tyRef erased mut (pointee (Session-t.the-row .written))) l₂₃) ∷ ‵ (froom (sliceTy (tyRef erased mut (pointee (u8 .written)))) l₂₂ 0) ∷ ‵ (fdies (sliceTy (tyRef erased mut (pointee (u8 .written)))) l₂₂) ∷ ‵ (froom (tyRef erased mut (pointee (u8 .written))) l₂₁ 0) ∷ ‵ (fdies (tyRef erased mut (pointee (u8 .written))) l₂₁) ∷ ‵ (froom (sliceTy (tyRef erased mut (pointee (Session-t.the-row .written)))) l₂₀ 0) ∷ ‵ (fdies (sliceTy (tyRef erased mut (pointee (Session-t.the-row .written)))) l₂₀) ∷ ‵ (froom (tyRef erased mut (pointee (Session-t.the-row .written))) l₁₉ 0) ∷ ‵ (fdies (tyRef erased mut (pointee (Session-t.the-row .written))) l₁₉) ∷ ‵ (froom (sliceTy (tyRef erased mut (pointee (u8 .written)))) l₁₈ 0) ∷ ‵ (fdies (sliceTy (tyRef erased mut (pointee (u8 .written)))) l₁₈) ∷ ‵ (froom (tyRef erased mut (pointee (u8 .written))) l₁₇ 0) ∷ ‵ (fdies (tyRef erased mut (pointee (u8 .written))) l₁₇) ∷ ‵ (froom (sliceTy (tyRef erased mut (pointee (Session-t.the-row .written)))) l₁₆ 0) ∷ ‵ (fdies (sliceTy (tyRef erased mut (pointee (Session-t.the-row .written)))) l₁₆) ∷ ‵ (froom (tyRef erased mut (pointee (Session-t.the-row .written))) l₁₅ 0) ∷ ‵ (fdies (tyRef erased mut (pointee (Session-t.the-row .written))) l₁₅) ∷ ‵ (froom (sliceTy (tyRef erased mut (pointee (u8 .written)))) l₁₄ 0) ∷ ‵ (fdies (sliceTy (tyRef erased mut (pointee (u8 .written)))) l₁₄) ∷ ‵ (froom (tyRef erased mut (pointee (u8 .written))) l₁₃ 0) ∷ ‵ (fdies (tyRef erased mut (pointee (u8 .written))) l₁₃) ∷ ‵ (froom (sliceTy (tyRef erased mut (pointee (Session-t.the-row .written)))) l₁₂ 0) ∷ ‵ (fdies (sliceTy (tyRef erased mut (pointee (Session-t.the-row .written)))) l₁₂) ∷ ‵ (froom (tyRef erased mut (pointee (Session-t.the-row .written))) l₁₁ 0) ∷ ‵ (fdies (tyRef erased mut (pointee (Session-t.the-row .written))) l₁₁) ∷ ‵ (froom tyBool l₁₀ 0) ∷ ‵ (fdies tyBool l₁₀) ∷ ‵ (froom (tyInt w64) l₉ 0) ∷ ‵ (fdies (tyInt w64) l₉) ∷ ‵ (froom (tyInt w64) l₈ 0) ∷ ‵ (fdies (tyInt w64) l₈) ∷ ‵ (froom (tyInt w8) l₇ 0) ∷ ‵ (fdies (tyInt w8) l₇) ∷ ‵ (froom Ask-l.mir l₆ 0) ∷ ‵ (fdies Ask-l.mir l₆) ∷ ‵ (fat fullShare (sliceTy (tyRef (named 2) mut (pointee (u8 .written)))) l₅ 0 v-out) ∷ ‵ (fdies (sliceTy (tyRef (named 2) mut (pointee (u8 .written)))) l₅) ∷ ‵ (fat fullShare (sliceTy (tyRef (named 1) imm (pointee (u8 .written)))) l₄ 0 v-octets) ∷ ‵ (fdies (sliceTy (tyRef (named 1) imm (pointee (u8 .written)))) l₄) ∷ ‵ (fat fullShare Line-l.mir l₃ 0 v-line) ∷ ‵ (fdies Line-l.mir l₃) ∷ ‵ (fat fullShare (sliceTy (tyRef (named 0) mut (pointee (Session-t.the-row .written)))) l₂ 0 v-recs) ∷ ‵ (fdies (sliceTy (tyRef (named 0) mut (pointee (Session-t.the-row .written)))) l₂) ∷ ‵ (fat fullShare Bench-l.mir l₁ 0 v-b) ∷ ‵ (fdies Bench-l.mir l₁) ∷ ‵ (froom Bench-l.mir l₀ 0) ∷ ‵ (fdies Bench-l.mir l₀) ∷ ‵ Own-octets ∷ ‵ Own-out ∷ ‵ Own-recs ∷ ‵ (flft κ₀ q₀) ∷ ‵ (flft κ₁ q₁) ∷ ‵ (flft κ₂ q₂) ∷ []) (runs C Λ (En l₀ l₁ l₂ l₃ l₄ l₅ l₆ l₇ l₈ l₉ l₁₀ l₁₁ l₁₂ l₁₃ l₁₄ l₁₅ l₁₆ l₁₇ l₁₈ l₁₉ l₂₀ l₂₁ l₂₂ l₂₃ l₂₄ l₂₅ l₂₆ l₂₇ l₂₈ l₂₉ l₃₀ l₃₁ l₃₂) mir.t-1 (atRet (En l₀ l₁ l₂ l₃ l₄ l₅ l₆ l₇ l₈ l₉ l₁₀ l₁₁ l₁₂ l₁₃ l₁₄ l₁₅ l₁₆ l₁₇ l₁₈ l₁₉ l₂₀ l₂₁ l₂₂ l₂₃ l₂₄ l₂₅ l₂₆ l₂₇ l₂₈ l₂₉ l₃₀ l₃₁ l₃₂) Post))
       part-1 =
           -- _6 = ask_of(_3)
           nothing ! $ nothing ! $ owned ! Line-t.the-row (Is Line-t.the-row) (EL.makes Line-t.the-type Line-l.the-plain 𝓤 H A) line _ is-line $ fjoin ! $ move ! (1 ∷ 0 ∷ []) $
           use2 W (raw (c-ask-of 𝓤 H A mem run .pre ((tt, tt, tt, (line, tt), (v-line ∷ [], tt)), tt))) (qed W ((‵ ftrue) ∷ ‵ (fsep (Line-t.the-row .own line (v-line ∷ [])) ftrue) ∷ []) ∵ join ! $ frame ! $ done !) $
-          calls-at ! fm (c-ask-of 𝓤 H A mem run) known-ask-of ((tt, tt, tt, (line, tt), (v-line ∷ [], tt)), tt) (and-then ! (load ! (from ! (stop !)) (look ! 51 refl)) (no-more !)) (λ w-ask-of.
+          calls-at ! fm (c-ask-of 𝓤 H A mem run) known-ask-of ((tt, tt, tt, (line, tt), (v-line ∷ [], tt)), tt) (and-then ! (load ! (from ! (stop !)) (look ! 59 refl)) (no-more !)) (λ w-ask-of.
           use1 W (later (some (λ (r-ask-of : Ask). ((‵ ftrue) ⊛ ‵ (Ask-t.the-row .own r-ask-of (w-ask-of ∷ []))) ⊛ raw (ensured 𝓤 H A c-ask-of′.ended (c-ask-of′.clauses 𝓤 H A mem run) tt (line, tt) tt r-ask-of)))) (id⊢ 𝓤 _) $ await ! tt $
           pick ! (λ r-ask-of. split ! $ move ! (1 ∷ []) $ use1 W (some (λ (z-ask-of : (Unit {0}) × Unit {0}). ‵ (lasts c-ask-of′.ended tt (line, tt) z-ask-of) ⊛ raw (fact 𝓤 (r-ask-of ≡ askOf line)))) (id⊢ 𝓤 _) $ pick ! (λ z-ask-of. split ! $
           move ! (1 ∷ []) $ heard ! (r-ask-of ≡ askOf line) (λ e-ask-of. fsplit ! $ drop ! $ drop ! $ split ! $ drop ! $ peeks ! Ask-t.the-row (Is Ask-t.the-row) (shows 𝓤 H A Ask-t.the-row) r-ask-of (w-ask-of ∷ []) (λ is-ask-of.
-          land ! (from ! (stop !)) (init ! 45 refl (LL.lawful Ask-t.the-type Ask-l.the-laws 𝓤 H A W .typed r-ask-of _ is-ask-of .0)) $ drop ! $
+          land ! (from ! (stop !)) (init ! 53 refl (LL.lawful Ask-t.the-type Ask-l.the-laws 𝓤 H A W .typed r-ask-of _ is-ask-of .0)) $ drop ! $
           -- _7 = kind_of(_6)
           nothing ! $ nothing ! $ owned ! Ask-t.the-row (Is Ask-t.the-row) (LL.makes Ask-t.the-type Ask-l.the-plain 𝓤 H A) r-ask-of _ is-ask-of $ fjoin ! $ move ! (1 ∷ 0 ∷ []) $
           use2 W (raw (c-kind-of 𝓤 H A mem run .pre ((tt, tt, tt, (r-ask-of, tt), (w-ask-of ∷ [], tt)), tt))) (qed W ((‵ ftrue) ∷ ‵ (fsep (Ask-t.the-row .own r-ask-of (w-ask-of ∷ [])) ftrue) ∷ []) ∵ join ! $ frame ! $ done !) $
-          calls-at ! fm (c-kind-of 𝓤 H A mem run) known-kind-of ((tt, tt, tt, (r-ask-of, tt), (w-ask-of ∷ [], tt)), tt) (and-then ! (load ! (from ! (stop !)) (look ! 45 refl)) (no-more !)) (λ w-kind-of.
+          calls-at ! fm (c-kind-of 𝓤 H A mem run) known-kind-of ((tt, tt, tt, (r-ask-of, tt), (w-ask-of ∷ [], tt)), tt) (and-then ! (load ! (from ! (stop !)) (look ! 53 refl)) (no-more !)) (λ w-kind-of.
           use1 W (later (some (λ (r-kind-of : ℕ). ((‵ ftrue) ⊛ ‵ (u8 .own r-kind-of (w-kind-of ∷ []))) ⊛ raw (ensured 𝓤 H A c-kind-of′.ended (c-kind-of′.clauses 𝓤 H A mem run) tt (r-ask-of, tt) tt r-kind-of)))) (id⊢ 𝓤 _) $ await ! tt $
           pick ! (λ r-kind-of. split ! $ move ! (1 ∷ []) $ use1 W (some (λ (z-kind-of : (Unit {0}) × Unit {0}). ‵ (lasts c-kind-of′.ended tt (r-ask-of, tt) z-kind-of) ⊛ raw (fact 𝓤 (r-kind-of ≡ r-ask-of .kind)))) (id⊢ 𝓤 _) $
           pick ! (λ z-kind-of. split ! $ move ! (1 ∷ []) $ heard ! (r-kind-of ≡ r-ask-of .kind) (λ e-kind-of. fsplit ! $ drop ! $ drop ! $ split ! $ drop ! $ peeks ! u8 (Is u8) (shows 𝓤 H A u8) r-kind-of (w-kind-of ∷ []) (λ is-kind-of.
-          land ! (from ! (stop !)) (init ! 43 refl (uint-lawful 𝓤 H A W w8 .typed r-kind-of _ is-kind-of .0)) $ drop ! $
+          land ! (from ! (stop !)) (init ! 51 refl (uint-lawful 𝓤 H A W w8 .typed r-kind-of _ is-kind-of .0)) $ drop ! $
           -- _8 = size_of(_6)
           nothing ! $ nothing ! $ owned ! Ask-t.the-row (Is Ask-t.the-row) (LL.makes Ask-t.the-type Ask-l.the-plain 𝓤 H A) r-ask-of _ is-ask-of $ fjoin ! $ move ! (1 ∷ 0 ∷ []) $
           use2 W (raw (c-size-of 𝓤 H A mem run .pre ((tt, tt, tt, (r-ask-of, tt), (w-ask-of ∷ [], tt)), tt))) (qed W ((‵ ftrue) ∷ ‵ (fsep (Ask-t.the-row .own r-ask-of (w-ask-of ∷ [])) ftrue) ∷ []) ∵ join ! $ frame ! $ done !) $
-          calls-at ! fm (c-size-of 𝓤 H A mem run) known-size-of ((tt, tt, tt, (r-ask-of, tt), (w-ask-of ∷ [], tt)), tt) (and-then ! (load ! (from ! (stop !)) (look ! 45 refl)) (no-more !)) (λ w-size-of.
+          calls-at ! fm (c-size-of 𝓤 H A mem run) known-size-of ((tt, tt, tt, (r-ask-of, tt), (w-ask-of ∷ [], tt)), tt) (and-then ! (load ! (from ! (stop !)) (look ! 53 refl)) (no-more !)) (λ w-size-of.
           use1 W (later (some (λ (r-size-of : ℕ). ((‵ ftrue) ⊛ ‵ (usize .own r-size-of (w-size-of ∷ []))) ⊛ raw (ensured 𝓤 H A c-size-of′.ended (c-size-of′.clauses 𝓤 H A mem run) tt (r-ask-of, tt) tt r-size-of)))) (id⊢ 𝓤 _) $ await ! tt $
           pick ! (λ r-size-of. split ! $ move ! (1 ∷ []) $ use1 W (some (λ (z-size-of : (Unit {0}) × Unit {0}). ‵ (lasts c-size-of′.ended tt (r-ask-of, tt) z-size-of) ⊛ raw (fact 𝓤 (r-size-of ≡ r-ask-of .size)))) (id⊢ 𝓤 _) $
           pick ! (λ z-size-of. split ! $ move ! (1 ∷ []) $ heard ! (r-size-of ≡ r-ask-of .size) (λ e-size-of. fsplit ! $ drop ! $ drop ! $ split ! $ drop ! $
-          peeks ! usize (Is usize) (shows 𝓤 H A usize) r-size-of (w-size-of ∷ []) (λ is-size-of. land ! (from ! (stop !)) (init ! 41 refl (uint-lawful 𝓤 H A W w64 .typed r-size-of _ is-size-of .0)) $ drop ! $
+          peeks ! usize (Is usize) (shows 𝓤 H A usize) r-size-of (w-size-of ∷ []) (λ is-size-of. land ! (from ! (stop !)) (init ! 49 refl (uint-lawful 𝓤 H A W w64 .typed r-size-of _ is-size-of .0)) $ drop ! $
           -- _9 = place_of(_6)
           nothing ! $ nothing ! $ owned ! Ask-t.the-row (Is Ask-t.the-row) (LL.makes Ask-t.the-type Ask-l.the-plain 𝓤 H A) r-ask-of _ is-ask-of $ fjoin ! $ move ! (1 ∷ 0 ∷ []) $
           use2 W (raw (c-place-of 𝓤 H A mem run .pre ((tt, tt, tt, (r-ask-of, tt), (w-ask-of ∷ [], tt)), tt))) (qed W ((‵ ftrue) ∷ ‵ (fsep (Ask-t.the-row .own r-ask-of (w-ask-of ∷ [])) ftrue) ∷ []) ∵ join ! $ frame ! $ done !) $
-          calls-at ! fm (c-place-of 𝓤 H A mem run) known-place-of ((tt, tt, tt, (r-ask-of, tt), (w-ask-of ∷ [], tt)), tt) (and-then ! (load ! (from ! (stop !)) (look ! 45 refl)) (no-more !)) (λ w-place-of.
+          calls-at ! fm (c-place-of 𝓤 H A mem run) known-place-of ((tt, tt, tt, (r-ask-of, tt), (w-ask-of ∷ [], tt)), tt) (and-then ! (load ! (from ! (stop !)) (look ! 53 refl)) (no-more !)) (λ w-place-of.
           use1 W (later (some (λ (r-place-of : ℕ). ((‵ ftrue) ⊛ ‵ (usize .own r-place-of (w-place-of ∷ []))) ⊛ raw (ensured 𝓤 H A c-place-of′.ended (c-place-of′.clauses 𝓤 H A mem run) tt (r-ask-of, tt) tt r-place-of)))) (id⊢ 𝓤 _) $ await ! tt $
           pick ! (λ r-place-of. split ! $ move ! (1 ∷ []) $ use1 W (some (λ (z-place-of : (Unit {0}) × Unit {0}). ‵ (lasts c-place-of′.ended tt (r-ask-of, tt) z-place-of) ⊛ raw (fact 𝓤 (r-place-of ≡ r-ask-of .place)))) (id⊢ 𝓤 _) $
           pick ! (λ z-place-of. split ! $ move ! (1 ∷ []) $ heard ! (r-place-of ≡ r-ask-of .place) (λ e-place-of. fsplit ! $ drop ! $ drop ! $ split ! $ drop ! $
-          peeks ! usize (Is usize) (shows 𝓤 H A usize) r-place-of (w-place-of ∷ []) (λ is-place-of. land ! (from ! (stop !)) (init ! 39 refl (uint-lawful 𝓤 H A W w64 .typed r-place-of _ is-place-of .0)) $ drop ! $
+          peeks ! usize (Is usize) (shows 𝓤 H A usize) r-place-of (w-place-of ∷ []) (λ is-place-of. land ! (from ! (stop !)) (init ! 47 refl (uint-lawful 𝓤 H A W w64 .typed r-place-of _ is-place-of .0)) $ drop ! $
           -- _10 = _7 eq 1
-          rewrite ! 42 (λ (v : Val). ‵ (fat fullShare (tyInt w8) l₇ 0 v)) (ap only (uint-tells w8 r-kind-of _ is-kind-of)) refl $
-          assigns ! (bin ! (load ! (from ! (stop !)) (look ! 42 refl)) (lit ! tt) tt) (from ! (stop !)) (init ! 36 refl (tt, tt)) $
+          rewrite ! 50 (λ (v : Val). ‵ (fat fullShare (tyInt w8) l₇ 0 v)) (ap only (uint-tells w8 r-kind-of _ is-kind-of)) refl $
+          assigns ! (bin ! (load ! (from ! (stop !)) (look ! 50 refl)) (lit ! tt) tt) (from ! (stop !)) (init ! 44 refl (tt, tt)) $
           -- if _10
-          first ! $ branches ! (load ! (from ! (stop !)) (look ! 36 refl)) (λ on. let t = on-true (eqb r-kind-of 1) on in
+          first ! $ branches ! (load ! (from ! (stop !)) (look ! 44 refl)) (λ on. let t = on-true (eqb r-kind-of 1) on in
           -- _11 = & _2.0.*
-          assigns ! (addr ! (from ! (fld ! refl (hop ! (look-in ! 52 (sub ! 0 refl (whole !))) (stop !))))) (from ! (stop !)) (init ! 34 refl (tt, tt)) $
+          assigns ! (addr ! (from ! (fld ! refl (hop ! (look-in ! 60 (sub ! 0 refl (whole !))) (stop !))))) (from ! (stop !)) (init ! 42 refl (tt, tt)) $
           -- _12 = {_11, _2.1}
-          assigns ! (agg ! (and-then ! (load ! (from ! (stop !)) (look ! 34 refl)) (and-then ! (load ! (from ! (fld ! refl (stop !))) (look-in ! 52 (sub ! 1 refl (whole !)))) (no-more !)))) (from ! (stop !)) (init ! 32 refl (tt, (tt, (record { fits = room-recs .0 }, tt)))) $
+          assigns ! (agg ! (and-then ! (load ! (from ! (stop !)) (look ! 42 refl)) (and-then ! (load ! (from ! (fld ! refl (stop !))) (look-in ! 60 (sub ! 1 refl (whole !)))) (no-more !)))) (from ! (stop !)) (init ! 40 refl (tt, (tt, (record { fits = room-recs .0 }, tt)))) $
           -- _13 = & _5.0.*
-          assigns ! (addr ! (from ! (fld ! refl (hop ! (look-in ! 46 (sub ! 0 refl (whole !))) (stop !))))) (from ! (stop !)) (init ! 30 refl (tt, tt)) $
+          assigns ! (addr ! (from ! (fld ! refl (hop ! (look-in ! 54 (sub ! 0 refl (whole !))) (stop !))))) (from ! (stop !)) (init ! 38 refl (tt, tt)) $
           -- _14 = {_13, _5.1}
-          assigns ! (agg ! (and-then ! (load ! (from ! (stop !)) (look ! 30 refl)) (and-then ! (load ! (from ! (fld ! refl (stop !))) (look-in ! 46 (sub ! 1 refl (whole !)))) (no-more !)))) (from ! (stop !)) (init ! 28 refl (tt, (tt, (record { fits = room-out .0 }, tt)))) $
+          assigns ! (agg ! (and-then ! (load ! (from ! (stop !)) (look ! 38 refl)) (and-then ! (load ! (from ! (fld ! refl (stop !))) (look-in ! 54 (sub ! 1 refl (whole !)))) (no-more !)))) (from ! (stop !)) (init ! 36 refl (tt, (tt, (record { fits = room-out .0 }, tt)))) $
           -- _0 = run_control(_1, _12, _4, _8, _14)
-          move ! (58 ∷ []) $ use1 W (‵ Own-octets ⊛ ‵ Own-octets) (shr-slice-copy 𝓤 H A W (named 1) κ₁ u8 .twice octets (v-octets ∷ [])) $ split ! $ nothing ! $ move ! (65 ∷ 0 ∷ []) $ join ! $ move ! (64 ∷ 0 ∷ []) $ join ! $
-          move ! (63 ∷ 0 ∷ []) $ join ! $ nothing ! $ move ! (62 ∷ 0 ∷ []) $ fjoin ! $ owned ! usize (Is usize) (uint-makes 𝓤 H A W w64) r-size-of _ is-size-of $ fjoin ! $ move ! (3 ∷ 0 ∷ []) $ fjoin ! $ move ! (61 ∷ 0 ∷ []) $ fjoin ! $
+          move ! (66 ∷ []) $ use1 W (‵ Own-octets ⊛ ‵ Own-octets) (shr-slice-copy 𝓤 H A W (named 1) κ₁ u8 .twice octets (v-octets ∷ [])) $ split ! $ nothing ! $ move ! (73 ∷ 0 ∷ []) $ join ! $ move ! (72 ∷ 0 ∷ []) $ join ! $
+          move ! (71 ∷ 0 ∷ []) $ join ! $ nothing ! $ move ! (70 ∷ 0 ∷ []) $ fjoin ! $ owned ! usize (Is usize) (uint-makes 𝓤 H A W w64) r-size-of _ is-size-of $ fjoin ! $ move ! (3 ∷ 0 ∷ []) $ fjoin ! $ move ! (69 ∷ 0 ∷ []) $ fjoin ! $
           owned ! Bench-t.the-row (Is Bench-t.the-row) (LL.makes Bench-t.the-type Bench-l.the-plain 𝓤 H A) b _ is-b $ fjoin ! $ move ! (1 ∷ 0 ∷ []) $
           use2 W (raw (c-run-control 𝓤 H A mem run .pre (((κ₀, (κ₁, (κ₂, tt))), (q₀, (q₁, (q₂, tt))), tt, (b, (recs, (octets, (r-size-of, (out, tt))))), (v-b ∷ [], (v-recs ∷ [], (v-octets ∷ [], (w-size-of ∷ [], (v-out ∷ [], tt)))))), tt))) (qed W ((‵ (flft κ₀ q₀) ⊛ ‵ (flft κ₁ q₁) ⊛ ‵ (flft κ₂ q₂) ⊛ ‵ ftrue) ∷ ‵ (fsep (Bench-t.the-row .own b (v-b ∷ [])) (fsep Own-recs (fsep Own-octets (fsep (usize .own r-size-of (w-size-of ∷ [])) (fsep Own-out ftrue))))) ∷ []) ∵ join ! $ frame ! $ done !) $
-          calls-at ! fm (c-run-control 𝓤 H A mem run) known-run-control (((κ₀, (κ₁, (κ₂, tt))), (q₀, (q₁, (q₂, tt))), tt, (b, (recs, (octets, (r-size-of, (out, tt))))), (v-b ∷ [], (v-recs ∷ [], (v-octets ∷ [], (w-size-of ∷ [], (v-out ∷ [], tt)))))), tt) (and-then ! (load ! (from ! (stop !)) (look ! 56 refl)) (and-then ! (load ! (from ! (stop !)) (look ! 34 refl)) (and-then ! (load ! (from ! (stop !)) (look ! 50 refl)) (and-then ! (load ! (from ! (stop !)) (look ! 42 refl)) (and-then ! (load ! (from ! (stop !)) (look ! 30 refl)) (no-more !)))))) (λ w-run-control.
+          calls-at ! fm (c-run-control 𝓤 H A mem run) known-run-control (((κ₀, (κ₁, (κ₂, tt))), (q₀, (q₁, (q₂, tt))), tt, (b, (recs, (octets, (r-size-of, (out, tt))))), (v-b ∷ [], (v-recs ∷ [], (v-octets ∷ [], (w-size-of ∷ [], (v-out ∷ [], tt)))))), tt) (and-then ! (load ! (from ! (stop !)) (look ! 64 refl)) (and-then ! (load ! (from ! (stop !)) (look ! 42 refl)) (and-then ! (load ! (from ! (stop !)) (look ! 58 refl)) (and-then ! (load ! (from ! (stop !)) (look ! 50 refl)) (and-then ! (load ! (from ! (stop !)) (look ! 38 refl)) (no-more !)))))) (λ w-run-control.
           use1 W (later (some (λ (r-run-control : Bench). ((‵ (flft κ₀ q₀) ⊛ ‵ (flft κ₁ q₁) ⊛ ‵ (flft κ₂ q₂) ⊛ ‵ ftrue) ⊛ ‵ (Bench-t.the-row .own r-run-control (w-run-control ∷ []))) ⊛ raw (ensured 𝓤 H A c-run-control′.ended (c-run-control′.clauses 𝓤 H A mem run) (κ₀, (κ₁, (κ₂, tt))) (b, (recs, (octets, (r-size-of, (out, tt))))) tt r-run-control)))) (id⊢ 𝓤 _) $ await ! tt $
           pick ! (λ r-run-control. split ! $ move ! (1 ∷ []) $
           use1 W (some (λ (z-run-control : (Unit {0}) × ((List Session) × ((Unit {0}) × ((Unit {0}) × ((List ℕ) × Unit {0}))))). ‵ (lasts c-run-control′.ended (κ₀, (κ₁, (κ₂, tt))) (b, (recs, (octets, (r-size-of, (out, tt))))) z-run-control) ⊛ raw (fact 𝓤 (ran r-run-control (z-run-control .1 .0) (z-run-control .1 .1 .1 .1 .0) ≡ unitShown (controlTaken (b .node) (ys-recs) (take r-size-of (octets .now)) lentReply) b (ys-out))))) (id⊢ 𝓤 _) $
@@ -368,17 +415,17 @@ module _ {M : Type 1} (𝓤 : URA M) (H : Heap 𝓤) (A : Atoms 𝓤) (W : Given
           fsplit ! $ move ! (1 ∷ []) $ feqL ! (λ len-run-control-recs. move ! (1 ∷ []) $ fsplit ! $ drop ! $ fsplit ! $ drop ! $ fsplit ! $ fsplit ! $ move ! (1 ∷ []) $ feqL ! (λ len-run-control-out. move ! (1 ∷ []) $ drop ! $
           move ! (2 ∷ []) $ split ! $ split ! $ move ! (1 ∷ []) $ split ! $ move ! (1 ∷ []) $ split ! $ move ! (1 ∷ []) $ drop ! $ move ! (3 ∷ []) $
           peeks ! Bench-t.the-row (Is Bench-t.the-row) (shows 𝓤 H A Bench-t.the-row) r-run-control (w-run-control ∷ []) (λ is-run-control.
-          land ! (from ! (stop !)) (init ! 63 refl (LL.lawful Bench-t.the-type Bench-l.the-laws 𝓤 H A W .typed r-run-control _ is-run-control .0)) $ drop ! $
+          land ! (from ! (stop !)) (init ! 71 refl (LL.lawful Bench-t.the-type Bench-l.the-laws 𝓤 H A W .typed r-run-control _ is-run-control .0)) $ drop ! $
           -- return
-          returns-within ! Post refl (look ! 62 refl) $
-          forget ! 34 refl $ forget ! 36 refl $ forget ! 38 refl $ forget ! 40 refl $ forget ! 42 refl $ forget ! 44 refl $ forget ! 46 refl $ forget ! 48 refl $ forget ! 50 refl $ forget ! 52 refl $ forget ! 54 refl $ forget ! 56 refl $ forget ! 58 refl $ forget ! 60 refl $ forget ! 62 refl $
-          move ! (62 ∷ 63 ∷ []) $ free1 ! $ move ! (60 ∷ 61 ∷ []) $ free1 ! $ move ! (58 ∷ 59 ∷ []) $ free1 ! $ move ! (56 ∷ 57 ∷ []) $ free1 ! $ move ! (54 ∷ 55 ∷ []) $ free1 ! $ move ! (52 ∷ 53 ∷ []) $ free1 ! $ move ! (50 ∷ 51 ∷ []) $ free1 ! $ move ! (48 ∷ 49 ∷ []) $ free1 ! $ move ! (46 ∷ 47 ∷ []) $ free1 ! $ move ! (44 ∷ 45 ∷ []) $ free1 ! $ move ! (42 ∷ 43 ∷ []) $ free1 ! $ move ! (40 ∷ 41 ∷ []) $ free1 ! $ move ! (38 ∷ 39 ∷ []) $ free1 ! $ move ! (36 ∷ 37 ∷ []) $ free1 ! $ move ! (34 ∷ 35 ∷ []) $ free1 ! $ move ! (32 ∷ 33 ∷ []) $ free1 ! $ move ! (30 ∷ 31 ∷ []) $ free1 ! $ move ! (28 ∷ 29 ∷ []) $ free1 ! $ move ! (26 ∷ 27 ∷ []) $ free1 ! $ move ! (24 ∷ 25 ∷ []) $ free1 ! $ move ! (22 ∷ 23 ∷ []) $ free1 ! $ move ! (20 ∷ 21 ∷ []) $ free1 ! $ move ! (18 ∷ 19 ∷ []) $ free1 ! $ move ! (16 ∷ 17 ∷ []) $ free1 ! $ move ! (14 ∷ 15 ∷ []) $ free1 ! $ move ! (12 ∷ 13 ∷ []) $ free1 ! $ move ! (10 ∷ 11 ∷ []) $ free1 ! $ move ! (8 ∷ 9 ∷ []) $ free1 ! $ move ! (6 ∷ 7 ∷ []) $ free1 ! $ free0 ! $
+          returns-within ! Post refl (look ! 70 refl) $
+          forget ! 42 refl $ forget ! 44 refl $ forget ! 46 refl $ forget ! 48 refl $ forget ! 50 refl $ forget ! 52 refl $ forget ! 54 refl $ forget ! 56 refl $ forget ! 58 refl $ forget ! 60 refl $ forget ! 62 refl $ forget ! 64 refl $ forget ! 66 refl $ forget ! 68 refl $ forget ! 70 refl $
+          move ! (70 ∷ 71 ∷ []) $ free1 ! $ move ! (68 ∷ 69 ∷ []) $ free1 ! $ move ! (66 ∷ 67 ∷ []) $ free1 ! $ move ! (64 ∷ 65 ∷ []) $ free1 ! $ move ! (62 ∷ 63 ∷ []) $ free1 ! $ move ! (60 ∷ 61 ∷ []) $ free1 ! $ move ! (58 ∷ 59 ∷ []) $ free1 ! $ move ! (56 ∷ 57 ∷ []) $ free1 ! $ move ! (54 ∷ 55 ∷ []) $ free1 ! $ move ! (52 ∷ 53 ∷ []) $ free1 ! $ move ! (50 ∷ 51 ∷ []) $ free1 ! $ move ! (48 ∷ 49 ∷ []) $ free1 ! $ move ! (46 ∷ 47 ∷ []) $ free1 ! $ move ! (44 ∷ 45 ∷ []) $ free1 ! $ move ! (42 ∷ 43 ∷ []) $ free1 ! $ move ! (40 ∷ 41 ∷ []) $ free1 ! $ move ! (38 ∷ 39 ∷ []) $ free1 ! $ move ! (36 ∷ 37 ∷ []) $ free1 ! $ move ! (34 ∷ 35 ∷ []) $ free1 ! $ move ! (32 ∷ 33 ∷ []) $ free1 ! $ move ! (30 ∷ 31 ∷ []) $ free1 ! $ move ! (28 ∷ 29 ∷ []) $ free1 ! $ move ! (26 ∷ 27 ∷ []) $ free1 ! $ move ! (24 ∷ 25 ∷ []) $ free1 ! $ move ! (22 ∷ 23 ∷ []) $ free1 ! $ move ! (20 ∷ 21 ∷ []) $ free1 ! $ move ! (18 ∷ 19 ∷ []) $ free1 ! $ move ! (16 ∷ 17 ∷ []) $ free1 ! $ move ! (14 ∷ 15 ∷ []) $ free1 ! $ move ! (12 ∷ 13 ∷ []) $ free1 ! $ move ! (10 ∷ 11 ∷ []) $ free1 ! $ move ! (8 ∷ 9 ∷ []) $ free1 ! $ move ! (6 ∷ 7 ∷ []) $ free1 ! $ free0 ! $
           owned ! Bench-t.the-row (Is Bench-t.the-row) (LL.makes Bench-t.the-type Bench-l.the-plain 𝓤 H A) r-run-control _ is-run-control $ nothing ! $ move ! (2 ∷ 0 ∷ []) $ join ! $ move ! (2 ∷ 0 ∷ []) $ join ! $ move ! (2 ∷ 0 ∷ []) $
           join ! $ keep ! (0 ∷ 3 ∷ 2 ∷ 1 ∷ []) $
           by ! (exits r-run-control w-run-control (z-run-control .1 .0) (z-run-control .1 .1 .1 .1 .0) (asks-control line (now octets) b ys-recs ys-out (ran r-run-control (z-run-control .1 .0) (z-run-control .1 .1 .1 .1 .0)) r-ask-of r-kind-of r-size-of r-place-of e-ask-of e-kind-of e-size-of e-place-of t e-run-control) len-run-control-recs len-run-control-out)))))))))
           (λ off. let t = off-false (eqb r-kind-of 1) off in
-          skips ! $ exec ! C Λ (En l₀ l₁ l₂ l₃ l₄ l₅ l₆ l₇ l₈ l₉ l₁₀ l₁₁ l₁₂ l₁₃ l₁₄ l₁₅ l₁₆ l₁₇ l₁₈ l₁₉ l₂₀ l₂₁ l₂₂ l₂₃ l₂₄ l₂₅ l₂₆ l₂₇ l₂₈) mir.t-7 (atRet (En l₀ l₁ l₂ l₃ l₄ l₅ l₆ l₇ l₈ l₉ l₁₀ l₁₁ l₁₂ l₁₃ l₁₄ l₁₅ l₁₆ l₁₇ l₁₈ l₁₉ l₂₀ l₂₁ l₂₂ l₂₃ l₂₄ l₂₅ l₂₆ l₂₇ l₂₈) Post) $
-          keep ! (0 ∷ 1 ∷ 2 ∷ 3 ∷ 4 ∷ 5 ∷ 6 ∷ 7 ∷ 8 ∷ 9 ∷ 10 ∷ 11 ∷ 12 ∷ 13 ∷ 14 ∷ 15 ∷ 16 ∷ 17 ∷ 18 ∷ 19 ∷ 20 ∷ 21 ∷ 22 ∷ 23 ∷ 24 ∷ 25 ∷ 26 ∷ 27 ∷ 28 ∷ 29 ∷ 30 ∷ 31 ∷ 32 ∷ 33 ∷ 34 ∷ 35 ∷ 36 ∷ 37 ∷ 38 ∷ 39 ∷ 40 ∷ 41 ∷ 42 ∷ 43 ∷ 44 ∷ 45 ∷ 46 ∷ 47 ∷ 48 ∷ 49 ∷ 50 ∷ 51 ∷ 52 ∷ 53 ∷ 54 ∷ 55 ∷ 56 ∷ 57 ∷ 58 ∷ 59 ∷ 60 ∷ 61 ∷ 62 ∷ 63 ∷ []) $
+          skips ! $ exec ! C Λ (En l₀ l₁ l₂ l₃ l₄ l₅ l₆ l₇ l₈ l₉ l₁₀ l₁₁ l₁₂ l₁₃ l₁₄ l₁₅ l₁₆ l₁₇ l₁₈ l₁₉ l₂₀ l₂₁ l₂₂ l₂₃ l₂₄ l₂₅ l₂₆ l₂₇ l₂₈ l₂₉ l₃₀ l₃₁ l₃₂) mir.t-7 (atRet (En l₀ l₁ l₂ l₃ l₄ l₅ l₆ l₇ l₈ l₉ l₁₀ l₁₁ l₁₂ l₁₃ l₁₄ l₁₅ l₁₆ l₁₇ l₁₈ l₁₉ l₂₀ l₂₁ l₂₂ l₂₃ l₂₄ l₂₅ l₂₆ l₂₇ l₂₈ l₂₉ l₃₀ l₃₁ l₃₂) Post) $
+          keep ! (0 ∷ 1 ∷ 2 ∷ 3 ∷ 4 ∷ 5 ∷ 6 ∷ 7 ∷ 8 ∷ 9 ∷ 10 ∷ 11 ∷ 12 ∷ 13 ∷ 14 ∷ 15 ∷ 16 ∷ 17 ∷ 18 ∷ 19 ∷ 20 ∷ 21 ∷ 22 ∷ 23 ∷ 24 ∷ 25 ∷ 26 ∷ 27 ∷ 28 ∷ 29 ∷ 30 ∷ 31 ∷ 32 ∷ 33 ∷ 34 ∷ 35 ∷ 36 ∷ 37 ∷ 38 ∷ 39 ∷ 40 ∷ 41 ∷ 42 ∷ 43 ∷ 44 ∷ 45 ∷ 46 ∷ 47 ∷ 48 ∷ 49 ∷ 50 ∷ 51 ∷ 52 ∷ 53 ∷ 54 ∷ 55 ∷ 56 ∷ 57 ∷ 58 ∷ 59 ∷ 60 ∷ 61 ∷ 62 ∷ 63 ∷ 64 ∷ 65 ∷ 66 ∷ 67 ∷ 68 ∷ 69 ∷ 70 ∷ 71 ∷ []) $
           part-7 w-ask-of r-ask-of e-ask-of is-ask-of w-kind-of r-kind-of e-kind-of is-kind-of w-size-of r-size-of e-size-of is-size-of w-place-of r-place-of e-place-of is-place-of t)))))))))))))))))))))
 
     walk : Is Bench-t.the-row b (v-b ∷ []) → Room Session-t.the-row (length (recs .now)) → Is Line-t.the-row line (v-line ∷ []) → Room u8 (length (octets .now)) → Room u8 (length (out .now)) → ent 𝓤 (onEntry 𝓤 H A entry′.signature (κ₀, (κ₁, (κ₂, tt))) (q₀, (q₁, (q₂, tt))) a at) (WpFn 𝓤 H C Λ code.function (v-b ∷ v-recs ∷ v-line ∷ v-octets ∷ v-out ∷ []) Post)
@@ -386,27 +433,27 @@ module _ {M : Type 1} (𝓤 : URA M) (H : Heap 𝓤) (A : Atoms 𝓤) (W : Given
         qed W ((Toks) ∷ ‵ (owns (Bench-t.the-row ∷ (MutSlice (named 0) κ₀ Session-t.the-row) ∷ Line-t.the-row ∷ (ShrSlice (named 1) κ₁ u8) ∷ (MutSlice (named 2) κ₂ u8) ∷ []) a at) ∷ []) ∵ enter ! C Λ code.function (v-b ∷ v-recs ∷ v-line ∷ v-octets ∷ v-out ∷ []) _ $
         alloc1 ! (λ l₀. alloc1 ! (λ l₁. alloc1 ! (λ l₂. alloc1 ! (λ l₃. alloc1 ! (λ l₄. alloc1 ! (λ l₅. alloc1 ! (λ l₆. alloc1 ! (λ l₇. alloc1 ! (λ l₈. alloc1 ! (λ l₉. alloc1 ! (λ l₁₀. alloc1 ! (λ l₁₁. alloc1 ! (λ l₁₂. alloc1 ! (λ l₁₃.
         alloc1 ! (λ l₁₄. alloc1 ! (λ l₁₅. alloc1 ! (λ l₁₆. alloc1 ! (λ l₁₇. alloc1 ! (λ l₁₈. alloc1 ! (λ l₁₉. alloc1 ! (λ l₂₀. alloc1 ! (λ l₂₁. alloc1 ! (λ l₂₂. alloc1 ! (λ l₂₃. alloc1 ! (λ l₂₄. alloc1 ! (λ l₂₅. alloc1 ! (λ l₂₆.
-        alloc1 ! (λ l₂₇. alloc1 ! (λ l₂₈. alloc0 ! $ params1 ! $ pass1 ! (init ! 54 refl (LL.lawful Bench-t.the-type Bench-l.the-laws 𝓤 H A W .typed b _ is-b .0)) $
-        pass1 ! (init ! 52 refl (tt, (tt, (record { fits = room-recs .0 }, tt)))) $ pass1 ! (init ! 50 refl (EL.lawful Line-t.the-type Line-l.the-laws 𝓤 H A W tt .typed line _ is-line .0)) $
-        pass1 ! (init ! 48 refl (tt, (tt, (record { fits = room-octets .0 }, tt)))) $ pass1 ! (init ! 46 refl (tt, (tt, (record { fits = room-out .0 }, tt)))) $ pass0 ! $ move ! (58 ∷ []) $ split ! $ move ! (1 ∷ []) $ split ! $
-        move ! (1 ∷ []) $ split ! $ move ! (1 ∷ []) $ drop ! $ move ! (61 ∷ []) $ fsplit ! $ drop ! $ fsplit ! $ move ! (1 ∷ []) $ fsplit ! $ drop ! $ fsplit ! $ move ! (1 ∷ []) $ fsplit ! $ move ! (1 ∷ []) $ drop ! $
-        keep ! (6 ∷ 7 ∷ 8 ∷ 9 ∷ 10 ∷ 11 ∷ 12 ∷ 13 ∷ 14 ∷ 15 ∷ 16 ∷ 17 ∷ 18 ∷ 19 ∷ 20 ∷ 21 ∷ 22 ∷ 23 ∷ 24 ∷ 25 ∷ 26 ∷ 27 ∷ 28 ∷ 29 ∷ 30 ∷ 31 ∷ 32 ∷ 33 ∷ 34 ∷ 35 ∷ 36 ∷ 37 ∷ 38 ∷ 39 ∷ 40 ∷ 41 ∷ 42 ∷ 43 ∷ 44 ∷ 45 ∷ 46 ∷ 47 ∷ 48 ∷ 49 ∷ 50 ∷ 51 ∷ 52 ∷ 53 ∷ 54 ∷ 55 ∷ 56 ∷ 57 ∷ 58 ∷ 59 ∷ 60 ∷ 61 ∷ 62 ∷ 63 ∷ 1 ∷ 0 ∷ 2 ∷ 5 ∷ 4 ∷ 3 ∷ []) $
-        part-1 is-b room-recs is-line room-octets room-out l₀ l₁ l₂ l₃ l₄ l₅ l₆ l₇ l₈ l₉ l₁₀ l₁₁ l₁₂ l₁₃ l₁₄ l₁₅ l₁₆ l₁₇ l₁₈ l₁₉ l₂₀ l₂₁ l₂₂ l₂₃ l₂₄ l₂₅ l₂₆ l₂₇ l₂₈)))))))))))))))))))))))))))))
+        alloc1 ! (λ l₂₇. alloc1 ! (λ l₂₈. alloc1 ! (λ l₂₉. alloc1 ! (λ l₃₀. alloc1 ! (λ l₃₁. alloc1 ! (λ l₃₂. alloc0 ! $ params1 ! $ pass1 ! (init ! 62 refl (LL.lawful Bench-t.the-type Bench-l.the-laws 𝓤 H A W .typed b _ is-b .0)) $
+        pass1 ! (init ! 60 refl (tt, (tt, (record { fits = room-recs .0 }, tt)))) $ pass1 ! (init ! 58 refl (EL.lawful Line-t.the-type Line-l.the-laws 𝓤 H A W tt .typed line _ is-line .0)) $
+        pass1 ! (init ! 56 refl (tt, (tt, (record { fits = room-octets .0 }, tt)))) $ pass1 ! (init ! 54 refl (tt, (tt, (record { fits = room-out .0 }, tt)))) $ pass0 ! $ move ! (66 ∷ []) $ split ! $ move ! (1 ∷ []) $ split ! $
+        move ! (1 ∷ []) $ split ! $ move ! (1 ∷ []) $ drop ! $ move ! (69 ∷ []) $ fsplit ! $ drop ! $ fsplit ! $ move ! (1 ∷ []) $ fsplit ! $ drop ! $ fsplit ! $ move ! (1 ∷ []) $ fsplit ! $ move ! (1 ∷ []) $ drop ! $
+        keep ! (6 ∷ 7 ∷ 8 ∷ 9 ∷ 10 ∷ 11 ∷ 12 ∷ 13 ∷ 14 ∷ 15 ∷ 16 ∷ 17 ∷ 18 ∷ 19 ∷ 20 ∷ 21 ∷ 22 ∷ 23 ∷ 24 ∷ 25 ∷ 26 ∷ 27 ∷ 28 ∷ 29 ∷ 30 ∷ 31 ∷ 32 ∷ 33 ∷ 34 ∷ 35 ∷ 36 ∷ 37 ∷ 38 ∷ 39 ∷ 40 ∷ 41 ∷ 42 ∷ 43 ∷ 44 ∷ 45 ∷ 46 ∷ 47 ∷ 48 ∷ 49 ∷ 50 ∷ 51 ∷ 52 ∷ 53 ∷ 54 ∷ 55 ∷ 56 ∷ 57 ∷ 58 ∷ 59 ∷ 60 ∷ 61 ∷ 62 ∷ 63 ∷ 64 ∷ 65 ∷ 66 ∷ 67 ∷ 68 ∷ 69 ∷ 70 ∷ 71 ∷ 1 ∷ 0 ∷ 2 ∷ 5 ∷ 4 ∷ 3 ∷ []) $
+        part-1 is-b room-recs is-line room-octets room-out l₀ l₁ l₂ l₃ l₄ l₅ l₆ l₇ l₈ l₉ l₁₀ l₁₁ l₁₂ l₁₃ l₁₄ l₁₅ l₁₆ l₁₇ l₁₈ l₁₉ l₂₀ l₂₁ l₂₂ l₂₃ l₂₄ l₂₅ l₂₆ l₂₇ l₂₈ l₂₉ l₃₀ l₃₁ l₃₂)))))))))))))))))))))))))))))))))
 
 module _ {M : Type 1} (𝓤 : URA M) (H : Heap 𝓤) (A : Atoms 𝓤) (W : Given 𝓤 H A) (mem : Memory → SProp 𝓤) (run : Routine → Fun 𝓤) where
-  run-line-walks : (C : Calls 𝓤 H) (Λ : Loops 𝓤 H) → FmC 𝓤 H (W .laws) C → Triple 𝓤 (C #bench-run·ask-of) (c-ask-of 𝓤 H A mem run) → Triple 𝓤 (C #bench-run·kind-of) (c-kind-of 𝓤 H A mem run) → Triple 𝓤 (C #bench-run·size-of) (c-size-of 𝓤 H A mem run) → Triple 𝓤 (C #bench-run·place-of) (c-place-of 𝓤 H A mem run) → Triple 𝓤 (C #bench-run·run-control) (c-run-control 𝓤 H A mem run) → Triple 𝓤 (C #bench-run·run-user) (c-run-user 𝓤 H A mem run) → Triple 𝓤 (C #bench-run·run-tick) (c-run-tick 𝓤 H A mem run) → Triple 𝓤 (C #bench-run·run-close) (c-run-close 𝓤 H A mem run) → Triple 𝓤 (C #bench-unit·end-bad) (c-end-bad 𝓤 H A mem run)
+  run-line-walks : (C : Calls 𝓤 H) (Λ : Loops 𝓤 H) → FmC 𝓤 H (W .laws) C → Triple 𝓤 (C #bench-run·ask-of) (c-ask-of 𝓤 H A mem run) → Triple 𝓤 (C #bench-run·kind-of) (c-kind-of 𝓤 H A mem run) → Triple 𝓤 (C #bench-run·size-of) (c-size-of 𝓤 H A mem run) → Triple 𝓤 (C #bench-run·place-of) (c-place-of 𝓤 H A mem run) → Triple 𝓤 (C #bench-run·run-control) (c-run-control 𝓤 H A mem run) → Triple 𝓤 (C #bench-run·run-user) (c-run-user 𝓤 H A mem run) → Triple 𝓤 (C #bench-run·run-down) (c-run-down 𝓤 H A mem run) → Triple 𝓤 (C #bench-run·run-tick) (c-run-tick 𝓤 H A mem run) → Triple 𝓤 (C #bench-run·run-close) (c-run-close 𝓤 H A mem run) → Triple 𝓤 (C #bench-unit·end-bad) (c-end-bad 𝓤 H A mem run)
       → Walks 𝓤 H A entry′.ended stayed (WpFn 𝓤 H C Λ code.function) (entry′.clauses 𝓤 H A mem run)
-  run-line-walks C Λ fm known-ask-of known-kind-of known-size-of known-place-of known-run-control known-run-user known-run-tick known-run-close known-end-bad = walked 𝓤 H A entry′.ended stayed (entry′.clauses 𝓤 H A mem run) (WpFn 𝓤 H C Λ code.function)
+  run-line-walks C Λ fm known-ask-of known-kind-of known-size-of known-place-of known-run-control known-run-user known-run-down known-run-tick known-run-close known-end-bad = walked 𝓤 H A entry′.ended stayed (entry′.clauses 𝓤 H A mem run) (WpFn 𝓤 H C Λ code.function)
       (λ κs. (LL.vals Bench-t.the-type Bench-l.the-laws, (slice-vals, (EL.vals Line-t.the-type Line-l.the-laws, (slice-vals, (slice-vals, tt)))))) (λ κs. (LL.tells Bench-t.the-type Bench-l.the-laws, (mut-slice-tells (named 0) (κs .0) Session-t.the-row, (EL.tells Line-t.the-type Line-l.the-laws, (shr-slice-tells (named 1) (κs .1 .0) u8, (mut-slice-tells (named 2) (κs .1 .1 .0) u8, tt))))))
       (λ κs qs bounds a g are. via 𝓤 _ (fst∗ 𝓤 _ (emp 𝓤))
-      (walk 𝓤 H A W mem run (κs .0) (κs .1 .0) (κs .1 .1 .0) (qs .0) (qs .1 .0) (qs .1 .1 .0) (a .0) (a .1 .0 .ptr .0) (a .1 .0 .ptr .1) (a .1 .0 .name) (a .1 .0 .now) (a .1 .1 .0) (a .1 .1 .1 .0) (a .1 .1 .1 .1 .0 .ptr .0) (a .1 .1 .1 .1 .0 .ptr .1) (a .1 .1 .1 .1 .0 .name) (a .1 .1 .1 .1 .0 .now) C Λ fm known-ask-of known-kind-of known-size-of known-place-of known-run-control known-run-user known-run-tick known-run-close known-end-bad (are .0) (are .1 .0 .0 .1) (are .1 .1 .0) (are .1 .1 .1 .0 .0 .1) (are .1 .1 .1 .1 .0 .0 .1)))
+      (walk 𝓤 H A W mem run (κs .0) (κs .1 .0) (κs .1 .1 .0) (qs .0) (qs .1 .0) (qs .1 .1 .0) (a .0) (a .1 .0 .ptr .0) (a .1 .0 .ptr .1) (a .1 .0 .name) (a .1 .0 .now) (a .1 .1 .0) (a .1 .1 .1 .0) (a .1 .1 .1 .1 .0 .ptr .0) (a .1 .1 .1 .1 .0 .ptr .1) (a .1 .1 .1 .1 .0 .name) (a .1 .1 .1 .1 .0 .now) C Λ fm known-ask-of known-kind-of known-size-of known-place-of known-run-control known-run-user known-run-down known-run-tick known-run-close known-end-bad (are .0) (are .1 .0 .0 .1) (are .1 .1 .0) (are .1 .1 .1 .0 .0 .1) (are .1 .1 .1 .1 .0 .0 .1)))
 
 run-line-meets : {M : Type 1} (𝓤 : URA M) (H : Heap 𝓤) (A : Atoms 𝓤) → Given 𝓤 H A → (mem : Memory → SProp 𝓤) (run : Routine → Fun 𝓤) (𝓣 : Tables 𝓤 H)
-    → Triple 𝓤 (𝓣 .C #bench-run·ask-of) (c-ask-of 𝓤 H A mem run) → Triple 𝓤 (𝓣 .C #bench-run·kind-of) (c-kind-of 𝓤 H A mem run) → Triple 𝓤 (𝓣 .C #bench-run·size-of) (c-size-of 𝓤 H A mem run) → Triple 𝓤 (𝓣 .C #bench-run·place-of) (c-place-of 𝓤 H A mem run) → Triple 𝓤 (𝓣 .C #bench-run·run-control) (c-run-control 𝓤 H A mem run) → Triple 𝓤 (𝓣 .C #bench-run·run-user) (c-run-user 𝓤 H A mem run) → Triple 𝓤 (𝓣 .C #bench-run·run-tick) (c-run-tick 𝓤 H A mem run) → Triple 𝓤 (𝓣 .C #bench-run·run-close) (c-run-close 𝓤 H A mem run) → Triple 𝓤 (𝓣 .C #bench-unit·end-bad) (c-end-bad 𝓤 H A mem run)
+    → Triple 𝓤 (𝓣 .C #bench-run·ask-of) (c-ask-of 𝓤 H A mem run) → Triple 𝓤 (𝓣 .C #bench-run·kind-of) (c-kind-of 𝓤 H A mem run) → Triple 𝓤 (𝓣 .C #bench-run·size-of) (c-size-of 𝓤 H A mem run) → Triple 𝓤 (𝓣 .C #bench-run·place-of) (c-place-of 𝓤 H A mem run) → Triple 𝓤 (𝓣 .C #bench-run·run-control) (c-run-control 𝓤 H A mem run) → Triple 𝓤 (𝓣 .C #bench-run·run-user) (c-run-user 𝓤 H A mem run) → Triple 𝓤 (𝓣 .C #bench-run·run-down) (c-run-down 𝓤 H A mem run) → Triple 𝓤 (𝓣 .C #bench-run·run-tick) (c-run-tick 𝓤 H A mem run) → Triple 𝓤 (𝓣 .C #bench-run·run-close) (c-run-close 𝓤 H A mem run) → Triple 𝓤 (𝓣 .C #bench-unit·end-bad) (c-end-bad 𝓤 H A mem run)
     → Meets 𝓤 H A entry′.signature (WpFn 𝓤 H (𝓣 .C) (𝓣 .Λ) code.function) (entry′.spec 𝓤 H A mem run)
-run-line-meets 𝓤 H A W mem run 𝓣 known-ask-of known-kind-of known-size-of known-place-of known-run-control known-run-user known-run-tick known-run-close known-end-bad =
+run-line-meets 𝓤 H A W mem run 𝓣 known-ask-of known-kind-of known-size-of known-place-of known-run-control known-run-user known-run-down known-run-tick known-run-close known-end-bad =
     walk-meets 𝓤 H A entry′.ended stayed W (goes-dropped 𝓤 H A W 3 (plain (λ _. Bench-t.the-row)) yes (λ κs x f. refl), (goes-gave-slice 𝓤 H A W 3 0 tt (plain (λ _. Session-t.the-row)), (goes-dropped 𝓤 H A W 3 (plain (λ _. Line-t.the-row)) yes (λ κs x f. refl), (goes-dropped 𝓤 H A W 3 (shrSliceOf (1 ∷ []) tt (plain (λ _. u8))) yes (λ κs x f. refl), (goes-gave-slice 𝓤 H A W 3 2 tt (plain (λ _. u8)), tt))))) (entry′.clauses 𝓤 H A mem run)
-    (WpFn 𝓤 H (𝓣 .C) (𝓣 .Λ) code.function) (WpFn-mono 𝓤 H (W .laws) 𝓣 code.function) (run-line-walks 𝓤 H A W mem run (𝓣 .C) (𝓣 .Λ) (fmOf 𝓤 H (W .laws) 𝓣) known-ask-of known-kind-of known-size-of known-place-of known-run-control known-run-user known-run-tick known-run-close known-end-bad)
+    (WpFn 𝓤 H (𝓣 .C) (𝓣 .Λ) code.function) (WpFn-mono 𝓤 H (W .laws) 𝓣 code.function) (run-line-walks 𝓤 H A W mem run (𝓣 .C) (𝓣 .Λ) (fmOf 𝓤 H (W .laws) 𝓣) known-ask-of known-kind-of known-size-of known-place-of known-run-control known-run-user known-run-down known-run-tick known-run-close known-end-bad)
 
 pub run-line-spec : {M : Type 1} → stated.statement M
 unfolding code.routine tablesOf
@@ -420,6 +467,7 @@ run-line-spec 𝓤 H 𝓜 𝓖 𝓡 =
     (cited 𝓤 H (c-place-of 𝓤 H (𝓖 .A) (𝓜 .mem) (𝓡 .run)) 𝓜 𝓡 code.env #bench-run·place-of c-place-of-def.routine code.calls-bench-run·place-of (c-place-of-thm.met 𝓤 H 𝓜 𝓖 𝓡))
     (cited 𝓤 H (c-run-control 𝓤 H (𝓖 .A) (𝓜 .mem) (𝓡 .run)) 𝓜 𝓡 code.env #bench-run·run-control c-run-control-def.routine code.calls-bench-run·run-control (c-run-control-thm.met 𝓤 H 𝓜 𝓖 𝓡))
     (cited 𝓤 H (c-run-user 𝓤 H (𝓖 .A) (𝓜 .mem) (𝓡 .run)) 𝓜 𝓡 code.env #bench-run·run-user c-run-user-def.routine code.calls-bench-run·run-user (c-run-user-thm.met 𝓤 H 𝓜 𝓖 𝓡))
+    (cited 𝓤 H (c-run-down 𝓤 H (𝓖 .A) (𝓜 .mem) (𝓡 .run)) 𝓜 𝓡 code.env #bench-run·run-down c-run-down-def.routine code.calls-bench-run·run-down (c-run-down-thm.met 𝓤 H 𝓜 𝓖 𝓡))
     (cited 𝓤 H (c-run-tick 𝓤 H (𝓖 .A) (𝓜 .mem) (𝓡 .run)) 𝓜 𝓡 code.env #bench-run·run-tick c-run-tick-def.routine code.calls-bench-run·run-tick (c-run-tick-thm.met 𝓤 H 𝓜 𝓖 𝓡))
     (cited 𝓤 H (c-run-close 𝓤 H (𝓖 .A) (𝓜 .mem) (𝓡 .run)) 𝓜 𝓡 code.env #bench-run·run-close c-run-close-def.routine code.calls-bench-run·run-close (c-run-close-thm.met 𝓤 H 𝓜 𝓖 𝓡))
     (cited 𝓤 H (c-end-bad 𝓤 H (𝓖 .A) (𝓜 .mem) (𝓡 .run)) 𝓜 𝓡 code.env #bench-unit·end-bad c-end-bad-def.routine code.calls-bench-unit·end-bad (c-end-bad-thm.met 𝓤 H 𝓜 𝓖 𝓡)))

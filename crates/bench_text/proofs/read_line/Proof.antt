@@ -37,22 +37,32 @@ returns-3 : tie.Need-returns-3
 unfolding lineRead shortLine longest
 returns-3 c = rw (le-ltb _ _ (c .before .before .before .before .before .before .before .if1 .left), ← c .before .before .before .before .before .before .before .before .letter-of .ensures, ← c .before .before .before .before .before .before .tabs-in .ensures, c .before .before .before .before .before .if2 .left, c .before .before .before .before .if3 .taken) (c .before .before .read-user .ensures)
 
-read-point-requires : tie.Need-read-point-requires
-read-point-requires c κs = search needs
+read-down-requires : tie.Need-read-down-requires
+read-down-requires c κs = search needs
 
 same-length-3 : tie.Need-same-length-3
 same-length-3 c = search needs
 
 returns-4 : tie.Need-returns-4
 unfolding lineRead shortLine longest
-returns-4 c = rw (le-ltb _ _ (c .before .before .before .before .before .before .before .before .if1 .left), ← c .before .before .before .before .before .before .before .before .before .letter-of .ensures, ← c .before .before .before .before .before .before .before .tabs-in .ensures, c .before .before .before .before .before .before .if2 .left, c .before .before .before .before .before .if3 .left, c .before .before .before .before .if4 .taken) (c .before .before .read-point .ensures)
+returns-4 c = rw (le-ltb _ _ (c .before .before .before .before .before .before .before .before .if1 .left), ← c .before .before .before .before .before .before .before .before .before .letter-of .ensures, ← c .before .before .before .before .before .before .before .tabs-in .ensures, c .before .before .before .before .before .before .if2 .left, c .before .before .before .before .before .if3 .left, c .before .before .before .before .if4 .taken) (c .before .before .read-down .ensures)
+
+read-point-requires : tie.Need-read-point-requires
+read-point-requires c κs = search needs
+
+same-length-4 : tie.Need-same-length-4
+same-length-4 c = search needs
+
+returns-5 : tie.Need-returns-5
+unfolding lineRead shortLine longest
+returns-5 c = rw (le-ltb _ _ (c .before .before .before .before .before .before .before .before .before .if1 .left), ← c .before .before .before .before .before .before .before .before .before .before .letter-of .ensures, ← c .before .before .before .before .before .before .before .before .tabs-in .ensures, c .before .before .before .before .before .before .before .if2 .left, c .before .before .before .before .before .before .if3 .left, c .before .before .before .before .before .if4 .left, c .before .before .before .before .if5 .taken) (c .before .before .read-point .ensures)
 
 read-short-requires : tie.Need-read-short-requires
 read-short-requires c κs = search needs
 
-returns-5 : tie.Need-returns-5
+returns-6 : tie.Need-returns-6
 unfolding lineRead shortLine longest
-returns-5 c = rw (le-ltb _ _ (c .before .before .before .before .before .if1 .left), ← c .before .before .before .before .before .before .letter-of .ensures, ← c .before .before .before .before .tabs-in .ensures, c .before .before .before .if2 .left, c .before .before .if3 .left, c .before .if4 .left, c .read-short .ensures)
+returns-6 c = rw (le-ltb _ _ (c .before .before .before .before .before .before .if1 .left), ← c .before .before .before .before .before .before .before .letter-of .ensures, ← c .before .before .before .before .before .tabs-in .ensures, c .before .before .before .before .if2 .left, c .before .before .before .if3 .left, c .before .before .if4 .left, c .before .if5 .left, c .read-short .ensures)
 
 pub read-line-spec : {M : Type 1} → statement M
 read-line-spec =
@@ -68,8 +78,11 @@ read-line-spec =
     read-user-requires
     same-length-2
     returns-3
-    read-point-requires
+    read-down-requires
     same-length-3
     returns-4
+    read-point-requires
+    same-length-4
+    returns-5
     read-short-requires
-    returns-5)
+    returns-6)

@@ -1,0 +1,54 @@
+/* What the parts of the trial share: the library's calls on stacks of their own (stacks.c), what has to be
+ * equal after a call (compare.c), and calls for counting instructions (cost.c). */
+#ifndef TRIAL_H
+#define TRIAL_H
+#include "made.h"
+
+/* the calls */
+enum { FRESH, CONTROL, USER, TICK, SEND, CLOSE, LINE, DOWN, CALLS };
+
+extern const char *const names[CALLS];
+
+/* ---- stacks.c: one call of the library, its arguments and what it answered */
+typedef struct {
+  grugavorn_plan plan;
+  grugavorn_session *records;
+  size_t count, length, room, place;
+  const uint8_t *datagram;
+  uint8_t *reply;
+  grugavorn_left left;
+  grugavorn_handed handed;
+  grugavorn_written written;
+} job_t;
+
+extern job_t job;
+
+void set_stacks(void);
+
+/* makes a call on `lent`, `node` and, for downlink, `ends_lent` */
+grugavorn_left run_on(int call, size_t count, size_t room, size_t place);
+
+/* the most that a call had of its stack, in octets; of a call that does nothing for CALLS */
+long deepest(int call);
+
+/* ---- compare.c: the arena and the ends as they were before the call, and those of the reading's side */
+extern arena before, read_;
+extern ends ends_before, ends_read;
+
+/* how many calls were made, and how often each number came */
+extern unsigned long turn, met[CALLS][256];
+
+/* how many packets were written down to a session in that state */
+extern unsigned long written_to[GRUGAVORN_CLOSING + 1];
+
+/* Prints what differs, and ends the trial. */
+_Noreturn void differ(const char *what, int call, unsigned number, unsigned other);
+
+/* Compares the library's answer with the reading's, and all that the two were lent; `kept` says that no
+ * record may change. */
+void compare(int call, const grugavorn_left *a, const grugavorn_left *b, size_t count, int kept);
+void compare_down(const grugavorn_written *a, const grugavorn_written *b, size_t count);
+
+/* ---- cost.c: makes a table of all places live and then so many calls of one kind */
+int cost(const char *call, int count);
+#endif
