@@ -53,7 +53,8 @@ ADDRESS = ["gtpv2.pdn_type", "gtpv2.pdn_addr_and_prefix.ipv4"]
 ONE = {3: "gtpv2.rec", 73: "gtpv2.ebi", 127: "gtpv2.apn_rest"}
 USER_HEADER = ["gtp.flags.version", "gtp.flags.payload", "gtp.flags.e", "gtp.flags.s", "gtp.flags.pn", "gtp.message", "gtp.length"]
 USER_REST = ["gtp.teid", "gtp.seq_number", "gtp.recovery", "gtp.teid_data", "gtp.gsn_address_length", "gtp.gsn_ipv4"]
-LOOKED_AT = set(HEADER + FIELD + CAUSE + TUNNEL + ADDRESS + list(ONE.values()) + USER_HEADER + USER_REST) | {"gtpv2.cause_off_ie_t"}
+CARRIED = ["ip.len", "ip.proto", "ip.src", "ip.dst"]
+LOOKED_AT = set(HEADER + FIELD + CAUSE + TUNNEL + ADDRESS + list(ONE.values()) + USER_HEADER + USER_REST + CARRIED) | {"gtpv2.cause_off_ie_t"}
 
 
 def control(kind, size, teid, seq, *fields):
@@ -127,6 +128,10 @@ SAMPLES = {
         ("gtp.gsn_address_length", 4),
         ("gtp.gsn_ipv4", "10.0.0.2"),
     ),
+    "gpdu": list(zip(USER_HEADER, [1, 1, 0, 0, 0, 255, 20])) + [
+        ("gtp.teid", 0x55667788),
+        *zip(CARRIED, [20, 254, "192.0.2.1", "100.64.0.6"]),
+    ],
 }
 WARNING = 0x600000
 
@@ -140,7 +145,9 @@ def faults(kind, found):
     """What is wrong with one decoded packet."""
     wrong = []
     read = []
-    for element in found.iter():
+    # what stands behind the frame's own IPv4 and UDP headers, which `packet` wrote
+    inside = [part for proto in found.findall("proto")[4:] for part in proto.iter()]
+    for element in inside:
         name = element.get("name") or ""
         if name == "_ws.malformed":
             wrong.append("malformed")

@@ -1,8 +1,8 @@
 // Prints each kind of message that the unit writes, one line each: its kind, a space, its octets in hex. The octets are those of
 // `messages`, with fixed sample values; tests/messages has an independent decoder read them. What is to be printed, the file
-// `stdout`, was written from document 01 with the sample values put in, and not taken from a run.
+// `stdout`, was written from the papers with the sample values put in, and not taken from a run.
 //
-// The samples: the peer's control TEID is 287454020 (11223344); sequence numbers are 658188 (0A0B0C) and those after it; place 5 in
+// The samples: the peer's control TEID is 287454020 (11223344), its user TEID 1432778632 (55667788); sequence numbers are 658188 (0A0B0C) and those after it; place 5 in
 // use 1 has the TEIDs 261 and 389 and the address 100.64.0.6; the unit has 10.0.0.1 for control, 10.0.0.2 for user packets, and
 // Recovery 7.
 use call_own::Answer;
@@ -97,6 +97,35 @@ fn error_indication() {
     show(b"error_indication ", &m, n);
 }
 
+// The packet is the least one: a header alone, of protocol 254, from 192.0.2.1 to the session's address.
+fn gpdu() {
+    let packet = [
+        0x45u8,
+        0,
+        0,
+        20,
+        0,
+        0,
+        0,
+        0,
+        64,
+        254,
+        0x53,
+        0xa5,
+        192,
+        0,
+        2,
+        1,
+        100,
+        64,
+        0,
+        6,
+    ];
+    let mut m = [0xEEu8; Answer::LEAST_REPLY];
+    let n = wire_messages::gpdu_of(&mut m, 1432778632, &packet);
+    show(b"gpdu ", &m, n);
+}
+
 fn main() {
     version_not_supported();
     echo(b"echo_response ", 2, 658188);
@@ -114,4 +143,5 @@ fn main() {
     delete_bearer();
     user_echo();
     error_indication();
+    gpdu();
 }
