@@ -10,12 +10,12 @@ use native.Mathlib.Omega.{arith}
 use lib.ListN.{length, getD, replicate}
 use lib.Seq.{set-getD}
 use lib.Dec.{eqb, ltb}
-use borrow.Author.Tests.{eqb-true, eqb-false}
+use borrow.Author.Tests.{eqb-true}
 use Rattle.base_octets.specs.Choice.{split, impossible, and-left, and-right, or-split}
 use Rattle.base_octets.specs.Every.{every}
 use Rattle.base_octets.specs.Overlay.{overlay}
 use Rattle.base_octets.specs.Search.{firstOf}
-use Rattle.unit_tunnel.specs.Numbering.{places, controlOffset, userOffset}
+use Rattle.unit_tunnel.specs.Numbering.{places, controlOffset}
 use Rattle.unit_plan.specs.declared.Plan.{Plan}
 use Rattle.unit_plan.specs.Limits.{noPlan}
 use Rattle.unit_plan.specs.Plan.{accepted}
@@ -32,7 +32,7 @@ use Rattle.unit_table.specs.Open.{replaced}
 use Rattle.unit_table.specs.Own.{freshNode, duePlace}
 use Rattle.wire_header.specs.Types.{among}
 use Rattle.wire_messages.specs.Types.{echoReplyType, createReplyType}
-use Rattle.wire_messages.specs.Messages.{versionNotSupported, echoOf, userEcho, errorIndication}
+use Rattle.wire_messages.specs.Messages.{versionNotSupported, echoOf, errorIndication}
 use Rattle.wire_requests.specs.declared.BearerReply.{BearerReply}
 use Rattle.wire_requests.specs.declared.BearerReply.the-variants as B
 use Rattle.wire_requests.specs.declared.Create as C
@@ -55,17 +55,15 @@ use Rattle.call_control.specs.Amends.{causeOctets, causeTaken, causeOn, notLive
 use Rattle.call_control.specs.Amends.{concernOn, noneOn, sessionOn}
 use Rattle.call_control.specs.Creates.{acceptedTaken, noRoom, openedAt, shared, isRepeat, settledAt, heardCreate, createTaken, createPlaces}
 use Rattle.call_control.specs.Control.{askedTaken, controlTaken}
-use Rattle.wire_user.specs.Header.{userEchoType, typeOf, userTeidOf, userSequenceOf, userHeaderOf, header-packet, header-echo}
-use Rattle.wire_user.specs.User.{userOf}
-use Rattle.call_user.specs.User.{Took, took, headerTaken, packetTaken, userTaken}
+use Rattle.wire_user.specs.Header.{userTeidOf}
+use Rattle.call_user.specs.User.{userTaken}
 use Rattle.call_user.specs.User as userside
 use Rattle.call_line.specs.Line.{lineBy, lineOf}
 use Rattle.call_down.specs.Down.{unwritten, downTaken}
 use Rattle.promise_demands.specs.Answers.{createNumbers}
 use Rattle.promise_demands.specs.Creates.{none-found}
-use Rattle.promise_demands.specs.UserNumbers.{userReads, read-number}
-use Rattle.promise_demands.specs.Lowered.{down-lowers}
-use Rattle.promise_demands.specs.Numbers.{among-other, silentNumbers, ConcernKnown, AskedKnown, asked-known}
+use Rattle.promise_demands.specs.UserLeaves.{user-takes, down-lowers}
+use Rattle.promise_demands.specs.Numbers.{silentNumbers, ConcernKnown, AskedKnown, asked-known}
 use Rattle.call_own.specs.declared.Span.{Span}
 
 -- the numbers of take control datagram whose cell is empty
@@ -336,41 +334,6 @@ comes-leaves node t reply a o c = record {
   kept = c .kept;
   room = c .room;
 }
-
--- ---- the same of take user datagram: 15 comes of a G-PDU alone, not of its header nor of extension headers
-module _ (node : Node) (t : List Session) (d reply : List ℕ) where
-  pub record Takes (w : Took) : Type 0 where
-    pub message : List ℕ
-    pub over : w ≡ took (w .number) (w .place) (length message) (overlay message reply) (w .start)
-    pub silent : w .number ≢ 0 → w .number ≢ 15 → w ≡ userside.silent (w .number) (length d) reply
-    pub dead : w .number ≡ 15 → w ≡ userside.userReplied 15 (errorIndication (userTeidOf d) (node .plan .user)) (length d) reply
-
-  refused-takes : (n : ℕ) → n ≢ 15 → Takes (userside.silent n (length d) reply)
-  unfolding overlay
-  refused-takes n h = record { message = []; over = refl; silent = λ a b. refl; dead = λ e. absurd (h e) }
-
-  packet-takes : (f : Owner) → Takes (packetTaken f (userTeidOf d) (node .plan .user) (userOf d .size) (length d) reply)
-  unfolding packetTaken overlay
-  packet-takes (F.At i) = record { message = []; over = refl; silent = λ a b. absurd (a refl); dead = λ e. absurd (omega arith) }
-  packet-takes F.Nothing =
-      record { message = errorIndication (userTeidOf d) (node .plan .user); over = refl; silent = λ a b. absurd (b refl); dead = λ e. refl }
-
-  header-takes : Takes (headerTaken node t (userHeaderOf d) (userOf d .size) (length d) reply)
-  unfolding headerTaken
-  header-takes =
-      split (eqb (typeOf d) userEchoType)
-      (λ q. rw (header-echo d (eqb-true (typeOf d) userEchoType q))
-      (record { message = userEcho (userSequenceOf d); over = refl; silent = λ a b. absurd (a refl); dead = λ e. absurd (omega arith) }))
-      (λ q. rw (header-packet d (eqb-false (typeOf d) userEchoType q)) (packet-takes (ownerOf userOffset (userTeidOf d) t)))
-
-  pub user-takes : Takes (userTaken node t d reply)
-  unfolding userTaken userReads
-  user-takes =
-      split (ltb (length reply) leastReply) (λ a. rw a (refused-takes 1 (λ e. omega arith)))
-      (λ a. split (keepsRules node t)
-      (λ e. split (eqb (userOf d .number) 0) (λ b. rw (a, e, b) header-takes)
-      (λ b. rw (a, e, b) (refused-takes (userOf d .number) (among-other (userOf d .number) 15 userReads (read-number d) refl))))
-      (λ e. rw (a, e) (refused-takes 2 (λ z. omega arith))))
 
 -- ---- the others
 tick-leaves : (node : Node) (t : List Session) → Silent (tickOf node t) node t []

@@ -4,8 +4,8 @@ pub mod Carried
 pub mod Counts
 pub mod Creates
 pub mod Datagrams
-pub mod Downlink
 pub mod Demands
+pub mod Downlink
 pub mod Echoing
 pub mod Encoded
 pub mod Encoder
@@ -15,7 +15,6 @@ pub mod Hosts
 pub mod Impossible
 pub mod InTime
 pub mod Kept
-pub mod Lowered
 pub mod Leaves
 pub mod Numbers
 pub mod Outside
@@ -33,6 +32,7 @@ pub mod Share
 pub mod Sixteen
 pub mod Stays
 pub mod Ticks
+pub mod UserLeaves
 pub mod UserNumbers
 pub mod Uses
 pub mod Values

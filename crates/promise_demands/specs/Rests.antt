@@ -25,8 +25,8 @@ use Rattle.call_control.specs.Control.{controlTaken}
 use Rattle.call_user.specs.User.{userTaken}
 use Rattle.call_line.specs.Line.{lineText, lineBy, lineOf}
 use Rattle.call_down.specs.Down.{downTaken}
-use Rattle.promise_demands.specs.Lowered.{down-lowers}
-use Rattle.promise_demands.specs.Leaves.{control-comes, user-takes}
+use Rattle.promise_demands.specs.UserLeaves.{user-takes, down-lowers}
+use Rattle.promise_demands.specs.Leaves.{control-comes}
 
 -- the octets from the reply's length on
 abbrev pub Rest : ℕ → List ℕ → List ℕ → Type 0
