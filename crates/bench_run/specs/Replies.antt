@@ -1,7 +1,7 @@
--- How long the replies, the G-PDUs and the datagrams are that a call of the bench gets back: a reply and a G-PDU stand in the buffer that was lent,
--- and a datagram that is due has at most 17 octets.
+-- How long the replies and the datagrams are that a call of the bench gets back: a reply stands in the buffer that was lent, and a datagram that is
+-- due has at most 17 octets.
 -- Assumes nothing.
-use Prim.Native.Nat.{ℕ, _+_, _≤_}
+use Prim.Native.Nat.{ℕ, _≤_}
 use mathlib.Core.List.{List, []}
 use mathlib.Core.Path.{_≡_, refl}
 use native.Mathlib.Omega.{arith}
@@ -18,7 +18,7 @@ use Rattle.unit_table.specs.declared.Owner.{Owner}
 use Rattle.unit_table.specs.declared.Owner.the-variants as F
 use Rattle.unit_table.specs.Rules.{keepsRules, live}
 use Rattle.unit_table.specs.Change.{nobody, changedAt}
-use Rattle.unit_table.specs.Find.{foundIn, addresseeOf}
+use Rattle.unit_table.specs.Find.{foundIn}
 use Rattle.unit_table.specs.Own.{duePlace}
 use Rattle.unit_sharing.specs.Sharing.{admits}
 use Rattle.wire_messages.specs.Messages.{echoOf, deleteBearer, size-echo, size-delete-bearer}
@@ -35,11 +35,9 @@ use Rattle.call_control.specs.Creates.{acceptedTaken, openedAt, shared, isRepea
 use Rattle.call_control.specs.Control.{askedTaken, controlTaken}
 use Rattle.wire_user.specs.declared.Header.{Header}
 use Rattle.wire_user.specs.declared.Header.the-variants as H
-use Rattle.wire_user.specs.Header.{fixedSize, userHeaderOf}
+use Rattle.wire_user.specs.Header.{userHeaderOf}
 use Rattle.wire_user.specs.User.{userOf}
 use Rattle.call_user.specs.User.{packetTaken, headerTaken, userTaken}
-use Rattle.wire_packet.specs.Packet.{wholePacket, destinationOf}
-use Rattle.call_down.specs.Down.{downOn, downTo, downTaken}
 
 -- ---- a control datagram
 module _ (c : C.Create) (seq : ℕ) (node₀ : Node) (t₀ : List Session) (reply : List ℕ) where
@@ -94,24 +92,6 @@ module _ (node : Node) (t : List Session) (reply : List ℕ) where
       (λ e. rw e (split (keepsRules node t)
       (λ f. rw f (split (eqb (userOf d .number) taken) (λ g. rw g (header-length (userHeaderOf d) (userOf d .size) (length d))) (λ g. rw g)))
       (λ f. rw f)))
-
--- ---- a packet down
-module _ (t : List Session) (packet out : List ℕ) where
-  written-length : (place : ℕ) (s : Session) → length (downOn place s packet out .buffer) ≡ length out
-  unfolding downOn
-  written-length place s = split (ltb (length out) (length packet + fixedSize)) (λ e. rw e) (λ e. rw e (length-overlay _ out))
-
-  to-length : (f : Owner) → length (downTo f t packet out .buffer) ≡ length out
-  unfolding downTo
-  to-length (F.At place) = written-length place (getD t place nobody)
-  to-length F.Nothing = refl
-
-  pub down-length : (node : Node) → length (downTaken node t packet out .buffer) ≡ length out
-  unfolding downTaken
-  down-length node =
-      split (keepsRules node t)
-      (λ e. rw e (split (wholePacket packet) (λ f. rw f (to-length (addresseeOf (node .plan .pool) (destinationOf packet) t))) (λ f. rw f)))
-      (λ e. rw e)
 
 -- ---- the clock has no reply
 pub tick-length : (node : Node) (t : List Session) → length (tickOf node t .reply) ≡ 0

@@ -17,7 +17,7 @@ use Rattle.call_own.specs.Outcome.{Outcome, leastReply}
 use Rattle.call_own.specs.Calls.{freshOf, tickOf, closeOf, sendOf}
 use Rattle.call_control.specs.Control.{controlTaken}
 use Rattle.call_user.specs.User.{Took, userTaken}
-use Rattle.call_down.specs.Down.{Output, downTaken}
+use Rattle.call_down.specs.Down.{Output, downTaken, down-length}
 use Rattle.bench_text.specs.declared.Line.{Line}
 use Rattle.bench_text.specs.declared.Line.the-variants as L
 use Rattle.bench_text.specs.Lines.{Told, lineRead, datagramMost}
@@ -31,7 +31,7 @@ use Rattle.bench_unit.specs.Whole.{Adds, adds-none, adds-on, adds-printed, adds
 use Rattle.bench_run.specs.declared.Ask.{Ask}
 use Rattle.bench_run.specs.Run.{sendTry, hasDue, sentShown, oneSent, sentTimes, allSent, thenSent, userText, userShown, userRun, downText, downShown, gpduMost, lentOutput, downRun}
 use Rattle.bench_run.specs.Taken.{controlCall, userCall, downCall, tickCall, closeCall, askOf, askRun, runLine, isPoint, pointLine, leavePlan, earlyLine, lentOctets, toldTaken, lineTaken}
-use Rattle.bench_run.specs.Replies.{control-length, user-length, down-length, tick-length, close-length, sent-most}
+use Rattle.bench_run.specs.Replies.{control-length, user-length, tick-length, close-length, sent-most}
 use Rattle.unit_tunnel.specs.Numbering.{places}
 
 -- ---- the texts
@@ -299,7 +299,7 @@ ask-most a octets lines node t h =
     let p = part-most (a .size) octets in
     let c = unit-most (controlTaken node t d lentReply) leastReply (control-length node t lentReply d ∙ lent-most) in
     let u = took-most (userTaken node t d lentReply) d (user-length node t lentReply d ∙ lent-most) (omega arith) in
-    let w = output-most (downTaken node t d lentOutput) (down-length t d lentOutput node ∙ output-length) in
+    let w = output-most (downTaken node t d lentOutput) (down-length node t d lentOutput ∙ output-length) in
     let k = then-most (tickOf node t) (tick-length node t) in
     let x = then-most (closeOf node t (a .place)) (close-length node t (a .place)) in
     let b = bad-most lines in

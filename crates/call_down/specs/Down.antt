@@ -3,14 +3,15 @@
 -- Assumes nothing.
 use Prim.Native.Nat.{ℕ, _+_, _<_, _≤_}
 use mathlib.Core.Bool.{true, false}
-use mathlib.Core.List.{List}
-use mathlib.Core.Path.{_≡_}
+use mathlib.Core.List.{List, []}
+use mathlib.Core.Logic.{_≢_}
+use mathlib.Core.Path.{_≡_, refl}
 use lib.ListN.{length, getD}
 use lib.Dec.{ltb}
 use borrow.Author.Tests.{lt-ltb, le-ltb}
 use Rattle.base_octets.specs.Number.{taken, rulesBroken, packetUnfit, noSession, outputShort}
-use Rattle.base_octets.specs.Choice.{pick}
-use Rattle.base_octets.specs.Overlay.{overlay}
+use Rattle.base_octets.specs.Choice.{pick, split}
+use Rattle.base_octets.specs.Overlay.{overlay, length-overlay}
 use Rattle.wire_messages.specs.Messages.{gpduOf}
 use Rattle.wire_packet.specs.Packet.{wholePacket, destinationOf}
 use Rattle.wire_user.specs.Header.{fixedSize}
@@ -79,3 +80,37 @@ down-short place s packet out h = rw (lt-ltb (length out) (length packet + fixed
 pub down-fits : (place : ℕ) (s : Session) (packet out : List ℕ) → length packet + fixedSize ≤ length out → downOn place s packet out ≡ writtenTo place s packet out
 unfolding downOn
 down-fits place s packet out h = rw (le-ltb (length out) (length packet + fixedSize) h)
+
+-- ---- whatever comes of it: a message lies over the front of the buffer; with a refusal it is none, and nothing else comes back
+pub record Lowers (out : List ℕ) (o : Output) : Type 0 where
+  pub message : List ℕ
+  pub size : o .written .size ≡ length message
+  pub over : o .buffer ≡ overlay message out
+  pub silent : o .written .number ≢ 0 → o ≡ unwritten (o .written .number) out
+
+nothing-lowers : (n : ℕ) (out : List ℕ) → Lowers out (unwritten n out)
+unfolding overlay
+nothing-lowers n out = record { message = []; size = refl; over = refl; silent = λ e. refl }
+
+on-lowers : (place : ℕ) (s : Session) (packet out : List ℕ) → Lowers out (downOn place s packet out)
+unfolding downOn
+on-lowers place s packet out =
+    split (ltb (length out) (length packet + fixedSize)) (λ a. rw a (nothing-lowers outputShort out))
+    (λ a. rw a (record { message = gpduOf (s .user) packet; size = refl; over = refl; silent = λ e. absurd (e refl) }))
+
+to-lowers : (f : Owner) (t : List Session) (packet out : List ℕ) → Lowers out (downTo f t packet out)
+unfolding downTo
+to-lowers (F.At place) t packet out = on-lowers place (getD t place nobody) packet out
+to-lowers F.Nothing t packet out = nothing-lowers noSession out
+
+pub down-lowers : (node : Node) (t : List Session) (packet out : List ℕ) → Lowers out (downTaken node t packet out)
+unfolding downTaken
+down-lowers node t packet out =
+    split (keepsRules node t)
+    (λ e. split (wholePacket packet)
+    (λ w. rw (e, w) (to-lowers (addresseeOf (node .plan .pool) (destinationOf packet) t) t packet out))
+    (λ w. rw (e, w) (nothing-lowers packetUnfit out)))
+    (λ e. rw e (nothing-lowers rulesBroken out))
+
+pub down-length : (node : Node) (t : List Session) (packet out : List ℕ) → length (downTaken node t packet out .buffer) ≡ length out
+down-length node t packet out = let c = down-lowers node t packet out in rw (c .over) (length-overlay (c .message) out)

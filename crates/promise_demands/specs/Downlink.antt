@@ -84,15 +84,11 @@ take-overlay (x ∷ m) [] h = absurd (omega arith)
 take-overlay (x ∷ m) (y ∷ d) h = ap (λ (l : List ℕ). x ∷ l) (take-overlay m d (omega arith))
 
 -- a packet of octets whose total length is its length has under 65,536 of them
-octet-at : (l : List ℕ) (i : ℕ) → every isOctet l ≡ true → getD l i 0 < 256
-unfolding isOctet
-octet-at l i e = ltb-true (getD l i 0) 256 (every-at isOctet l i 0 e refl)
-
 small-packet : (packet : List ℕ) → every isOctet packet ≡ true → totalLengthOf packet ≡ length packet → length packet < 65536
-unfolding numberOf numberFrom
+unfolding isOctet numberOf numberFrom
 small-packet packet o e =
-    let a = octet-at packet 2 o in
-    let b = octet-at packet 3 o in
+    let a = ltb-true (getD packet 2 0) 256 (every-at isOctet packet 2 0 o refl) in
+    let b = ltb-true (getD packet 3 0) 256 (every-at isOctet packet 3 0 o refl) in
     omega arith
 
 -- ---- laws: reading back

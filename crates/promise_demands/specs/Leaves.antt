@@ -59,10 +59,10 @@ use Rattle.wire_user.specs.Header.{userTeidOf}
 use Rattle.call_user.specs.User.{userTaken}
 use Rattle.call_user.specs.User as userside
 use Rattle.call_line.specs.Line.{lineBy, lineOf}
-use Rattle.call_down.specs.Down.{unwritten, downTaken}
+use Rattle.call_down.specs.Down.{unwritten, downTaken, down-lowers}
 use Rattle.promise_demands.specs.Answers.{createNumbers}
 use Rattle.promise_demands.specs.Creates.{none-found}
-use Rattle.promise_demands.specs.UserLeaves.{user-takes, down-lowers}
+use Rattle.promise_demands.specs.UserLeaves.{user-takes}
 use Rattle.promise_demands.specs.Numbers.{silentNumbers, ConcernKnown, AskedKnown, asked-known}
 use Rattle.call_own.specs.declared.Span.{Span}
 

@@ -24,8 +24,8 @@ use Rattle.call_own.specs.Calls.{echoSent, placeSent, dueSent, sendOf}
 use Rattle.call_control.specs.Control.{controlTaken}
 use Rattle.call_user.specs.User.{userTaken}
 use Rattle.call_line.specs.Line.{lineText, lineBy, lineOf}
-use Rattle.call_down.specs.Down.{downTaken}
-use Rattle.promise_demands.specs.UserLeaves.{user-takes, down-lowers}
+use Rattle.call_down.specs.Down.{downTaken, down-lowers}
+use Rattle.promise_demands.specs.UserLeaves.{user-takes}
 use Rattle.promise_demands.specs.Leaves.{control-comes}
 
 -- the octets from the reply's length on

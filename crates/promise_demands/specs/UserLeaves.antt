@@ -1,12 +1,12 @@
--- What take user datagram and take downlink packet leave in the lent buffer, for any octets, table and buffer: a message in front, or with a refusal
--- that is silent all as lent.
+-- What take user datagram leaves in the reply buffer, for any octets, table and buffer: a message in front, or with a refusal that is silent all
+-- as lent. 15 comes of a G-PDU alone, not of its header nor of extension headers.
 -- Assumes nothing.
-use Prim.Native.Nat.{ℕ, _+_}
+use Prim.Native.Nat.{ℕ}
 use mathlib.Core.List.{List, []}
 use mathlib.Core.Logic.{_≢_}
 use mathlib.Core.Path.{_≡_, refl}
 use native.Mathlib.Omega.{arith}
-use lib.ListN.{length, getD}
+use lib.ListN.{length}
 use lib.Dec.{eqb, ltb}
 use borrow.Author.Tests.{eqb-true, eqb-false}
 use Rattle.base_octets.specs.Choice.{split}
@@ -16,21 +16,17 @@ use Rattle.unit_session.specs.declared.Session.{Session}
 use Rattle.unit_table.specs.declared.Node.{Node}
 use Rattle.unit_table.specs.declared.Owner.{Owner}
 use Rattle.unit_table.specs.declared.Owner.the-variants as F
-use Rattle.unit_table.specs.Change.{nobody}
 use Rattle.unit_table.specs.Rules.{keepsRules}
-use Rattle.unit_table.specs.Find.{ownerOf, addresseeOf}
-use Rattle.wire_messages.specs.Messages.{userEcho, errorIndication, gpduOf}
-use Rattle.wire_packet.specs.Packet.{wholePacket, destinationOf}
-use Rattle.wire_user.specs.Header.{fixedSize, userEchoType, typeOf, userTeidOf, userSequenceOf, userHeaderOf, header-packet, header-echo}
+use Rattle.unit_table.specs.Find.{ownerOf}
+use Rattle.wire_messages.specs.Messages.{userEcho, errorIndication}
+use Rattle.wire_user.specs.Header.{userEchoType, typeOf, userTeidOf, userSequenceOf, userHeaderOf, header-packet, header-echo}
 use Rattle.wire_user.specs.User.{userOf}
 use Rattle.call_own.specs.Outcome.{leastReply}
 use Rattle.call_user.specs.User.{Took, took, headerTaken, packetTaken, userTaken}
 use Rattle.call_user.specs.User as userside
-use Rattle.call_down.specs.Down.{Output, unwritten, downOn, downTo, downTaken}
 use Rattle.promise_demands.specs.Numbers.{among-other}
 use Rattle.promise_demands.specs.UserNumbers.{userReads, read-number}
 
--- ---- take user datagram: 15 comes of a G-PDU alone, not of its header nor of extension headers
 module _ (node : Node) (t : List Session) (d reply : List ℕ) where
   pub record Takes (w : Took) : Type 0 where
     pub message : List ℕ
@@ -64,35 +60,3 @@ module _ (node : Node) (t : List Session) (d reply : List ℕ) where
       (λ e. split (eqb (userOf d .number) 0) (λ b. rw (a, e, b) header-takes)
       (λ b. rw (a, e, b) (refused-takes (userOf d .number) (among-other (userOf d .number) 15 userReads (read-number d) refl))))
       (λ e. rw (a, e) (refused-takes 2 (λ z. omega arith))))
-
--- ---- take downlink packet
--- a message lies over the front of the buffer; with a refusal it is none, and nothing else comes back
-pub record Lowers (out : List ℕ) (o : Output) : Type 0 where
-  pub message : List ℕ
-  pub size : o .written .size ≡ length message
-  pub over : o .buffer ≡ overlay message out
-  pub silent : o .written .number ≢ 0 → o ≡ unwritten (o .written .number) out
-
-nothing-lowers : (n : ℕ) (out : List ℕ) → Lowers out (unwritten n out)
-unfolding overlay
-nothing-lowers n out = record { message = []; size = refl; over = refl; silent = λ e. refl }
-
-on-lowers : (place : ℕ) (s : Session) (packet out : List ℕ) → Lowers out (downOn place s packet out)
-unfolding downOn
-on-lowers place s packet out =
-    split (ltb (length out) (length packet + fixedSize)) (λ a. rw a (nothing-lowers 20 out))
-    (λ a. rw a (record { message = gpduOf (s .user) packet; size = refl; over = refl; silent = λ e. absurd (e refl) }))
-
-to-lowers : (f : Owner) (t : List Session) (packet out : List ℕ) → Lowers out (downTo f t packet out)
-unfolding downTo
-to-lowers (F.At place) t packet out = on-lowers place (getD t place nobody) packet out
-to-lowers F.Nothing t packet out = nothing-lowers 19 out
-
-pub down-lowers : (node : Node) (t : List Session) (packet out : List ℕ) → Lowers out (downTaken node t packet out)
-unfolding downTaken
-down-lowers node t packet out =
-    split (keepsRules node t)
-    (λ e. split (wholePacket packet)
-    (λ w. rw (e, w) (to-lowers (addresseeOf (node .plan .pool) (destinationOf packet) t) t packet out))
-    (λ w. rw (e, w) (nothing-lowers 18 out)))
-    (λ e. rw e (nothing-lowers 2 out))
