@@ -17,6 +17,7 @@ import cases_header  # noqa: F401  each adds its cases to build.CASES
 import cases_create  # noqa: F401
 import cases_change  # noqa: F401
 import cases_own  # noqa: F401
+import cases_late  # noqa: F401
 import cases_share  # noqa: F401
 import cases_user  # noqa: F401
 import cases_down  # noqa: F401

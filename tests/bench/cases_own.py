@@ -1,4 +1,4 @@
-"""Cases of Recovery, echoes, closing and the unit's own requests.
+"""Cases of Recovery, echoes, closing and the unit's own requests; cases_late.py has those of a Recovery that comes late.
 
 By hand: "the echo (type 1, Recovery, 13 octets)"; "Delete Bearer (99): EBI 73, to the peer's control TEID, 17 octets"; after T and X
 "all due follow, each a line of D and the datagram". PLAN has T 3, N 2, E 60, Recovery 7.
@@ -23,17 +23,17 @@ def bearer_delete(seq, to="00001111"):
 
 
 # ---- Recovery
-case("recovery-in-echo", "in type 1: the first value is stored, the same changes nothing, another frees all",
+case("recovery-in-echo", "in type 1: the first value is stored, the same changes nothing, one of a restart frees all",
      C(create()), C(echo(0x40, recovery(5))), C(echo(0x40, recovery(5))), U(gpdu(0x180, b"a")), C(echo(0x40, recovery(6))), U(gpdu(0x180, b"a")),
      out=[accepted(), ECHOED, ECHOED, line(0, "-", "61"), ECHOED,
           line(15, "32 1A 0010 00000000 00000000 10 00000180 85 0004 0A000002"), *GONE])
 
-case("recovery-in-create", "in Create: the first is stored; another frees all before the new session takes a place",
+case("recovery-in-create", "in Create: the first is stored; one of a restart frees all before the new session takes a place",
      C(create(1, more=recovery(5))), C(create(2, imsi=person(2), more=recovery(5))), C(create(3, imsi=person(3), more=recovery(6))),
      C(create(4, imsi=person(4))))
 
-case("recovery-in-echo-reply", "in an awaited type 2: the first is stored, another frees all",
-     C(create()), T(), C(echo_reply(0, recovery(5))), T(), C(echo_reply(1, recovery(5))), T(), C(echo_reply(2, recovery(4))),
+case("recovery-in-echo-reply", "in an awaited type 2: the first is stored, one of a restart frees all",
+     C(create()), T(), C(echo_reply(0, recovery(5))), T(), C(echo_reply(1, recovery(5))), T(), C(echo_reply(2, recovery(6))),
      plan=plan(e=1),
      out=[accepted(), OK, own_echo(0), OK, OK, own_echo(1), OK, OK, own_echo(2), OK, *GONE])
 
@@ -41,11 +41,12 @@ case("recovery-not-awaited", "in a type 2 that is not awaited it is not read",
      C(create()), C(echo(0x40, recovery(5))), C(echo_reply(0, recovery(6))), C(echo(0x40, recovery(5))),
      out=[accepted(), ECHOED, line(9, "-"), ECHOED, line("L", 1), SESSION])
 
-case("recovery-0-is-a-value", "0 is a value like any other: stored first, then 1 frees all, then 0 again does",
+case("recovery-0-is-a-value", "0 is a value like any other: stored first, then 1 is a restart and frees all, and 0 again is late",
      C(create(1)), C(echo(0x40, recovery(0))), U(gpdu(0x180, b"a")), C(echo(0x40, recovery(1))), U(gpdu(0x180, b"a")), C(create(2)),
      C(echo(0x40, recovery(0))),
      out=[accepted(), ECHOED, line(0, "-", "61"), ECHOED, line(15, "32 1A 0010 00000000 00000000 10 00000180 85 0004 0A000002"),
-          accepted(seq="000002", control="00000200", user="00000280"), ECHOED, line("L", 0), freed(0, 2)])
+          accepted(seq="000002", control="00000200", user="00000280"), ECHOED, line("L", 1),
+          line(0, 2, "L", 0, "440101234567890", 5, 4369, "0A010008", 8738, "0A010009", 2)])
 
 case("recovery-absent-or-empty", "absent or empty is ignored; an empty first one hides a second; another instance is unknown",
      C(create()), C(echo(0x40, recovery(5))), C(echo(0x40)), C(echo(0x40, field(3, b""))), C(echo(0x40, field(3, b""), recovery(6))),
@@ -64,11 +65,11 @@ case("recovery-of-a-refused-create", "a Create refused with 67, 69, 70, 78 or 83
      C(echo(0x40, recovery(5))), C(create()), *[C(create(k, more=recovery(6), **bad)) for k, bad in enumerate(
          [dict(imsi=NONE), dict(rat=rat(0)), dict(qos=field(80, b"")), dict(apn=apn(b"x")), dict(paa=paa(2)), dict(ebi=ebi() + b"\0")], 2)])
 
-case("recovery-read-before-the-rule", "at the ceiling: with the same value 73; with another all are freed first, and there is room",
+case("recovery-read-before-the-rule", "at the ceiling: with the same value 73; with one of a restart all are freed first, and there is room",
      C(create(1, more=recovery(5))), C(create(2, imsi=person(2), more=recovery(5))), C(create(3, imsi=person(3), more=recovery(6))),
      C(create(4, imsi=person(4), more=recovery(6))), plan=(N(), A(g=0, c=1)))
 
-case("recovery-frees-all-and-73", "another value frees all also where 73 follows: no room is left beside a guarantee of 64, used or not",
+case("recovery-frees-all-and-73", "a restart frees all also where 73 follows: no room is left beside a guarantee of 64, used or not",
      C(create(1, more=recovery(5))), C(create(2, imsi=person(2), apn=apn(b"\x03net"), more=recovery(6))),
      plan=(N(), A(g=PLACES, c=PLACES), A(b"\x03net", 0, PLACES)),
      out=[accepted(), line(73, "48 21 000E 00001111 000002 00 02 0002 00 49 00"), *GONE])
@@ -76,7 +77,7 @@ case("recovery-frees-all-and-73", "another value frees all also where 73 follows
 case("recovery-stored-by-73", "the first value seen stands in a Create refused with 73, and counts",
      C(create(1)), C(create(2, imsi=person(2), more=recovery(5))), C(echo(0x40, recovery(5))), C(echo(0x40, recovery(6))), plan=(N(), A(g=0, c=1)))
 
-case("recovery-and-repeat", "a repeat has read Recovery: with another value all are freed, so there is no repeat then",
+case("recovery-and-repeat", "a repeat has read Recovery: with a value of a restart all are freed, so there is no repeat then",
      C(create(1, more=recovery(5))), C(create(1, more=recovery(5))), C(create(1, more=recovery(6))),
      out=[accepted(), accepted(), accepted(control="00000200", user="00000280"), line("L", 1),
           line(0, 2, "L", 0, "440101234567890", 5, 4369, "0A010008", 8738, "0A010009", 1)])
@@ -110,7 +111,7 @@ case("echo-lost-keeps-recovery", "giving up the echo keeps the stored Recovery: 
      C(echo(0x40, recovery(5))), T(2), C(create()), C(echo(0x40, recovery(5))), plan=plan(t=1, n=1, e=1),
      out=[ECHOED, OK, own_echo(0), OK, accepted(), ECHOED, line("L", 1), SESSION])
 
-case("echo-lost-then-restart", "giving up the echo keeps the stored Recovery: another value later is not a first one, and frees all",
+case("echo-lost-then-restart", "giving up the echo keeps the stored Recovery: one ahead of it later is not a first one, and frees all",
      C(echo(0x40, recovery(5))), T(2), C(create()), C(echo(0x40, recovery(6))), plan=plan(t=1, n=1, e=1),
      out=[ECHOED, OK, own_echo(0), OK, accepted(), ECHOED, *GONE])
 

@@ -67,7 +67,7 @@ case("share-closing-counts", "u counts closing places: room comes with the answe
      crowd(1, 2), X(0), crowd(3, 1), C(bearer_deleted(0x100, 0, cause())), crowd(3, 1), X(1), T(5), crowd(4, 1), T(1), crowd(4, 1),
      plan=(N(), A(g=0, c=2)))
 
-case("share-restart-is-room", "another Recovery frees all, and the very Create that brings it is admitted",
+case("share-restart-is-room", "the Recovery of a restart frees all, and the very Create that brings it is admitted",
      *[C(create(k, imsi=person(k), more=recovery(1))) for k in range(1, 4)], C(create(4, imsi=person(4), more=recovery(2))), plan=(N(), A(g=0, c=2)))
 
 case("share-replaced-at-the-ceiling", "at the ceiling a session may be replaced: it is freed before the rule is asked",

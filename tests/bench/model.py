@@ -1,18 +1,29 @@
 #!/usr/bin/env python3
-"""A model of document 01 and of request 1 of document 02: reads a bench input on standard input and prints what the papers say.
+"""A model of document 01 and of requests 1 and 2 of document 02: reads a bench input on standard input and prints what the papers say.
 
 A test oracle, written from the papers and their readings alone, without the program's code; its sections follow document 01's order.
-gtp.py has the octets. A call returns (number, reply, what is printed behind it: payload or peer's address, or None).
+gtp.py has the octets, lines.py the parts of a bench line. A call returns (number, reply, what is printed behind it: payload or peer's
+address, or None).
 """
 import sys
 
 import gtp
 from figures import DATAGRAM, NAMES, NAME_LENGTH, PLACES
 from gtp import Refused, first, number
+from lines import Bad, address, decimal, octets
 
 # ---- Numbers
 LAST_USE, LAST_NUMBER = 16_777_215, 8_388_607
 FREE, LIVE, CLOSING = "F", "L", "X"
+
+# ---- Recovery that turns over
+SAME, RESTARTED, LATE = "same", "restarted", "late"
+
+
+def judged(received, stored):
+    """"Let d be received minus stored, modulo 256. 0: same. 1 to 127: restarted. 128 to 255: late.\""""
+    d = (received - stored) % 256
+    return SAME if d == 0 else RESTARTED if d <= 127 else LATE
 
 
 class Plan:
@@ -211,12 +222,15 @@ class Unit:
         return 0, gtp.echo(gtp.ECHO_REPLY, sequence, self.plan.own_recovery), None
 
     def read_recovery(self, value):
-        """"the first value seen is stored; any other value than the stored one means the exchange restarted, all sessions are freed"."""
+        """"First value seen: stored"; restarted: "all sessions are freed", the value is stored; late: "the value is thrown away and the
+        sessions stay; the message is still answered"."""
         if value is None:
             return
-        if self.stored is not None and self.stored != value:
+        if self.stored is None:
+            self.stored = value
+        elif judged(value, self.stored) == RESTARTED:
             self.free_all()
-        self.stored = value
+            self.stored = value
 
     # ---- Own requests
     def close(self, index):
@@ -325,29 +339,6 @@ class Unit:
 
 
 # ---- Bench print
-class Bad(Exception):
-    pass
-
-
-def decimal(text):
-    digits = text.lstrip(b"0")  # leading zeros are allowed, however many
-    if not text or any(c not in b"0123456789" for c in text) or len(digits) > 3 or int(digits or b"0") > 255:
-        raise Bad
-    return int(digits or b"0")
-
-
-def octets(text, most):
-    if len(text) % 2 or any(c not in b"0123456789ABCDEF" for c in text) or len(text) > 2 * most:
-        raise Bad
-    return bytes.fromhex(text.decode())
-
-
-def address(text):
-    if len(text) != 8:
-        raise Bad
-    return number(octets(text, 4))
-
-
 def bench(source):
     """What the program prints on this input, line by line."""
     lines = source.split(b"\n")

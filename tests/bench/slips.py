@@ -1,8 +1,8 @@
 #!/usr/bin/env python3
 """Puts slips into the model, one at a time, and looks whether a case tells the slip from the model.
 
-Shows how much a wrong program could get past the cases. Each slip is a text of gtp.py (G) or model.py (M), taken once, and what stands
-in its place. The slips marked ALIKE change nothing that can be seen: four octets that are not there run past the end anyway, and a
+Shows how much a wrong program could get past the cases. Each slip is a text of gtp.py (G), lines.py (B) or model.py (M), taken once, and
+what stands in its place. The slips marked ALIKE change nothing that can be seen: four octets that are not there run past the end anyway, and a
 reply with an overrun has no Cause to be found. Ends with 1 if another slip is not told, or if a text is no longer there.
 """
 import os
@@ -13,8 +13,15 @@ sys.dont_write_bytecode = True
 
 HERE = os.path.dirname(os.path.abspath(__file__))
 FOLDER = os.path.join(HERE, "cases")
-G, M = "gtp", "model"
+G, B, M = "gtp", "lines", "model"
 ALIKE = True
+
+# of Recovery in the model: the case of a restart, that of a late one before it, and whether the fields found have a late value
+RESTART = "        elif judged(value, self.stored) == RESTARTED:\n            self.free_all()\n            self.stored = value\n"
+FOR_LATE = "        elif judged(value, self.stored) == LATE:\n            "
+IS_LATE = "self.stored is not None and judged(gtp.recovery(found or []) or self.stored, self.stored) == LATE"
+ECHO_ENDS = "        self.echo_timer, self.echo_sent = self.plan.interval, 0\n        self.read_recovery(gtp.recovery(found))\n"
+CREATE_READS = "            self.read_recovery(gtp.recovery(found))\n            #"
 
 SLIPS = [
     (G, "at + 4 > len(octets)", "False", ALIKE),
@@ -59,8 +66,8 @@ SLIPS = [
     (M, "gtp.taken(inner, gtp.FTEID, 1, 9, gtp.good_fteid(4))", "gtp.taken(inner, gtp.FTEID, 1, 9, gtp.good_fteid(6))"),
     (M, "gtp.taken(found, gtp.EBI, 0, 1)[0] & 15 != place.ebi", "gtp.taken(found, gtp.EBI, 0, 1)[0] != place.ebi"),
     (M, "                raise Refused(64)", "                raise Refused(64, (73, 0))"),
-    (M, "if self.stored is not None and self.stored != value", "if self.stored and self.stored != value"),
-    (M, "        self.stored = value", "        self.stored = self.stored or value"),
+    (M, "if self.stored is None:", "if not self.stored:"),
+    (M, RESTART, RESTART.replace("            self.stored = value\n", "")),
     (M, "self.places[index].state = CLOSING", "self.places[index].state = CLOSING; self.places[index].timer = 0"),
     (M, "        for place in self.places:\n            if place.state == CLOSING and place.timer == 0",
      "        for place in reversed(self.places):\n            if place.state == CLOSING and place.timer == 0"),
@@ -70,8 +77,7 @@ SLIPS = [
     (M, "                self.free_all()\n                self.echo_timer", "                self.echo_timer"),
     (M, "                self.free_all()\n                self.echo_timer, self.echo_sent = self.plan.interval, 0",
      "                self.free_all()\n                self.stored = None\n                self.echo_timer, self.echo_sent = self.plan.interval, 0"),
-    (M, "            self.free_all()\n        self.stored",
-     "            self.free_all()\n            self.echo_timer, self.echo_sent = self.plan.interval, 0\n        self.stored"),
+    (M, RESTART, RESTART + "            self.echo_timer, self.echo_sent = self.plan.interval, 0\n"),
     (M, "                self.echo_timer, self.echo_sent = self.plan.interval, 0\n        return 0",
      "                self.echo_timer, self.echo_sent = max(self.plan.interval-1,1), 0\n        return 0"),
     (M, "self.echo_sent == 0 or sequence", "sequence"),
@@ -89,7 +95,7 @@ SLIPS = [
     (M, "d[11] if d[0] & 4 else 0", "d[11]"),
     (M, "            if d[0] & 2:\n                sequence", "            if True:\n                sequence"),
     (M, "place.user_teid() == number(d[4:8])", "place.user_teid() % 256 == number(d[4:8]) % 256"),
-    (M, 'or int(digits or b"0") > 255', 'or int(digits or b"0") > 999'),
+    (B, 'or int(digits or b"0") > 255', 'or int(digits or b"0") > 999'),
     (M, "len(set(names)) == len(names)", "True"),
     (M, "<= self.sends <= 10", "<= self.sends <= 11"),
     (M, "self.pool % 256 == 0", "self.pool % 128 == 0"),
@@ -107,6 +113,37 @@ SLIPS = [
     (M, "found = gtp.fields(body)\n        if self.echo_sent", "found = gtp.message_fields(body)\n        if self.echo_sent"),
     (M, 'raise Refused(67)  # "in Create', 'to = 0x1111; raise Refused(67)  # "in Create'),
     (M, "            to = gtp.fteid_parts(sender)[0]", "            to = gtp.fteid_parts(sender)[0] if first(found, 1) else 0"),
+    # Recovery that turns over: the ranges
+    (M, "RESTARTED if d <= 127", "RESTARTED if d > 0"),
+    (M, "RESTARTED if d <= 127", "RESTARTED if d <= 128"),
+    (M, "RESTARTED if d <= 127", "RESTARTED if d < 127"),
+    (M, "RESTARTED if d <= 127", "RESTARTED if d < 255"),
+    (M, "RESTARTED if d <= 127", "RESTARTED if d == 1"),
+    (M, "RESTARTED if d <= 127", "RESTARTED if received > stored"),
+    (M, "(received - stored) % 256", "received - stored"),
+    (M, "(received - stored) % 256", "abs(received - stored)"),
+    (M, "(received - stored) % 256", "(received - stored) % 255"),
+    (M, "(received - stored) % 256", "(stored - received) % 256"),
+    (M, "(received - stored) % 256", "(received - stored) % 256 or 1"),
+    # the value thrown away, and the first one
+    (M, RESTART, FOR_LATE + "self.stored = value\n" + RESTART),
+    (M, RESTART, FOR_LATE + "self.stored = None\n" + RESTART),
+    (M, RESTART, FOR_LATE + "self.free_all()\n" + RESTART),
+    (M, RESTART, FOR_LATE + "[place.free() for place in self.places if place.state == CLOSING]\n" + RESTART),
+    (M, RESTART, FOR_LATE + "self.echo_timer, self.echo_sent = self.plan.interval, 0\n" + RESTART),
+    (M, "self.stored = None  # the exchange's Recovery; none yet", "self.stored = 0"),
+    (M, "        if self.stored is None:\n            self.stored = value\n",
+     "        if self.stored is None:\n            self.stored = value if value < 128 else None\n"),
+    # the message still answered
+    (M, ECHO_ENDS, ECHO_ENDS.replace("        self.echo_timer", "        if not (" + IS_LATE + "):\n            self.echo_timer")),
+    (M, ECHO_ENDS, "        if " + IS_LATE + ":\n            return 9, b'', None\n" + ECHO_ENDS),
+    (M, "        self.read_recovery(gtp.recovery(gtp.fields(body)))",
+     "        found = gtp.fields(body)\n        if " + IS_LATE + ":\n            return 0, b'', None\n        self.read_recovery(gtp.recovery(found))"),
+    (M, CREATE_READS, "            if " + IS_LATE + ":\n                return 9, b'', None\n" + CREATE_READS),
+    (M, CREATE_READS, "            if " + IS_LATE + ":\n                raise Refused(73)\n" + CREATE_READS),
+    (M, "if (held.point, held.creating) == (point, sequence)", "if (held.point, held.creating) == (point, sequence) and not (" + IS_LATE + ")"),
+    (M, "                held.free()\n            if not", "                if not (" + IS_LATE + "):\n                    held.free()\n            if not"),
+    (M, "            if not self.admits(point):", "            if not self.admits(point) and not (" + IS_LATE + "):"),
     # the downlink
     (G, "number(d[16:20])", "number(d[12:16])"),
     (G, "if len(d) < 20:", "if len(d) < 21:"),
@@ -141,8 +178,8 @@ def source(name):
 
 
 def model_of(texts):
-    """The model as a module of its own, made from these two texts."""
-    for name in (G, M):
+    """The model as a module of its own, made from these texts."""
+    for name in (G, B, M):
         module = types.ModuleType(name)
         sys.modules[name] = module
         exec(compile(texts[name], name, "exec"), module.__dict__)
@@ -165,7 +202,7 @@ def main():
     for name in sorted(file for file in os.listdir(FOLDER) if file.endswith(".in")):
         with open(os.path.join(FOLDER, name), "rb") as given, open(os.path.join(FOLDER, name[:-3] + ".out"), "rb") as want:
             cases.append((given.read(), want.read()))
-    texts = {G: source(G), M: source(M)}
+    texts = {name: source(name) for name in (G, B, M)}
     if told(model_of(texts), cases):
         sys.exit("slips: the model itself does not agree with the cases")
     wrong = apart = alike = 0
