@@ -1,7 +1,7 @@
 """A bench run, input and output side by side, and what each line did to the places.
 
 The numbers and octets are the bench's own. What it does not print (which place an own request or a packet is about,
-which places a Recovery or a tick freed, where a peer is) is followed with the model of the paper in tests/bench; where
+which places a Recovery or a tick freed, that a Recovery was late, where a peer is) is followed with the model of the paper in tests/bench; where
 the model prints something else for a line than the bench did, the step says so.
 """
 import os
@@ -43,6 +43,16 @@ class Step:
         self.number, self.reply, self.payload, self.written = None, b"", None, None
         self.due, self.changes, self.notes = [], [], []
         self.peer = self.handed = self.aim = None
+
+
+class Unit(model.Unit):
+    """The model's unit, which also says which Recovery a call has read (None: it has read none)."""
+
+    read = None
+
+    def read_recovery(self, value):
+        self.read = value
+        super().read_recovery(value)
 
 
 class Run:
@@ -102,7 +112,7 @@ class Run:
         elif not self.plan.holds():
             self.stop = "the plan breaks a limit, and the output does not say so"
         else:
-            self.unit = model.Unit(self.plan)
+            self.unit = Unit(self.plan)
 
     def _take(self, step):
         parts = step.line.split(b"\t")
@@ -212,13 +222,25 @@ class Seen:
         self.peers = [(place.peer, place.peer_address, place.peer_user, place.peer_user_address)
                       for place in unit.places]
         self.stored, self.next, self.echo = unit.stored, unit.next, unit.echo_sent
+        unit.read = None
+
+    def recovery(self, unit):
+        """What the Recovery that was read comes to, in words; the same one again, or none, to nothing."""
+        if unit.read is None:
+            return []
+        if self.stored is None:
+            return [f"the exchange's Recovery {unit.read} is stored"]
+        if model.judged(unit.read, self.stored) == model.LATE:
+            behind = (self.stored - unit.read) % 256
+            return [f"the exchange's Recovery {unit.read} is late, {behind} behind the stored {self.stored}: "
+                    "it is thrown away"]
+        if model.judged(unit.read, self.stored) == model.RESTARTED:
+            return [f"the exchange's Recovery went from {self.stored} to {unit.read}: it restarted"]
+        return []
 
     def changes(self, unit, step):
         """What is otherwise now, in words."""
-        found, freed = [], []
-        if unit.stored != self.stored:
-            found.append(f"the exchange's Recovery {unit.stored} is stored" if self.stored is None else
-                         f"the exchange's Recovery went from {self.stored} to {unit.stored}: it restarted")
+        found, freed = self.recovery(unit), []
         if step.letter == "T" and self.echo == unit.plan.sends and unit.echo_sent == 0:
             found.append(f"the echo is given up after {self.echo} sends, which frees all places")
         for place, (state, use), peers in zip(unit.places, self.places, self.peers):
