@@ -1,8 +1,8 @@
 """A bench run, input and output side by side, and what each line did to the places.
 
 The numbers and octets are the bench's own. What it does not print (which place an own request or a packet is about,
-which places a Recovery or a tick freed, that a Recovery was late, where a peer is) is followed with the model of the paper in tests/bench; where
-the model prints something else for a line than the bench did, the step says so.
+which places a Recovery or a tick freed, that a Recovery was late, where a peer is) is followed with the model of the
+paper in tests/bench; where the model prints something else for a line than the bench did, the step says so.
 """
 import os
 import sys
