@@ -84,7 +84,7 @@ unfolding moved gone isFree
 moved-after s x q l g = let m = l .after g in record { state = m .state; own = m .own }
 
 -- taking a place steps its use, so that it is never the same
-next-other : (usage : ℕ) → nextUse usage ≢ usage
+pub next-other : (usage : ℕ) → nextUse usage ≢ usage
 unfolding nextUse lastUse
 next-other usage e = split (ltb usage lastUse) (λ t. let f = rw t at e in omega arith) (λ t. let f = rw t at e in omega (arith, tests))
 
