@@ -9,7 +9,7 @@ use mathlib.Core.Path.{_≡_, refl, sym, ap, _∙_}
 use native.Mathlib.Omega.{arith}
 use lib.ListN.{length, getD, length-map}
 use borrow.Author.Tests.{le-ltb, ne-eqb}
-use Rattle.base_octets.specs.Choice.{pick, split, impossible}
+use Rattle.base_octets.specs.Choice.{split, impossible}
 use Rattle.base_octets.specs.Places.{map-at}
 use Rattle.unit_tunnel.specs.Tunnel.{nextUse}
 use Rattle.unit_plan.specs.declared.Plan.{Plan}

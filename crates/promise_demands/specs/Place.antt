@@ -7,7 +7,7 @@ use mathlib.Core.List.{List}
 use mathlib.Core.Logic.{_≢_}
 use mathlib.Core.Path.{_≡_, refl, sym, _∙_}
 use native.Mathlib.Omega.{arith}
-use lib.ListN.{length, drop, getD, length-map}
+use lib.ListN.{length, getD, length-map}
 use lib.Dec.{eqb, ltb}
 use borrow.Author.Tests.{ne-eqb}
 use Rattle.base_octets.specs.Choice.{split, impossible, tests}
@@ -26,7 +26,6 @@ use Rattle.unit_table.specs.Rules.{keepsRules, live}
 use Rattle.unit_table.specs.Change.{at-changed, nobody, changedAt, length-changed}
 use Rattle.unit_table.specs.Find.{placeFound, foundIn, ownerOf}
 use Rattle.wire_fields.specs.declared.Recovery.{Recovery}
-use Rattle.wire_fields.specs.declared.Recovery.the-variants as R
 use Rattle.wire_requests.specs.declared.BearerReply.{BearerReply}
 use Rattle.wire_requests.specs.declared.BearerReply.the-variants as B
 use Rattle.wire_requests.specs.declared.Create as C
