@@ -1,5 +1,5 @@
--- What a Recovery value of the exchange does after any run, by how far it is ahead of the stored one, round 256. One that came late is thrown
--- away: the datagram is answered as if it carried none, and no session goes. After a restart all are gone.
+-- What a Recovery value of the exchange does after any run, by how far it is ahead of the stored one, modulo 256. One that came late is
+-- thrown away: the datagram is answered as if it carried none, and no session goes. After a restart all are gone.
 -- Assumes nothing.
 use Prim.Native.Nat.{ℕ, _<_, _≤_}
 use mathlib.Core.Bool.{Bool, true, false}
