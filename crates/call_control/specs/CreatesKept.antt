@@ -31,8 +31,7 @@ use Rattle.wire_requests.specs.declared.Create as C
 use Rattle.wire_requests.specs.Create.{CreateSound}
 use Rattle.call_own.specs.Outcome.{noReply}
 use Rattle.call_control.specs.Amends.{causeTaken}
-use Rattle.call_control.specs.Echoes.{heardBy, heard-keeps}
-use Rattle.unit_table.specs.Own.{hearing}
+use Rattle.call_control.specs.Echoes.{heardBy, heard-either, heard-plan, heard-keeps}
 use Rattle.call_control.specs.Creates.{openingOf, acceptedTaken, openedAt, shared, isRepeat, settledAt, heardCreate, createTaken}
 
 -- ---- what is opened is as the record's rule will have it
@@ -110,16 +109,10 @@ module _ (c : C.Create) (seq : ℕ) (small : seq ≤ lastCreated) (node₀ : Nod
           let k = found-is (hasId (c .imsi) (c .ebi)) t i q .1 .0 in
           rw k (replaced-none (node .plan) (node .echo) (node .next) t r (c .imsi) (c .ebi))
 
--- the plan stays what it was when a Recovery value is heard
-pub heard-plan : (r : Recovery) (node : Node) (t : List Session) → heardBy r node t .node .plan ≡ node .plan
-unfolding heardBy hearing
-heard-plan R.None node t = refl
-heard-plan (R.Value value) node t = refl
-
 pub create-keeps : (node : Node) (t : List Session) (c : C.Create) (seq : ℕ) (reply : List ℕ) → keepsRules node t ≡ true → CreateSound (parties (node .plan)) c → seq ≤ lastCreated
     → keepsRules (createTaken c seq node t reply .answer .node) (createTaken c seq node t reply .table) ≡ true
 unfolding createTaken heardCreate
 create-keeps node t c seq reply e sound small =
     settled-keeps c seq small node t e reply (heardBy (c .recovery) node t .node) (heardBy (c .recovery) node t .table) (heard-keeps node t e (c .recovery))
-    (rw (heard-plan (c .recovery) node t) sound)
+    (rw (heard-either (c .recovery) node t, heard-plan (c .recovery) node) sound)
     (foundIn (hasId (c .imsi) (c .ebi)) (heardBy (c .recovery) node t .table)) refl

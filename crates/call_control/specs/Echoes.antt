@@ -12,7 +12,11 @@ use Rattle.unit_session.specs.OwnRequest.{awaits}
 use Rattle.unit_session.specs.Session.{freed}
 use Rattle.unit_table.specs.declared.Node.{Node}
 use Rattle.unit_table.specs.Rules.{keepsRules, Rules, rules-of, rules-to}
-use Rattle.unit_table.specs.Own.{rested, restarted, hearing, keptAfter, rules-heard, rules-rested}
+use Rattle.unit_table.specs.declared.Judged.{Judged}
+use Rattle.unit_table.specs.declared.Judged.the-variants as J
+use Rattle.unit_table.specs.Change.{rules-all-freed}
+use Rattle.unit_table.specs.Own.{rested, rules-rested}
+use Rattle.unit_table.specs.Recovery.{judgedBy, hearing, isRestarted, isLate}
 use Rattle.wire_messages.specs.Types.{echoReplyType}
 use Rattle.wire_messages.specs.Messages.{echoOf}
 use Rattle.wire_fields.specs.declared.Recovery.{Recovery}
@@ -21,36 +25,26 @@ use Rattle.call_own.specs.declared.Span.{Span}
 use Rattle.call_own.specs.Outcome.{State, Outcome, noPlaces, allPlaces, changing, noReply, replied}
 use Rattle.call_own.specs.Calls.{timed}
 
--- whether a Recovery says that the exchange restarted, and the node once it is stored
-unfoldable pub restartsBy : Recovery → Node → Bool
-restartsBy R.None node = false
-restartsBy (R.Value value) node = restarted node value
+-- what a Recovery value does by what it says. The same is stored; after a restart all sessions are freed and it is stored; a late one is
+-- thrown away
+unfoldable pub doneFor : Judged → ℕ → Node → List Session → State
+doneFor J.Same value node t = record { node = hearing value node; table = t }
+doneFor J.Restarted value node t = record { node = hearing value node; table = map freed t }
+doneFor J.Late value node t = record { node = node; table = t }
 
-unfoldable pub heardNode : Recovery → Node → Node
-heardNode R.None node = node
-heardNode (R.Value value) node = hearing value node
-
--- a Recovery value is stored, and one that is not the stored one frees all; where none came nothing is done
+-- where none came nothing is done
 unfoldable pub heardBy : Recovery → Node → List Session → State
 heardBy R.None node t = record { node = node; table = t }
-heardBy (R.Value value) node t = record { node = hearing value node; table = keptAfter node value t }
+heardBy (R.Value value) node t = doneFor (judgedBy node value) value node t
+
+-- whether it says that the exchange restarted
+unfoldable pub restartsBy : Recovery → Node → Bool
+restartsBy R.None node = false
+restartsBy (R.Value value) node = isRestarted (judgedBy node value)
 
 -- the places that this may change
 unfoldable pub heardPlaces : Recovery → Node → Span
 heardPlaces r node = pick (restartsBy r node) allPlaces noPlaces
-
--- in the words of the code: all are freed, or the table stays
-pub heard-freed : (r : Recovery) (node : Node) (t : List Session) → restartsBy r node ≡ true
-    → heardBy r node t ≡ record { node = heardNode r node; table = map freed t }
-unfolding heardBy restartsBy heardNode keptAfter
-heard-freed R.None node t e = impossible e
-heard-freed (R.Value value) node t e = rw e
-
-pub heard-same : (r : Recovery) (node : Node) (t : List Session) → restartsBy r node ≡ false
-    → heardBy r node t ≡ record { node = heardNode r node; table = t }
-unfolding heardBy restartsBy heardNode keptAfter
-heard-same R.None node t e = refl
-heard-same (R.Value value) node t e = rw e
 
 -- Echo Request (1): Recovery, and the answer
 unfoldable pub echoTaken : Node → List Session → ℕ → Recovery → List ℕ → Outcome
@@ -70,15 +64,77 @@ echoReplyTaken node t recovery reply =
     changing (heardPlaces recovery node)
     (noReply taken (echoEnded (heardBy recovery node t) .node) (echoEnded (heardBy recovery node t) .table) reply)
 
+-- ---- laws of Recovery
+-- in the words of the code: the node by itself
+unfoldable pub storedFor : Judged → ℕ → Node → Node
+storedFor J.Same value node = hearing value node
+storedFor J.Restarted value node = hearing value node
+storedFor J.Late value node = node
+
+unfoldable pub heardNode : Recovery → Node → Node
+heardNode R.None node = node
+heardNode (R.Value value) node = storedFor (judgedBy node value) value node
+
+-- and all are freed, or the table stays
+pub heard-either : (r : Recovery) (node : Node) (t : List Session)
+    → heardBy r node t ≡ record { node = heardNode r node; table = pick (restartsBy r node) (map freed t) t }
+unfolding heardBy heardNode restartsBy doneFor storedFor isRestarted
+heard-either R.None node t = refl
+heard-either (R.Value value) node t = by (judgedBy node value)
+  where
+    by : (j : Judged) → doneFor j value node t ≡ record { node = storedFor j value node; table = pick (isRestarted j) (map freed t) t }
+    by J.Same = refl
+    by J.Restarted = refl
+    by J.Late = refl
+
+pub heard-freed : (r : Recovery) (node : Node) (t : List Session) → restartsBy r node ≡ true
+    → heardBy r node t ≡ record { node = heardNode r node; table = map freed t }
+heard-freed r node t e = rw (heard-either r node t, e)
+
+pub heard-same : (r : Recovery) (node : Node) (t : List Session) → restartsBy r node ≡ false
+    → heardBy r node t ≡ record { node = heardNode r node; table = t }
+heard-same r node t e = rw (heard-either r node t, e)
+
+-- a late value leaves node and records as they were, as if none had come
+pub heard-late : (value : ℕ) (node : Node) (t : List Session) → isLate (judgedBy node value) ≡ true → heardBy (R.Value value) node t ≡ heardBy R.None node t
+unfolding heardBy doneFor isLate
+heard-late value node t = by (judgedBy node value)
+  where
+    by : (j : Judged) → isLate j ≡ true → doneFor j value node t ≡ record { node = node; table = t }
+    by J.Same e = impossible e
+    by J.Restarted e = impossible e
+    by J.Late e = refl
+
+-- Recovery is stored, and the rest of the node stays
+module _ {B : Type 0} (f : Node → B) (rest : (value : ℕ) (node : Node) → f (hearing value node) ≡ f node) where
+  pub heard-rest : (r : Recovery) (node : Node) → f (heardNode r node) ≡ f node
+  unfolding heardNode storedFor
+  heard-rest R.None node = refl
+  heard-rest (R.Value value) node = by (judgedBy node value)
+    where
+      by : (j : Judged) → f (storedFor j value node) ≡ f node
+      by J.Same = rest value node
+      by J.Restarted = rest value node
+      by J.Late = refl
+
+pub heard-plan : (r : Recovery) (node : Node) → heardNode r node .plan ≡ node .plan
+unfolding hearing
+heard-plan = heard-rest (λ (n : Node). n .plan) (λ value node. refl)
+
 -- ---- each keeps the rules
 module _ (node : Node) (t : List Session) (e : keepsRules node t ≡ true) where
   rules : Rules (node .plan) (node .echo) (node .next) t
   rules = rules-of node t e
 
   pub heard-keeps : (r : Recovery) → keepsRules (heardBy r node t .node) (heardBy r node t .table) ≡ true
-  unfolding heardBy hearing
+  unfolding heardBy doneFor hearing
   heard-keeps R.None = e
-  heard-keeps (R.Value value) = rules-to (hearing value node) (keptAfter node value t) (rules-heard node value t rules)
+  heard-keeps (R.Value value) = by (judgedBy node value)
+    where
+      by : (j : Judged) → keepsRules (doneFor j value node t .node) (doneFor j value node t .table) ≡ true
+      by J.Same = rules-to (hearing value node) t rules
+      by J.Restarted = rules-to (hearing value node) (map freed t) (rules-all-freed (node .plan) (node .echo) (node .next) t rules)
+      by J.Late = e
 
   pub echo-keeps : (seq : ℕ) (r : Recovery) (reply : List ℕ)
       → keepsRules (echoTaken node t seq r reply .answer .node) (echoTaken node t seq r reply .table) ≡ true

@@ -4,6 +4,7 @@ use unit_plan::Plan;
 use unit_session::Opening;
 use unit_session::Peers;
 use unit_session::Session;
+use unit_table::Judged;
 use unit_table::Node;
 use unit_tunnel::ControlTeid;
 use unit_tunnel::UserTeid;
@@ -26,17 +27,27 @@ pub fn restarts_by(node: Node, recovery: Recovery) -> bool
     let Recovery::Value(value) = recovery else {
         return false;
     };
-    node.restarted(value)
+    let says = node.judged(value);
+    match says {
+        Judged::Same => false,
+        Judged::Restarted => true,
+        Judged::Late => false,
+    }
 }
 
-// A Recovery value is stored.
+// A Recovery value is stored, but a late one is thrown away.
 pub fn heard_node(node: Node, recovery: Recovery) -> Node
     ensures { λ r. ⌜ r ≡ heardNode recovery node ⌝ }
 {
     let Recovery::Value(value) = recovery else {
         return node;
     };
-    node.hearing(value)
+    let says = node.judged(value);
+    match says {
+        Judged::Same => node.hearing(value),
+        Judged::Restarted => node.hearing(value),
+        Judged::Late => node,
+    }
 }
 
 // No such session: the cause is NOT_LIVE, no field named.

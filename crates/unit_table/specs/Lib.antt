@@ -4,5 +4,6 @@ pub mod Room
 pub mod Open
 pub mod Number
 pub mod Own
+pub mod Recovery
 pub mod Find
 pub mod Become

@@ -1,5 +1,4 @@
--- The unit's own requests and the exchange's restarts, over the whole table: what is sent next, what a tick makes of all, when the
--- echo ends, and what a Recovery value does. Each keeps every rule.
+-- The unit's own requests, over the whole table: what is sent next, what a tick makes of all, and when the echo ends. Each keeps every rule.
 -- Assumes nothing.
 use Prim.Native.Nat.{ℕ, zero, suc, _+_, _%_, _<_, _≤_}
 use mathlib.Core.Bool.{Bool, true, false, not, _&&_}
@@ -46,17 +45,6 @@ allTicked p echo l = pick (spent (p .sends) echo) (map freed l) (map (ticked (p 
 -- ---- the lowest place whose request is due, or the number of places
 unfoldable pub duePlace : List Session → ℕ
 duePlace l = firstOf isDue l
-
--- ---- Recovery: a value was stored before, and this is another
-unfoldable pub restarted : Node → ℕ → Bool
-restarted node value = not (eqb (node .heard) 0) && not (eqb (node .recovery) value)
-
--- the value is stored, and after a restart all sessions are freed
-unfoldable pub hearing : ℕ → Node → Node
-hearing value node = record { plan = node .plan; echo = node .echo; next = node .next; heard = 1; recovery = value }
-
-unfoldable pub keptAfter : Node → ℕ → List Session → List Session
-keptAfter node value l = pick (restarted node value) (map freed l) l
 
 -- ---- laws
 sends-most : (p : Plan) → accepted p ≡ true → p .sends ≤ 10
@@ -187,20 +175,13 @@ module _ (p : Plan) (echo : OwnRequest) (next : ℕ) (l : List Session) (r : Rul
           at (sum-set (λ x. boolByte (waitsFor j x)) l i new nobody (due-in i d)) in
           omega arith
 
--- ---- a tick, and Recovery, of the whole table
+-- ---- a tick of the whole table
 pub rules-tick : (p : Plan) (echo : OwnRequest) (next : ℕ) (l : List Session) → Rules p echo next l → Rules p (echoTicked p echo) next (allTicked p echo l)
 unfolding echoTicked allTicked
 rules-tick p echo next l r =
     split (spent (p .sends) echo)
     (λ s. rw s (rules-rested p echo next (map freed l) (rules-all-freed p echo next l r)))
     (λ s. rw s (rules-echo-down p echo next (map (ticked (p .sends)) l) (rules-ticked p echo next l r) s))
-
-pub rules-heard : (node : Node) (value : ℕ) (l : List Session) → Rules (node .plan) (node .echo) (node .next) l → Rules (node .plan) (node .echo) (node .next) (keptAfter node value l)
-unfolding keptAfter
-rules-heard node value l r =
-    split (restarted node value)
-    (λ s. rw s (rules-all-freed (node .plan) (node .echo) (node .next) l r))
-    (λ s. rw s r)
 
 -- ---- the start
 -- nothing heard, nothing sent, the first echo due after E ticks

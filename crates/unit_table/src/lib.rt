@@ -10,7 +10,8 @@ use unit_tunnel::UserTeid;
 ghost use mathlib.Core.Path.{_≡_};
 ghost use Rattle.unit_table.specs.Become.{changedBy};
 ghost use Rattle.unit_table.specs.Number.{after};
-ghost use Rattle.unit_table.specs.Own.{freshNode, rested, restarted, hearing, echoTicked};
+ghost use Rattle.unit_table.specs.Own.{freshNode, rested, echoTicked};
+ghost use Rattle.unit_table.specs.Recovery.{turned, judged, judgedBy, hearing};
 ghost use Rattle.unit_table.specs.Find.{takenIn, controlPlace, userPlace, hasControl, hasUser};
 
 // What goes with the records: the plan, the stored Recovery, the unit's own echo, and the next sequence number.
@@ -22,6 +23,14 @@ pub struct Node {
     // 0 until a Recovery value of the exchange is stored
     pub heard: u8,
     pub recovery: u8,
+}
+
+// What a Recovery value of the exchange says, beside the one that is stored.
+pub enum Judged {
+    Same,
+    Restarted,
+    // an old one, which came late
+    Late,
 }
 
 // A place, or none.
@@ -54,11 +63,14 @@ impl Node {
         }
     }
 
-    // Whether a Recovery value says that the exchange restarted.
-    pub fn restarted(self, value: u8) -> bool
-        ensures { λ r. ⌜ r ≡ restarted self value ⌝ }
+    // What a Recovery value says: the first one is stored, as the same one is.
+    pub fn judged(self, value: u8) -> Judged
+        ensures { λ r. ⌜ r ≡ judgedBy self value ⌝ }
     {
-        (self.heard != 0) & (self.recovery != value)
+        if self.heard == 0 {
+            return Judged::Same;
+        }
+        Judged::of(value, self.recovery)
     }
 
     // The value stored.
@@ -81,6 +93,25 @@ impl Node {
             return rested(plan.interval, echo);
         }
         echo.counted_down()
+    }
+}
+
+impl Judged {
+    // The most that the value after a restart is ahead of the stored one.
+    pub const MOST_AHEAD: u8 = 127;
+
+    // By how much the received value is ahead of the stored one, round 256.
+    pub fn of(received: u8, stored: u8) -> Self
+        ensures { λ r. ⌜ r ≡ judged (turned received stored) ⌝ }
+    {
+        let ahead = std::num::wrapping_sub_u8(received, stored);
+        if ahead == 0 {
+            return Judged::Same;
+        }
+        if ahead <= Judged::MOST_AHEAD {
+            return Judged::Restarted;
+        }
+        Judged::Late
     }
 }
 

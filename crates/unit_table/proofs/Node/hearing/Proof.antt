@@ -1,5 +1,5 @@
 use mathlib.Core.Path.{refl}
-use Rattle.unit_table.specs.Own.{hearing}
+use Rattle.unit_table.specs.Recovery.{hearing}
 use Rattle.unit_table.proofs.Node.hearing.Statement.{statement}
 use Rattle.unit_table.proofs.Node.hearing.Tie as tie
 
