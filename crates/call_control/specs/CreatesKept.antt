@@ -31,7 +31,7 @@ use Rattle.wire_requests.specs.declared.Create as C
 use Rattle.wire_requests.specs.Create.{CreateSound}
 use Rattle.call_own.specs.Outcome.{noReply}
 use Rattle.call_control.specs.Amends.{causeTaken}
-use Rattle.call_control.specs.Echoes.{heardBy, heard-either, heard-plan, heard-keeps}
+use Rattle.call_control.specs.Echoes.{heardBy, heard-plan, heard-keeps}
 use Rattle.call_control.specs.Creates.{openingOf, acceptedTaken, openedAt, shared, isRepeat, settledAt, heardCreate, createTaken}
 
 -- ---- what is opened is as the record's rule will have it
@@ -114,5 +114,5 @@ pub create-keeps : (node : Node) (t : List Session) (c : C.Create) (seq : ℕ) (
 unfolding createTaken heardCreate
 create-keeps node t c seq reply e sound small =
     settled-keeps c seq small node t e reply (heardBy (c .recovery) node t .node) (heardBy (c .recovery) node t .table) (heard-keeps node t e (c .recovery))
-    (rw (heard-either (c .recovery) node t, heard-plan (c .recovery) node) sound)
+    (rw (heard-plan (c .recovery) node t) sound)
     (foundIn (hasId (c .imsi) (c .ebi)) (heardBy (c .recovery) node t .table)) refl

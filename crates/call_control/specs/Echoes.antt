@@ -16,7 +16,7 @@ use Rattle.unit_table.specs.declared.Judged.{Judged}
 use Rattle.unit_table.specs.declared.Judged.the-variants as J
 use Rattle.unit_table.specs.Change.{rules-all-freed}
 use Rattle.unit_table.specs.Own.{rested, rules-rested}
-use Rattle.unit_table.specs.Recovery.{judgedBy, hearing, isRestarted, isLate}
+use Rattle.unit_table.specs.Recovery.{judgedBy, hearing, isRestarted, same-again}
 use Rattle.wire_messages.specs.Types.{echoReplyType}
 use Rattle.wire_messages.specs.Messages.{echoOf}
 use Rattle.wire_fields.specs.declared.Recovery.{Recovery}
@@ -96,30 +96,55 @@ pub heard-same : (r : Recovery) (node : Node) (t : List Session) → restartsBy 
 heard-same r node t e = rw (heard-either r node t, e)
 
 -- a late value leaves node and records as they were, as if none had come
-pub heard-late : (value : ℕ) (node : Node) (t : List Session) → isLate (judgedBy node value) ≡ true → heardBy (R.Value value) node t ≡ heardBy R.None node t
-unfolding heardBy doneFor isLate
-heard-late value node t = by (judgedBy node value)
-  where
-    by : (j : Judged) → isLate j ≡ true → doneFor j value node t ≡ record { node = node; table = t }
-    by J.Same e = impossible e
-    by J.Restarted e = impossible e
-    by J.Late e = refl
+pub heard-late : (value : ℕ) (node : Node) (t : List Session) → judgedBy node value ≡ J.Late → heardBy (R.Value value) node t ≡ heardBy R.None node t
+unfolding heardBy doneFor
+heard-late value node t e = rw e
 
 -- Recovery is stored, and the rest of the node stays
 module _ {B : Type 0} (f : Node → B) (rest : (value : ℕ) (node : Node) → f (hearing value node) ≡ f node) where
-  pub heard-rest : (r : Recovery) (node : Node) → f (heardNode r node) ≡ f node
+  pub stored-rest : (r : Recovery) (node : Node) → f (heardNode r node) ≡ f node
   unfolding heardNode storedFor
-  heard-rest R.None node = refl
-  heard-rest (R.Value value) node = by (judgedBy node value)
+  stored-rest R.None node = refl
+  stored-rest (R.Value value) node = by (judgedBy node value)
     where
       by : (j : Judged) → f (storedFor j value node) ≡ f node
       by J.Same = rest value node
       by J.Restarted = rest value node
       by J.Late = refl
 
-pub heard-plan : (r : Recovery) (node : Node) → heardNode r node .plan ≡ node .plan
+  pub heard-rest : (r : Recovery) (node : Node) (t : List Session) → f (heardBy r node t .node) ≡ f node
+  heard-rest r node t = rw (heard-either r node t) (stored-rest r node)
+
+pub stored-plan : (r : Recovery) (node : Node) → heardNode r node .plan ≡ node .plan
+unfolding hearing
+stored-plan = stored-rest (λ (n : Node). n .plan) (λ value node. refl)
+
+pub heard-plan : (r : Recovery) (node : Node) (t : List Session) → heardBy r node t .node .plan ≡ node .plan
 unfolding hearing
 heard-plan = heard-rest (λ (n : Node). n .plan) (λ value node. refl)
+
+-- heard twice it is as heard once
+pub heard-twice : (r : Recovery) (node : Node) → heardNode r (heardNode r node) ≡ heardNode r node
+unfolding heardNode storedFor hearing
+heard-twice R.None node = refl
+heard-twice (R.Value value) node = by (judgedBy node value) refl
+  where
+    by : (j : Judged) → judgedBy node value ≡ j
+        → storedFor (judgedBy (storedFor j value node) value) value (storedFor j value node) ≡ storedFor j value node
+    by J.Same e = rw (same-again value node)
+    by J.Restarted e = rw (same-again value node)
+    by J.Late e = rw e
+
+-- and frees nothing more
+pub heard-once : (r : Recovery) (node : Node) → restartsBy r (heardNode r node) ≡ false
+unfolding heardNode restartsBy storedFor isRestarted
+heard-once R.None node = refl
+heard-once (R.Value value) node = by (judgedBy node value) refl
+  where
+    by : (j : Judged) → judgedBy node value ≡ j → isRestarted (judgedBy (storedFor j value node) value) ≡ false
+    by J.Same e = rw (same-again value node)
+    by J.Restarted e = rw (same-again value node)
+    by J.Late e = rw e
 
 -- ---- each keeps the rules
 module _ (node : Node) (t : List Session) (e : keepsRules node t ≡ true) where

@@ -30,7 +30,7 @@ use Rattle.call_asked.specs.declared.Asked.the-variants as A
 use Rattle.call_asked.specs.Asked.{askedOf}
 use Rattle.call_own.specs.Outcome.{bareOn, onOwner, leastReply, noReply, allPlaces, onePlace, twoPlaces}
 use Rattle.call_own.specs.Outside.{isWithin, OthersStay, out-all, out-one, out-first, out-second, past-both, on-others}
-use Rattle.call_control.specs.Echoes.{restartsBy, heardNode, heardBy, heardPlaces, heard-freed, heard-same, heard-plan, echoTaken, echoEnded, echoReplyTaken}
+use Rattle.call_control.specs.Echoes.{restartsBy, heardNode, heardBy, heardPlaces, heard-freed, heard-same, stored-plan, echoTaken, echoEnded, echoReplyTaken}
 use Rattle.call_control.specs.Amends.{causeTaken, causeOn, noneOn, sessionOn}
 use Rattle.call_control.specs.Creates.{openingOf, acceptedTaken, openedAt, shared, isRepeat, settledAt, heardCreate, openedPlaces, createPlaces, createTaken}
 use Rattle.call_control.specs.Control.{askedTaken, controlTaken}
@@ -51,7 +51,7 @@ session-same x seq s e = rw e (none-same x seq s)
 pub places-heard : (r : Recovery) (c : C.Create) (seq : ℕ) (node : Node) (t : List Session) (i : ℕ)
     → openedPlaces c seq (heardNode r node) t i ≡ openedPlaces c seq node t i
 unfolding openedPlaces
-places-heard r c seq node t i = rw (heard-plan r node)
+places-heard r c seq node t i = rw (stored-plan r node)
 
 -- ---- a table that keeps its rules has as many records as there are places
 module _ (node : Node) (t : List Session) (size : length t ≡ places) (k : ℕ) where

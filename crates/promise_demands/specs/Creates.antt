@@ -26,7 +26,6 @@ use Rattle.unit_table.specs.Rules.{liveOn, live, Rules, rules-of}
 use Rattle.unit_table.specs.Change.{nobody, changedAt, changed-out, less-set, less-map, rules-freed}
 use Rattle.unit_table.specs.Find.{foundIn, found-is}
 use Rattle.unit_table.specs.Open.{replaced}
-use Rattle.unit_table.specs.Own.{restarted, keptAfter}
 use Rattle.unit_table.specs.Room.{freePlace, place-free}
 use Rattle.wire_header.specs.Header.{headerOf}
 use Rattle.wire_header.specs.Gate.{gateOf}
@@ -40,12 +39,11 @@ use Rattle.call_own.specs.Outcome.{State, Outcome, leastReply, noReply, changin
 use Rattle.wire_header.specs.Types.{kindBy}
 use Rattle.wire_messages.specs.Types.{createReplyType}
 use Rattle.call_asked.specs.Asked.{kindAsked, requestAsked, soundAsked, askedOf}
-use Rattle.call_control.specs.Echoes.{heardBy, heard-keeps}
+use Rattle.call_control.specs.Echoes.{restartsBy, heardBy, heard-either, heard-plan, heard-keeps}
 use Rattle.call_control.specs.Amends.{causeTaken}
 use Rattle.call_control.specs.Creates.{openingOf, acceptedTaken, noRoom, openedAt, shared, isRepeat, settledAt, heardCreate, createPlaces, createTaken}
 use Rattle.call_control.specs.Control.{askedTaken, controlTaken}
 use Rattle.promise_demands.specs.Run.{control, Kept}
-use Rattle.call_control.specs.CreatesKept.{heard-plan}
 use Rattle.promise_demands.specs.Bounds.{u}
 
 -- ---- what is asked
@@ -164,10 +162,9 @@ module _ (p : Plan) (s : State) (kept : Kept s) (plan : s .node .plan ≡ p) (d 
 
 -- ---- Recovery and the replaced session only take away
 heard-less : (r : Recovery) (node : Node) (t : List Session) (a : ℕ) → liveOn a (heardBy r node t .table) ≤ liveOn a t
-unfolding heardBy noReply keptAfter
-heard-less R.None node t a = omega arith
-heard-less (R.Value value) node t a =
-    split (restarted node value) (λ q. rw q (less-map freed t lighter-freed .ons a)) (λ q. rw q (omega arith))
+heard-less r node t a =
+    rw (heard-either r node t)
+    (split (restartsBy r node) (λ q. rw q (less-map freed t lighter-freed .ons a)) (λ q. rw q (omega arith)))
 
 pub asked-less : (c : C.Create) (s : State) (a : ℕ) → askedU c s a ≤ u s a
 unfolding tableAsked replaced changedAt

@@ -22,7 +22,8 @@ use Rattle.unit_session.specs.declared.OwnRequest.{OwnRequest}
 use Rattle.unit_session.specs.OwnRequest.{spent, sentOnce, countedDown, InRange, range-of}
 use Rattle.unit_table.specs.declared.Node.{Node}
 use Rattle.unit_table.specs.Rules.{keepsRules, rules-of}
-use Rattle.unit_table.specs.Own.{rested, echoTicked, hearing, duePlace}
+use Rattle.unit_table.specs.Own.{rested, echoTicked, duePlace}
+use Rattle.unit_table.specs.Recovery.{hearing}
 use Rattle.unit_table.specs.Number.{takenNumber}
 use Rattle.wire_messages.specs.Types.{echoType}
 use Rattle.wire_messages.specs.Messages.{echoOf}
@@ -30,11 +31,10 @@ use Rattle.wire_fields.specs.declared.Recovery.{Recovery}
 use Rattle.wire_fields.specs.declared.Recovery.the-variants as R
 use Rattle.call_own.specs.Outcome.{State, onSession, leastReply, noReply}
 use Rattle.call_own.specs.Calls.{timed, tickOf, closeOf, echoSent, placeSent, dueSent, sendOf}
-use Rattle.call_control.specs.Echoes.{heardBy, echoEnded, echoReplyTaken}
+use Rattle.call_control.specs.Echoes.{heardBy, heard-plan, heard-rest, echoEnded, echoReplyTaken}
 use Rattle.call_asked.specs.declared.Asked.the-variants as A
 use Rattle.call_asked.specs.Asked.{askedOf}
 use Rattle.call_control.specs.Control.{askedTaken, controlTaken}
-use Rattle.call_control.specs.CreatesKept.{heard-plan}
 use Rattle.promise_demands.specs.Run.{left, Event, control, user, down, tick, send, close, line, step, run, line-step, ofOctets, Start, start-accepted}
 use Rattle.promise_demands.specs.Stays.{asked-part, step-start}
 use Rattle.promise_demands.specs.Bounds.{at}
@@ -77,9 +77,8 @@ EchoWhole = (p : Plan) (s : State) → Start p s → s .node .echo .sends ≡ 0 
 
 -- ---- proofs
 heard-echo : (r : Recovery) (node : Node) (t : List Session) → heardBy r node t .node .echo ≡ node .echo
-unfolding heardBy hearing
-heard-echo R.None node t = refl
-heard-echo (R.Value v) node t = refl
+unfolding hearing
+heard-echo = heard-rest (λ (n : Node). n .echo) (λ value node. refl)
 
 -- one that is counted down and was not at rest is not
 still : (r : OwnRequest) → atRest r ≡ false → eqb (r .timer) 0 ≡ false → atRest (countedDown r) ≡ false

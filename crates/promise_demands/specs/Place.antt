@@ -25,7 +25,6 @@ use Rattle.unit_table.specs.declared.Owner.the-variants as F
 use Rattle.unit_table.specs.Rules.{keepsRules, live}
 use Rattle.unit_table.specs.Change.{at-changed, nobody, changedAt, length-changed}
 use Rattle.unit_table.specs.Find.{placeFound, foundIn, ownerOf}
-use Rattle.unit_table.specs.Own.{restarted, keptAfter}
 use Rattle.wire_fields.specs.declared.Recovery.{Recovery}
 use Rattle.wire_fields.specs.declared.Recovery.the-variants as R
 use Rattle.wire_requests.specs.declared.BearerReply.{BearerReply}
@@ -43,7 +42,7 @@ use Rattle.call_asked.specs.declared.Concern.the-variants as S
 use Rattle.call_asked.specs.declared.Asked.{Asked}
 use Rattle.call_asked.specs.declared.Asked.the-variants as A
 use Rattle.call_asked.specs.Asked.{askedOf}
-use Rattle.call_control.specs.Echoes.{heardBy, echoTaken, echoEnded, echoReplyTaken}
+use Rattle.call_control.specs.Echoes.{restartsBy, heardBy, heard-either, echoTaken, echoEnded, echoReplyTaken}
 use Rattle.call_control.specs.Amends.{peersOf, causeTaken, causeOn, movedOn, modifyBy, modifyOn, freedOn, deleteOn, bearerOn, concernOn, noneOn, sessionOn}
 use Rattle.call_control.specs.Creates.{openingOf, acceptedTaken, openedAt, shared, isRepeat, settledAt, heardCreate, createTaken}
 use Rattle.call_control.specs.Control.{askedTaken, controlTaken}
@@ -142,17 +141,15 @@ module _ (i : ℕ) (l₀ : List Session) where
 
   -- Recovery
   heard-at : (r : Recovery) (node : Node) (t : List Session) → t ≡ l₀ → i < length l₀ → Left s₀ (getD (heardBy r node t .table) i nobody)
-  unfolding heardBy noReply keptAfter
-  heard-at R.None node t e h = rw e (left-same s₀)
-  heard-at (R.Value value) node t e h =
-      split (restarted node value)
+  heard-at r node t e h =
+      rw (heard-either r node t)
+      (split (restartsBy r node)
       (λ q. rw (q, e, map-at freed l₀ i nobody nobody h) (left-freed s₀ s₀ refl))
-      (λ q. rw (q, e) (left-same s₀))
+      (λ q. rw (q, e) (left-same s₀)))
 
 heard-length : (r : Recovery) (node : Node) (t : List Session) → length (heardBy r node t .table) ≡ length t
-unfolding heardBy noReply keptAfter
-heard-length R.None node t = refl
-heard-length (R.Value value) node t = split (restarted node value) (λ q. rw (q, length-map t freed)) (λ q. rw q)
+heard-length r node t =
+    rw (heard-either r node t) (split (restartsBy r node) (λ q. rw (q, length-map t freed)) (λ q. rw q))
 
 -- ---- each type of control datagram
 module _ (i : ℕ) (node : Node) (t : List Session) (h : i < length t) where

@@ -20,7 +20,6 @@ use Rattle.base_octets.specs.Every.{every}
 use Rattle.base_octets.specs.BigEndian.{isOctet}
 use Rattle.unit_session.specs.Session.{hasId, isFree, opened, blankAt, freed}
 use Rattle.unit_table.specs.Change.{nobody, changedAt, changed-here, length-changed}
-use Rattle.unit_table.specs.Own.{hearing, keptAfter, restarted}
 use Rattle.unit_table.specs.Room.{freePlace}
 use Rattle.wire_header.specs.Types.{kindBy}
 use Rattle.call_asked.specs.Asked.{kindAsked, requestAsked, soundAsked, askedOf}
@@ -36,10 +35,9 @@ use Rattle.wire_requests.specs.declared.Create as C
 use Rattle.wire_requests.specs.declared.Decoded.the-variants as D
 use Rattle.wire_requests.specs.declared.Request.the-variants as Q
 use Rattle.wire_requests.specs.Create.{createOf}
-use Rattle.call_control.specs.Echoes.{heardBy, heard-keeps, restartsBy, heard-freed, heard-same}
+use Rattle.call_control.specs.Echoes.{heardBy, heardNode, heard-plan, heard-keeps, restartsBy, heard-either, heard-freed, heard-same, heard-twice, heard-once}
 use Rattle.call_control.specs.Control.{askedTaken, controlTaken}
 use Rattle.promise_demands.specs.Run.{left, Event, control, step, run, ofOctets, Kept, Run, start-accepted, step-keeps}
-use Rattle.call_control.specs.CreatesKept.{heard-plan}
 use Rattle.promise_demands.specs.Stays.{run-start}
 use Rattle.promise_demands.specs.Creates.{SoundCreate, NewCreate, heard, repeats, tableAsked, askedU, acceptedOf, create-accepted, create-point, place-in}
 use Rattle.base_octets.specs.Places.{map-at}
@@ -114,9 +112,8 @@ kept-same a b e k = rw (← e) k
 -- ---- a Recovery value that is stored already does nothing
 heard-again : (r : Recovery) (node : Node) (t t₁ : List Session)
     → (heardBy r (heardBy r node t .node) t₁ .node ≡ heardBy r node t .node) × (heardBy r (heardBy r node t .node) t₁ .table ≡ t₁)
-unfolding heardBy noReply hearing keptAfter restarted
-heard-again R.None node t t₁ = (refl, refl)
-heard-again (R.Value v) node t t₁ = rw (eq-eqb v v refl) (refl, refl)
+heard-again r node t t₁ =
+    rw (heard-either r node t, heard-either r (heardNode r node) t₁, heard-twice r node, heard-once r node) (refl, refl)
 
 module _ (p : Plan) (s : State) (kept : Kept s) (plan : s .node .plan ≡ p) (good : accepted p ≡ true) (d : List ℕ) (octets : every isOctet d ≡ true) (c : C.Create)
     (n : NewCreate p s d c) (reply : List ℕ) (room : leastReply ≤ length reply) (e : admits p (askedU c s) (c .point) ≡ true) where

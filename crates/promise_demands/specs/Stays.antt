@@ -21,10 +21,9 @@ use Rattle.unit_table.specs.Own.{duePlace}
 use Rattle.wire_requests.specs.declared.Create as C
 use Rattle.call_own.specs.Outcome.{State, onSession, onOwner, leastReply, noReply}
 use Rattle.call_own.specs.Calls.{timed, tickOf, closeOf, echoSent, placeSent, dueSent, sendOf}
-use Rattle.call_control.specs.Echoes.{heardBy, echoTaken, echoEnded, echoReplyTaken}
+use Rattle.call_control.specs.Echoes.{heardBy, heard-plan, echoTaken, echoEnded, echoReplyTaken}
 use Rattle.call_control.specs.Amends.{causeTaken}
 use Rattle.call_control.specs.Creates.{acceptedTaken, openedAt, shared, isRepeat, settledAt, heardCreate, createTaken}
-use Rattle.call_control.specs.CreatesKept.{heard-plan}
 use Rattle.promise_demands.specs.Run.{left, Event, control, user, down, tick, send, close, line, step, run, line-step, ofOctets, Start, Run, step-keeps, run-keeps}
 use Rattle.wire_fields.specs.declared.Recovery.{Recovery}
 use Rattle.call_asked.specs.declared.Asked.{Asked}

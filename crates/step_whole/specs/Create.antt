@@ -23,7 +23,6 @@ use Rattle.unit_table.specs.Rules.{keepsRules, Rules, rules-of, live}
 use Rattle.unit_table.specs.Change.{nobody, changedAt, rules-freed, changed-out}
 use Rattle.unit_table.specs.Find.{foundIn}
 use Rattle.unit_table.specs.Room.{freePlace, place-free}
-use Rattle.unit_table.specs.Own.{hearing}
 use Rattle.step_keys.specs.Survey.{weightOf}
 use Rattle.unit_plan.specs.Plan.{parties-four}
 use Rattle.wire_fields.specs.declared.Recovery.{Recovery}
@@ -31,7 +30,7 @@ use Rattle.wire_fields.specs.declared.Recovery.the-variants as R
 use Rattle.wire_requests.specs.declared.Create as C
 use Rattle.call_own.specs.declared.Span.{Span}
 use Rattle.call_own.specs.Outcome.{Outcome, outcome, noPlaces, onePlace, twoPlaces, changing}
-use Rattle.call_control.specs.Echoes.{heardNode}
+use Rattle.call_control.specs.Echoes.{heardNode, stored-plan}
 use Rattle.wire_messages.specs.Types.{createReplyType}
 use Rattle.call_control.specs.Amends.{causeTaken}
 use Rattle.call_control.specs.Creates.{openingOf, acceptedTaken, noRoom, openedAt, shared, isRepeat, settledAt, openedPlaces}
@@ -48,12 +47,6 @@ placedTwo node p l m = outcome
     (record { number = m .answer .number; size = m .answer .size; node = heardNode (m .answer .heard) node; span = m .answer .span })
     (set (set l (p .old) (m .answer .old)) (p .new) (m .answer .new))
     (m .reply)
-
--- a Recovery that is stored leaves the plan
-pub heard-plan : (r : Recovery) (node : Node) → heardNode r node .plan ≡ node .plan
-unfolding heardNode hearing
-heard-plan R.None node = refl
-heard-plan (R.Value value) node = refl
 
 -- a record opened says nothing of what it was but its use
 pub opened-freed : (o : Opening) (s : Session) → opened o (freed s) ≡ opened o s
@@ -118,12 +111,12 @@ module _ (node : Node) (l : List Session) (k : keepsRules node l ≡ true) (c : 
   -- ---- the three ways that it can go
   repeat-same : changing noPlaces (acceptedTaken seq (g .old) s after l reply) ≡ comes Y.Still
   unfolding acceptedTaken openOn openBy opensAt concernedOf unmovedOn placedTwo
-  repeat-same = rw (stays l (g .old) places, heard-plan (c .recovery) node)
+  repeat-same = rw (stays l (g .old) places, stored-plan (c .recovery) node)
 
   entered-same : (q : ℕ)
       → changing (twoPlaces (g .old) q) (acceptedTaken seq q (opened o (getD then′ q nobody)) after (changedAt (opened o) q then′) reply) ≡ comes (Y.Opens q)
   unfolding acceptedTaken openOn openBy opensAt concernedOf enteredOn placedTwo changedAt
-  entered-same q = rw (opened-then o l (g .old) q, heard-plan (c .recovery) node)
+  entered-same q = rw (opened-then o l (g .old) q, stored-plan (c .recovery) node)
 
   full-same : changing (onePlace (g .old)) (causeTaken createReplyType (c .control) seq noRoom after then′ reply) ≡ comes Y.Full
   unfolding causeTaken openOn openBy opensAt concernedOf fullOn placedTwo changedAt
@@ -154,12 +147,12 @@ module _ (node : Node) (l : List Session) (k : keepsRules node l ≡ true) (c : 
       ≡ acceptedTaken seq (firstOf isFree then′) (opened o (getD then′ (firstOf isFree then′) nobody)) after
       (changedAt (opened o) (firstOf isFree then′) then′) reply
   unfolding shared openedAt foundIn
-  shared-in a = rw (heard-plan (c .recovery) node, a, lt-ltb (firstOf isFree then′) (length then′) (place-in a))
+  shared-in a = rw (stored-plan (c .recovery) node, a, lt-ltb (firstOf isFree then′) (length then′) (place-in a))
 
   shared-out : admits (node .plan) (live then′) (c .point) ≡ false
       → shared c seq after then′ node₀ t₀ reply ≡ causeTaken createReplyType (c .control) seq noRoom after then′ reply
   unfolding shared
-  shared-out a = rw (heard-plan (c .recovery) node, a)
+  shared-out a = rw (stored-plan (c .recovery) node, a)
 
   -- the places where it is no repeat
   abbrev spread : Span

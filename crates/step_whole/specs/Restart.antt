@@ -22,12 +22,11 @@ use Rattle.unit_table.specs.Rules.{keepsRules, rules-of}
 use Rattle.unit_table.specs.Change.{nobody}
 use Rattle.unit_table.specs.Become.{changedBy}
 use Rattle.unit_table.specs.Find.{foundIn}
-use Rattle.unit_table.specs.Own.{hearing}
 use Rattle.step_keys.specs.Survey.{weightOf}
 use Rattle.wire_fields.specs.declared.Recovery.{Recovery}
 use Rattle.wire_fields.specs.declared.Recovery.the-variants as R
 use Rattle.wire_requests.specs.declared.Create as C
-use Rattle.call_control.specs.Echoes.{restartsBy, heardNode, heardBy, heard-freed, heard-same, heard-keeps}
+use Rattle.call_control.specs.Echoes.{restartsBy, heardNode, heardBy, heard-freed, heard-same, stored-plan, heard-twice, heard-keeps}
 use Rattle.call_own.specs.Outcome.{allPlaces, changing}
 use Rattle.call_control.specs.Creates.{openingOf, settledAt, heardCreate, openedPlaces}
 use Rattle.step_control.specs.declared.Basis.{Basis}
@@ -37,7 +36,7 @@ use Rattle.step_control.specs.declared.Verdict.{Verdict}
 use Rattle.step_control.specs.declared.Verdict.the-variants as Y
 use Rattle.step_control.specs.Step.{repeatsAt, verdictOf, opensAt, concernedOf, concernedWith, TakenWith, unmovedOn, fullOn, enteredOn, openBy, openOn, nodeAfter, freedCount, concernedPut, changedPlaces, placedConcerned}
 use Rattle.step_control.specs.Places.{freed-free, freed-weight}
-use Rattle.step_whole.specs.Create.{placedTwo, heard-plan, opened-freed, settled-same}
+use Rattle.step_whole.specs.Create.{placedTwo, opened-freed, settled-same}
 
 -- ---- a table of which every record is freed
 freed-nobody : (imsi ebi : ℕ) (s : Session) → hasId imsi ebi (freed s) ≡ false
@@ -58,18 +57,6 @@ freed-sum : (l : List Session) → sumOf weightOf (map freed l) ≡ 0
 unfolding sumOf
 freed-sum [] = refl
 freed-sum (x ∷ l) = rw (freed-weight x, freed-sum l)
-
--- ---- Recovery
--- it is stored, and the records are freed or stay
-pub heard-either : (r : Recovery) (node : Node) (l : List Session)
-    → heardBy r node l ≡ record { node = heardNode r node; table = pick (restartsBy r node) (map freed l) l }
-heard-either r node l = split (restartsBy r node) (λ e. rw e (heard-freed r node l e)) (λ e. rw e (heard-same r node l e))
-
--- stored twice it is as stored once
-heard-twice : (r : Recovery) (node : Node) → heardNode r (heardNode r node) ≡ heardNode r node
-unfolding heardNode hearing
-heard-twice R.None node = refl
-heard-twice (R.Value value) node = refl
 
 -- ---- what is put back where none are freed first, and where all are
 module _ (l : List Session) (p : Concerned) (o : Taken) where
@@ -146,7 +133,7 @@ module _ (node : Node) (l : List Session) (k : keepsRules node l ≡ true) (c : 
 
   verdict-same : verdictOf g after c seq (getD gone (g .old) nobody) ≡ verdict
   unfolding verdictOf
-  verdict-same = rw (old-gone, old-here, heard-plan (c .recovery) node)
+  verdict-same = rw (old-gone, old-here, stored-plan (c .recovery) node)
 
   -- the record of a place, once it is opened
   opened-here : (q : ℕ) → opened (openingOf c seq) (getD gone q nobody) ≡ opened (openingOf c seq) (getD l q nobody)
@@ -159,8 +146,8 @@ module _ (node : Node) (l : List Session) (k : keepsRules node l ≡ true) (c : 
 
   taken-by : (v : Verdict) → openBy v c seq after (concernedWith g gone v) reply ≡ openBy v c seq node (concernedWith g l v) reply
   unfolding openBy opensAt concernedOf unmovedOn enteredOn fullOn
-  taken-by Y.Still = rw (old-gone, old-here, heard-plan (c .recovery) node, past gone places size-gone (omega arith), past l places size (omega arith))
-  taken-by (Y.Opens q) = rw (old-gone, old-here, opened-here q, heard-plan (c .recovery) node)
+  taken-by Y.Still = rw (old-gone, old-here, stored-plan (c .recovery) node, past gone places size-gone (omega arith), past l places size (omega arith))
+  taken-by (Y.Opens q) = rw (old-gone, old-here, opened-here q, stored-plan (c .recovery) node)
   taken-by Y.Full = rw (old-gone, old-here, past gone places size-gone (omega arith), past l places size (omega arith))
 
   taken-same : (v : Verdict) → openOn c seq after (concernedWith g gone v) reply ≡ openOn c seq node (concernedWith g l v) reply

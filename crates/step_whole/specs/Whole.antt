@@ -30,7 +30,7 @@ use Rattle.call_asked.specs.declared.Asked.the-variants as A
 use Rattle.call_asked.specs.Asked.{askedOf}
 use Rattle.call_own.specs.declared.Span.{Span}
 use Rattle.call_own.specs.Outcome.{Outcome, outcome, noPlaces, allPlaces, onOwner, leastReply, noReply}
-use Rattle.call_control.specs.Echoes.{restartsBy, heardNode, heardBy, heardPlaces, heard-same as heard-still, echoTaken, echoEnded, echoReplyTaken}
+use Rattle.call_control.specs.Echoes.{restartsBy, heardNode, heardBy, heardPlaces, heard-either, heard-same as heard-still, echoTaken, echoEnded, echoReplyTaken}
 use Rattle.call_control.specs.Amends.{causeTaken, sessionOn}
 use Rattle.call_control.specs.Creates.{heardCreate, createPlaces, createTaken}
 use Rattle.call_control.specs.Control.{askedTaken, controlTaken}
@@ -40,7 +40,7 @@ use Rattle.step_control.specs.declared.Concerned.{Concerned}
 use Rattle.step_control.specs.Step.{restartsIn, restartsNow, verdictOf, verdictIn, opensAt, concernedOf, concernedWith, concernedIn, TakenWith, takenWith, unmovedOn, namedPlaces, namedWith, namedOn, openOn, askedOn, takenOn, taken-short, taken-broken, taken-kept, restedNode, nodeAfter, concernedPut, changedPlaces, placedConcerned}
 use Rattle.step_whole.specs.Amended.{placedOne, owner-same}
 use Rattle.step_whole.specs.Create.{stays, settled-same}
-use Rattle.step_whole.specs.Restart.{heard-either, put-none, put-all, placed-none, open-ended, restart-same}
+use Rattle.step_whole.specs.Restart.{put-none, put-all, placed-none, open-ended, restart-same}
 use Rattle.step_whole.specs.Basis.{Cleared, Sees}
 
 -- ---- on two records

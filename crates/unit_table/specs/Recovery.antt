@@ -82,6 +82,22 @@ ranges d h = rw (← same-range d, ← restarted-range d, ← late-range d h) (o
     one J.Restarted = refl
     one J.Late = refl
 
+-- so a node with a stored value judges by the range
+module _ (node : Node) (value : ℕ) (stored : 1 ≤ node .heard) where
+  pub same-by : turned value (node .recovery) ≡ 0 → judgedBy node value ≡ J.Same
+  unfolding judgedBy judged
+  same-by h = rw (ne-eqb (node .heard) 0 (λ z. omega arith), eq-eqb (turned value (node .recovery)) 0 h)
+
+  pub restarted-by : 1 ≤ turned value (node .recovery) → turned value (node .recovery) ≤ 127 → judgedBy node value ≡ J.Restarted
+  unfolding judgedBy judged mostAhead
+  restarted-by h k =
+      rw (ne-eqb (node .heard) 0 (λ z. omega arith), ne-eqb (turned value (node .recovery)) 0 (λ z. omega arith), le-leb (turned value (node .recovery)) 127 k)
+
+  pub late-by : 128 ≤ turned value (node .recovery) → judgedBy node value ≡ J.Late
+  unfolding judgedBy judged mostAhead
+  late-by h =
+      rw (ne-eqb (node .heard) 0 (λ z. omega arith), ne-eqb (turned value (node .recovery)) 0 (λ z. omega arith), lt-leb (turned value (node .recovery)) 127 (omega arith))
+
 -- a value that was stored is the same when it comes again
 pub same-again : (value : ℕ) (node : Node) → judgedBy (hearing value node) value ≡ J.Same
 unfolding judgedBy hearing judged turned
