@@ -82,14 +82,14 @@ static void prepare(int message) {
     lent.records[PERSON].created = SEQUENCE;
 }
 
-static int taken(const arena *side) {
+/* the sessions that the library left; and of those before it, the ones that are there still, as they were */
+static int taken(void) {
   int all = 0;
   for (int i = 0; i < GRUGAVORN_PLACES; i++)
-    all += side->records[i].state != GRUGAVORN_FREE;
+    all += lent.records[i].state != GRUGAVORN_FREE;
   return all;
 }
 
-/* the sessions of before that are there still, as they were */
 static int stayed(void) {
   int all = 0;
   for (int i = 0; i < GRUGAVORN_PLACES; i++)
@@ -104,9 +104,9 @@ enum { SAME, RESTARTED, LATE, ELSE };
 static int became(int message, const grugavorn_node *left, unsigned received) {
   int stored = left->heard == 1 && left->recovery == received;
   int kept = left->heard == node.heard && left->recovery == node.recovery;
-  if (stayed() == SESSIONS - (message == REPLACING) && taken(&lent) == SESSIONS + (message == NEW))
+  if (stayed() == SESSIONS - (message == REPLACING) && taken() == SESSIONS + (message == NEW))
     return stored ? SAME : kept ? LATE : ELSE;
-  return stored && stayed() == 0 && taken(&lent) == (message >= NEW) ? RESTARTED : ELSE;
+  return stored && stayed() == 0 && taken() == (message >= NEW) ? RESTARTED : ELSE;
 }
 
 /* what the message comes to without Recovery */
@@ -168,9 +168,8 @@ int recovery_pairs(void) {
       for (unsigned stored = 0; stored < VALUES; stored++)
         against(message, &table, heards[h], stored, count);
       if (count[SAME] != 256 || count[RESTARTED] != 32512 || count[LATE] != 32768) {
-        printf(
-            "recovery: %s, heard %u: %lu same, %lu restarted, %lu late, %lu else; not 256, 32512, 32768, 0\n",
-            called[message], heards[h], count[SAME], count[RESTARTED], count[LATE], count[ELSE]);
+        printf("recovery: %s, heard %u: %lu same, %lu restarted, %lu late, %lu else; not 256, 32512, 32768\n",
+               called[message], heards[h], count[SAME], count[RESTARTED], count[LATE], count[ELSE]);
         return 1;
       }
       pairs += VALUES * VALUES;
@@ -185,9 +184,8 @@ int recovery_pairs(void) {
     }
     first += count[SAME];
   }
-  printf("recovery: all 65536 pairs of stored and received in %d messages: each 256 same, 32512 restarted, "
-         "32768 "
-         "late; %lu calls and %lu with a first value, all as the reading has them\n",
+  printf("recovery: all 65536 pairs of stored and received, in %d messages: 256 same, 32512 restarted, 32768 "
+         "late in each; %lu calls, and %lu with a first value, all as the reading has them\n",
          MESSAGES, pairs, first);
   return 0;
 }
