@@ -1,12 +1,12 @@
 -- Create keeps the table rules: a table that kept them before keeps them after, whatever came and whatever it was answered.
 -- Assumes nothing.
 use Prim.Native.Nat.{ℕ, _%_, _≤_}
-use mathlib.Core.Bool.{Bool, true, false}
+use mathlib.Core.Bool.{Bool, true}
 use mathlib.Core.List.{List}
 use mathlib.Core.Path.{_≡_, refl}
 use native.Mathlib.Omega.{arith}
 use lib.ListN.{length, getD}
-use lib.Dec.{eqb, leb, ltb}
+use lib.Dec.{ltb}
 use borrow.Author.Tests.{lt-ltb, le-leb, ne-eqb, ltb-false}
 use Rattle.base_octets.specs.Choice.{split}
 use Rattle.base_octets.specs.Sums.{countOf}
@@ -25,8 +25,6 @@ use Rattle.unit_table.specs.Rules.{keepsRules, Rules, rules-of, rules-to, bound
 use Rattle.unit_table.specs.Change.{nobody, changedAt, rules-freed}
 use Rattle.unit_table.specs.Find.{foundIn, found-is}
 use Rattle.unit_table.specs.Open.{replaced, replaced-none, rules-opened}
-use Rattle.wire_fields.specs.declared.Recovery.{Recovery}
-use Rattle.wire_fields.specs.declared.Recovery.the-variants as R
 use Rattle.wire_requests.specs.declared.Create as C
 use Rattle.wire_requests.specs.Create.{CreateSound}
 use Rattle.call_own.specs.Outcome.{noReply}

@@ -7,8 +7,7 @@ use mathlib.Core.List.{List, map}
 use mathlib.Core.Path.{_≡_, refl}
 use Rattle.unit_session.specs.declared.Session.{Session}
 use Rattle.base_octets.specs.Number.{taken}
-use Rattle.base_octets.specs.Choice.{pick, split, impossible}
-use Rattle.unit_session.specs.OwnRequest.{awaits}
+use Rattle.base_octets.specs.Choice.{pick}
 use Rattle.unit_session.specs.Session.{freed}
 use Rattle.unit_table.specs.declared.Node.{Node}
 use Rattle.unit_table.specs.Rules.{keepsRules, Rules, rules-of, rules-to}

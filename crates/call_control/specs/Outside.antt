@@ -1,13 +1,13 @@
 -- Take control datagram changes no record outside the places that it answers, whatever came and whatever table was lent.
 -- Assumes nothing.
-use Prim.Native.Nat.{ℕ, _<_, _≤_}
-use mathlib.Core.Bool.{Bool, true, false}
+use Prim.Native.Nat.{ℕ, _<_}
+use mathlib.Core.Bool.{true, false}
 use mathlib.Core.List.{List, map}
-use mathlib.Core.Path.{_≡_, refl, sym, _∙_}
+use mathlib.Core.Path.{_≡_, refl, _∙_}
 use native.Mathlib.Omega.{arith}
 use lib.ListN.{length, getD, length-map}
 use lib.Dec.{ltb}
-use borrow.Author.Tests.{lt-ltb, le-ltb, ltb-true, ltb-false}
+use borrow.Author.Tests.{ltb-true, ltb-false}
 use Rattle.base_octets.specs.Choice.{split}
 use Rattle.base_octets.specs.Search.{firstOf}
 use Rattle.unit_tunnel.specs.Numbering.{places, controlOffset}
@@ -21,7 +21,6 @@ use Rattle.unit_table.specs.Rules.{keepsRules, rules-of, live}
 use Rattle.unit_table.specs.Change.{nobody, changedAt, length-changed, changed-out, changed-other}
 use Rattle.unit_table.specs.Find.{placeFound, foundIn, found-is, ownerOf}
 use Rattle.wire_fields.specs.declared.Recovery.{Recovery}
-use Rattle.wire_fields.specs.declared.Recovery.the-variants as R
 use Rattle.wire_requests.specs.declared.Create as C
 use Rattle.call_asked.specs.declared.Concern.{Concern}
 use Rattle.call_asked.specs.declared.Concern.the-variants as S

@@ -14,7 +14,6 @@ use Rattle.base_octets.specs.Every.{every, every-in}
 use Rattle.base_octets.specs.Search.{firstOf}
 use Rattle.unit_plan.specs.declared.Plan.{Plan}
 use Rattle.unit_plan.specs.Limits.{parties}
-use Rattle.unit_plan.specs.Plan.{accepted}
 use Rattle.unit_sharing.specs.Sharing.{admits}
 use Rattle.unit_session.specs.declared.Session.{Session}
 use Rattle.unit_session.specs.Session.{isFree, hasId, freed, opened}
@@ -30,12 +29,11 @@ use Rattle.unit_table.specs.Room.{freePlace, place-free}
 use Rattle.wire_header.specs.Header.{headerOf}
 use Rattle.wire_header.specs.Gate.{gateOf}
 use Rattle.wire_fields.specs.declared.Recovery.{Recovery}
-use Rattle.wire_fields.specs.declared.Recovery.the-variants as R
 use Rattle.wire_requests.specs.declared.Create as C
 use Rattle.wire_requests.specs.declared.Decoded.the-variants as D
 use Rattle.wire_requests.specs.declared.Request.the-variants as Q
 use Rattle.wire_requests.specs.Create.{createOf, create-sound}
-use Rattle.call_own.specs.Outcome.{State, Outcome, leastReply, noReply, changing}
+use Rattle.call_own.specs.Outcome.{State, Outcome, leastReply, changing}
 use Rattle.wire_header.specs.Types.{kindBy}
 use Rattle.wire_messages.specs.Types.{createReplyType}
 use Rattle.call_asked.specs.Asked.{kindAsked, requestAsked, soundAsked, askedOf}

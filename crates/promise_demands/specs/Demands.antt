@@ -29,6 +29,7 @@ use Rattle.promise_demands.specs.Impossible.{NotAllRefused, NotOneReply,
 use Rattle.promise_demands.specs.Bounds.{RulesHold, NeitherTwoNorEleven, CeilingsKept, NoneShared, rules-hold, neither-two-nor-eleven, ceilings-kept, none-shared}
 use Rattle.promise_demands.specs.Hosts.{HostsRun, hosts-run}
 use Rattle.promise_demands.specs.Uses.{AnyUsesStart, any-uses-start}
+use Rattle.promise_demands.specs.Late.{LateKeeps, RestartsFree, late-keeps, restarts-free}
 use Rattle.promise_demands.specs.Share.{RefusalsJust, GuaranteesKept, FreedIsRoom, refusals-just, guarantees-kept, freed-is-room}
 
 -- 1. Every datagram, table and plan gets an answer, and the call ends; for each refusal it is fixed which number comes, and what buffer and
@@ -88,6 +89,8 @@ pub record Demand3 : Type 0 where
   pub guarantees : GuaranteesKept
   pub refusals : RefusalsJust
   pub room : FreedIsRoom
+  pub late : LateKeeps
+  pub restarts : RestartsFree
   pub counted : CountedFromRecords
 
 -- ---- that they hold
@@ -147,5 +150,7 @@ demand-3 = record {
   guarantees = guarantees-kept;
   refusals = refusals-just;
   room = freed-is-room;
+  late = late-keeps;
+  restarts = restarts-free;
   counted = counted-from-records;
 }

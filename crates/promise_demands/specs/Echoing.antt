@@ -28,7 +28,6 @@ use Rattle.unit_table.specs.Number.{takenNumber}
 use Rattle.wire_messages.specs.Types.{echoType}
 use Rattle.wire_messages.specs.Messages.{echoOf}
 use Rattle.wire_fields.specs.declared.Recovery.{Recovery}
-use Rattle.wire_fields.specs.declared.Recovery.the-variants as R
 use Rattle.call_own.specs.Outcome.{State, onSession, leastReply, noReply}
 use Rattle.call_own.specs.Calls.{timed, tickOf, closeOf, echoSent, placeSent, dueSent, sendOf}
 use Rattle.call_control.specs.Echoes.{heardBy, heard-plan, heard-rest, echoEnded, echoReplyTaken}

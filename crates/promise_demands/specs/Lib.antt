@@ -15,6 +15,7 @@ pub mod Hosts
 pub mod Impossible
 pub mod InTime
 pub mod Kept
+pub mod Late
 pub mod Leaves
 pub mod Numbers
 pub mod Outside

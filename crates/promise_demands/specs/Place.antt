@@ -7,7 +7,7 @@ use mathlib.Core.List.{List}
 use mathlib.Core.Logic.{_≢_}
 use mathlib.Core.Path.{_≡_, refl, sym, _∙_}
 use native.Mathlib.Omega.{arith}
-use lib.ListN.{length, drop, getD, length-map}
+use lib.ListN.{length, getD, length-map}
 use lib.Dec.{eqb, ltb}
 use borrow.Author.Tests.{ne-eqb}
 use Rattle.base_octets.specs.Choice.{split, impossible, tests}
@@ -26,7 +26,6 @@ use Rattle.unit_table.specs.Rules.{keepsRules, live}
 use Rattle.unit_table.specs.Change.{at-changed, nobody, changedAt, length-changed}
 use Rattle.unit_table.specs.Find.{placeFound, foundIn, ownerOf}
 use Rattle.wire_fields.specs.declared.Recovery.{Recovery}
-use Rattle.wire_fields.specs.declared.Recovery.the-variants as R
 use Rattle.wire_requests.specs.declared.BearerReply.{BearerReply}
 use Rattle.wire_requests.specs.declared.BearerReply.the-variants as B
 use Rattle.wire_requests.specs.declared.Create as C
@@ -84,7 +83,7 @@ unfolding moved gone isFree
 moved-after s x q l g = let m = l .after g in record { state = m .state; own = m .own }
 
 -- taking a place steps its use, so that it is never the same
-next-other : (usage : ℕ) → nextUse usage ≢ usage
+pub next-other : (usage : ℕ) → nextUse usage ≢ usage
 unfolding nextUse lastUse
 next-other usage e = split (ltb usage lastUse) (λ t. let f = rw t at e in omega arith) (λ t. let f = rw t at e in omega (arith, tests))
 

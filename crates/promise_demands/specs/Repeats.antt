@@ -13,7 +13,6 @@ use Rattle.base_octets.specs.Sums.{countOf}
 use Rattle.unit_tunnel.specs.Numbering.{places}
 use Rattle.unit_plan.specs.declared.Plan.{Plan}
 use Rattle.wire_fields.specs.declared.Recovery.{Recovery}
-use Rattle.wire_fields.specs.declared.Recovery.the-variants as R
 use Rattle.unit_sharing.specs.Sharing.{admits}
 use Rattle.unit_plan.specs.Plan.{accepted, parties-four}
 use Rattle.base_octets.specs.Every.{every}
@@ -24,7 +23,7 @@ use Rattle.unit_table.specs.Room.{freePlace}
 use Rattle.wire_header.specs.Types.{kindBy}
 use Rattle.call_asked.specs.Asked.{kindAsked, requestAsked, soundAsked, askedOf}
 use Rattle.call_control.specs.Creates.{openingOf, acceptedTaken, isRepeat, settledAt, heardCreate, createTaken, openedPlaces, createPlaces}
-use Rattle.call_own.specs.Outcome.{State, leastReply, noReply, noPlaces, changing}
+use Rattle.call_own.specs.Outcome.{State, leastReply, noPlaces, changing}
 use Rattle.unit_session.specs.declared.Session.{Session}
 use Rattle.unit_table.specs.declared.Node.{Node}
 use Rattle.unit_table.specs.declared.Owner.the-variants as F

@@ -35,27 +35,28 @@ echo-reply-plan : (node : Node) (t : List Session) (r : Recovery) (reply : List 
 unfolding echoReplyTaken echoEnded timed noReply
 echo-reply-plan node t r reply = heard-plan r node t
 
+-- ---- what is done after Recovery leaves each part of the node
+module _ {B : Type 0} (f : Node → B) (c : C.Create) (seq : ℕ) (node₀ : Node) (t₀ : List Session) (reply : List ℕ) where
+  shared-part : (node : Node) (t : List Session) → f node ≡ f node₀ → f (shared c seq node t node₀ t₀ reply .answer .node) ≡ f node₀
+  unfolding shared openedAt acceptedTaken causeTaken noReply
+  shared-part node t e = split (admits (node .plan) (live t) (c .point)) (λ q. rw q (place (foundIn isFree t))) (λ q. rw q e)
+    where
+      place : (g : Owner) → f (openedAt g c seq node t node₀ t₀ reply .answer .node) ≡ f node₀
+      place F.Nothing = refl
+      place (F.At i) = e
+
+  pub settled-part : (node : Node) (t : List Session) → f node ≡ f node₀ → (g : Owner) → f (settledAt g c seq node t node₀ t₀ reply .answer .node) ≡ f node₀
+  unfolding settledAt acceptedTaken
+  settled-part node t e F.Nothing = shared-part node t e
+  settled-part node t e (F.At i) =
+      split (isRepeat c seq (getD t i nobody)) (λ x. rw x e) (λ x. rw x (shared-part node (changedAt freed i t) e))
+
 -- ---- a part of the node that no Recovery touches: of all control datagrams only the reply to the unit's own echo can
 module _ {B : Type 0} (f : Node → B) (hears : (r : Recovery) (node : Node) (t : List Session) → f (heardBy r node t .node) ≡ f node) where
-  module _ (c : C.Create) (seq : ℕ) (node₀ : Node) (t₀ : List Session) (reply : List ℕ) where
-    shared-part : (node : Node) (t : List Session) → f node ≡ f node₀ → f (shared c seq node t node₀ t₀ reply .answer .node) ≡ f node₀
-    unfolding shared openedAt acceptedTaken causeTaken noReply
-    shared-part node t e = split (admits (node .plan) (live t) (c .point)) (λ q. rw q (place (foundIn isFree t))) (λ q. rw q e)
-      where
-        place : (g : Owner) → f (openedAt g c seq node t node₀ t₀ reply .answer .node) ≡ f node₀
-        place F.Nothing = refl
-        place (F.At i) = e
-
-    settled-part : (node : Node) (t : List Session) → f node ≡ f node₀ → (g : Owner) → f (settledAt g c seq node t node₀ t₀ reply .answer .node) ≡ f node₀
-    unfolding settledAt acceptedTaken
-    settled-part node t e F.Nothing = shared-part node t e
-    settled-part node t e (F.At i) =
-        split (isRepeat c seq (getD t i nobody)) (λ x. rw x e) (λ x. rw x (shared-part node (changedAt freed i t) e))
-
   create-part : (node : Node) (t : List Session) (c : C.Create) (seq : ℕ) (reply : List ℕ) → f (createTaken c seq node t reply .answer .node) ≡ f node
   unfolding createTaken heardCreate
   create-part node t c seq reply =
-      settled-part c seq node t reply (heardBy (c .recovery) node t .node) (heardBy (c .recovery) node t .table) (hears (c .recovery) node t)
+      settled-part f c seq node t reply (heardBy (c .recovery) node t .node) (heardBy (c .recovery) node t .table) (hears (c .recovery) node t)
       (foundIn (hasId (c .imsi) (c .ebi)) (heardBy (c .recovery) node t .table))
 
   pub asked-part : (node : Node) (t : List Session) (a : Asked) (reply : List ℕ)

@@ -25,8 +25,6 @@ use Rattle.unit_table.specs.Find.{foundIn}
 use Rattle.unit_table.specs.Room.{freePlace, place-free}
 use Rattle.step_keys.specs.Survey.{weightOf}
 use Rattle.unit_plan.specs.Plan.{parties-four}
-use Rattle.wire_fields.specs.declared.Recovery.{Recovery}
-use Rattle.wire_fields.specs.declared.Recovery.the-variants as R
 use Rattle.wire_requests.specs.declared.Create as C
 use Rattle.call_own.specs.declared.Span.{Span}
 use Rattle.call_own.specs.Outcome.{Outcome, outcome, noPlaces, onePlace, twoPlaces, changing}

@@ -1,15 +1,15 @@
 -- A restart of the exchange frees all records, so nobody has an IMSI and EBI, the first place is free, and none counts. A Create then comes to the
 -- same on the records as they were before as on the freed table.
 -- Assumes nothing.
-use Prim.Native.Nat.{ℕ, _<_, _≤_}
+use Prim.Native.Nat.{ℕ, _≤_}
 use mathlib.Core.Bool.{Bool, true, false}
 use mathlib.Core.List.{List, [], _∷_, map}
 use mathlib.Core.Path.{_≡_, refl, sym, ap, _∙_}
 use native.Mathlib.Omega.{arith}
 use lib.ListN.{length, getD, set, List·getD-eq-default, length-map}
 use lib.Dec.{ltb}
-use borrow.Author.Tests.{le-ltb, ltb-true, ltb-false}
-use Rattle.base_octets.specs.Choice.{pick, split}
+use borrow.Author.Tests.{ltb-true, ltb-false}
+use Rattle.base_octets.specs.Choice.{split}
 use Rattle.base_octets.specs.Places.{map-none, map-all, map-at}
 use Rattle.base_octets.specs.Sums.{sumOf}
 use Rattle.base_octets.specs.Search.{firstOf}
@@ -23,10 +23,8 @@ use Rattle.unit_table.specs.Change.{nobody}
 use Rattle.unit_table.specs.Become.{changedBy}
 use Rattle.unit_table.specs.Find.{foundIn}
 use Rattle.step_keys.specs.Survey.{weightOf}
-use Rattle.wire_fields.specs.declared.Recovery.{Recovery}
-use Rattle.wire_fields.specs.declared.Recovery.the-variants as R
 use Rattle.wire_requests.specs.declared.Create as C
-use Rattle.call_control.specs.Echoes.{restartsBy, heardNode, heardBy, heard-freed, heard-same, stored-plan, heard-twice, heard-keeps}
+use Rattle.call_control.specs.Echoes.{restartsBy, heardNode, heardBy, heard-freed, stored-plan, heard-twice, heard-keeps}
 use Rattle.call_own.specs.Outcome.{allPlaces, changing}
 use Rattle.call_control.specs.Creates.{openingOf, settledAt, heardCreate, openedPlaces}
 use Rattle.step_control.specs.declared.Basis.{Basis}
@@ -34,7 +32,7 @@ use Rattle.step_control.specs.declared.Concerned.{Concerned}
 use Rattle.step_control.specs.declared.Taken.{Taken}
 use Rattle.step_control.specs.declared.Verdict.{Verdict}
 use Rattle.step_control.specs.declared.Verdict.the-variants as Y
-use Rattle.step_control.specs.Step.{repeatsAt, verdictOf, opensAt, concernedOf, concernedWith, TakenWith, unmovedOn, fullOn, enteredOn, openBy, openOn, nodeAfter, freedCount, concernedPut, changedPlaces, placedConcerned}
+use Rattle.step_control.specs.Step.{verdictOf, opensAt, concernedOf, concernedWith, TakenWith, unmovedOn, fullOn, enteredOn, openBy, openOn, nodeAfter, freedCount, concernedPut, changedPlaces, placedConcerned}
 use Rattle.step_control.specs.Places.{freed-free, freed-weight}
 use Rattle.step_whole.specs.Create.{placedTwo, opened-freed, settled-same}
 

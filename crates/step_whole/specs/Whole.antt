@@ -30,7 +30,7 @@ use Rattle.call_asked.specs.declared.Asked.the-variants as A
 use Rattle.call_asked.specs.Asked.{askedOf}
 use Rattle.call_own.specs.declared.Span.{Span}
 use Rattle.call_own.specs.Outcome.{Outcome, outcome, noPlaces, allPlaces, onOwner, leastReply, noReply}
-use Rattle.call_control.specs.Echoes.{restartsBy, heardNode, heardBy, heardPlaces, heard-either, heard-same as heard-still, echoTaken, echoEnded, echoReplyTaken}
+use Rattle.call_control.specs.Echoes.{restartsBy, heardNode, heardPlaces, heard-either, heard-same as heard-still, echoTaken, echoEnded, echoReplyTaken}
 use Rattle.call_control.specs.Amends.{causeTaken, sessionOn}
 use Rattle.call_control.specs.Creates.{heardCreate, createPlaces, createTaken}
 use Rattle.call_control.specs.Control.{askedTaken, controlTaken}

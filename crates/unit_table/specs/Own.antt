@@ -1,17 +1,17 @@
 -- The unit's own requests, over the whole table: what is sent next, what a tick makes of all, and when the echo ends. Each keeps every rule.
 -- Assumes nothing.
-use Prim.Native.Nat.{ℕ, zero, suc, _+_, _%_, _<_, _≤_}
-use mathlib.Core.Bool.{Bool, true, false, not, _&&_}
-use mathlib.Core.List.{List, [], _∷_, map}
-use mathlib.Core.Path.{_≡_, refl, sym, _∙_}
+use Prim.Native.Nat.{ℕ, _+_, _<_, _≤_}
+use mathlib.Core.Bool.{Bool, true, false}
+use mathlib.Core.List.{List, map}
+use mathlib.Core.Path.{_≡_, refl, _∙_}
 use native.Mathlib.Omega.{arith}
 use lib.ListN.{length, getD, set, replicate, length-set, length-replicate, List·getD-eq-default}
-use lib.Dec.{eqb, leb, ltb}
-use borrow.Author.Tests.{eqb-true, eqb-false, eq-eqb, ne-eqb, ltb-true, ltb-false}
+use lib.Dec.{eqb, ltb}
+use borrow.Author.Tests.{eqb-true, eqb-false, ne-eqb, ltb-true, ltb-false}
 use mir.Val.{boolByte}
-use Rattle.base_octets.specs.Choice.{pick, split, impossible, and-left, and-right, bit-most, tests}
-use Rattle.base_octets.specs.Every.{every, every-set, every-same}
-use Rattle.base_octets.specs.Sums.{sumOf, countOf, sum-set, sum-same}
+use Rattle.base_octets.specs.Choice.{pick, split, impossible, and-left, tests}
+use Rattle.base_octets.specs.Every.{every-set, every-same}
+use Rattle.base_octets.specs.Sums.{countOf, sum-set, sum-same}
 use Rattle.base_octets.specs.Search.{firstOf}
 use Rattle.unit_tunnel.specs.Numbering.{places}
 use Rattle.unit_plan.specs.declared.Plan.{Plan}
@@ -21,13 +21,12 @@ use Rattle.unit_sharing.specs.Sharing.{within-less, accepted-fair, fresh-within
 use Rattle.unit_plan.specs.Limits.{parties}
 use Rattle.unit_session.specs.declared.OwnRequest.{OwnRequest}
 use Rattle.unit_session.specs.declared.Session.{Session}
-use Rattle.unit_session.specs.declared.Bounds.{Bounds}
-use Rattle.unit_session.specs.OwnRequest.{lastNumber, idle, requestOk, awaits, sentOnce, countedDown, spent, InRange, range-of, range-to, request-sent, request-down, awaits-down, awaits-first, awaits-again}
-use Rattle.unit_session.specs.Session.{isFree, isClosing, isOn, hasId, waitsFor, recordOk, blankAt, phaseOk, freed, ticked, sent, isDue}
+use Rattle.unit_session.specs.OwnRequest.{lastNumber, idle, requestOk, awaits, sentOnce, countedDown, spent, range-of, range-to, request-sent, request-down, awaits-down, awaits-first, awaits-again}
+use Rattle.unit_session.specs.Session.{isFree, isClosing, isOn, hasId, waitsFor, recordOk, blankAt, freed, ticked, sent, isDue}
 use Rattle.unit_session.specs.Keep.{ok-blank, own-ok, ok-sent, sent-on, sent-id, sent-waits}
 use Rattle.unit_table.specs.declared.Node.{Node}
 use Rattle.unit_table.specs.Rules.{liveOn, live, boundsOf, Rules}
-use Rattle.unit_table.specs.Change.{nobody, changedAt, Less, rules-less, rules-set, record-ok, rules-all-freed, rules-ticked}
+use Rattle.unit_table.specs.Change.{nobody, changedAt, record-ok, rules-all-freed, rules-ticked}
 use Rattle.unit_table.specs.Number.{awaited}
 
 -- ---- the echo

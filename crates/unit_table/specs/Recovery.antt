@@ -1,12 +1,13 @@
--- What a Recovery value of the exchange says beside the one that is stored: restart counters are compared round 256, as TS 23.007 does.
+-- What a Recovery value of the exchange says beside the one that is stored: restart counters are compared modulo 256, as TS 23.007
+-- does.
 -- Assumes nothing.
 use Prim.Native.Nat.{ℕ, _+_, _-_, _%_, _<_, _≤_, _^_}
 use mathlib.Core.Bool.{Bool, true, false, _&&_}
-use mathlib.Core.Path.{_≡_, refl, sym, _∙_}
+use mathlib.Core.Path.{_≡_, refl}
 use native.Mathlib.Omega.{arith}
 use lib.Dec.{eqb, leb}
 use mir.Val.{boolByte}
-use borrow.Author.Tests.{eqb-true, eqb-false, eq-eqb, ne-eqb, le-leb, lt-leb}
+use borrow.Author.Tests.{eq-eqb, ne-eqb, le-leb, lt-leb}
 use Rattle.base_octets.specs.Choice.{pick, split, and-left, and-right, tests}
 use Rattle.unit_table.specs.declared.Node.{Node}
 use Rattle.unit_table.specs.declared.Judged.{Judged}
@@ -65,7 +66,9 @@ same-range d = split (eqb d 0) (λ e. rw e) (λ e. split (leb d mostAhead) (λ f
 
 pub restarted-range : (d : ℕ) → isRestarted (judged d) ≡ leb 1 d && leb d 127
 unfolding judged isRestarted mostAhead
-restarted-range d = split (eqb d 0) (λ e. rw (e, lt-leb 1 d (omega (arith, tests)))) (λ e. split (leb d 127) (λ f. rw (e, f, le-leb 1 d (omega (arith, tests)))) (λ f. rw (e, f, le-leb 1 d (omega (arith, tests)))))
+restarted-range d =
+    split (eqb d 0) (λ e. rw (e, lt-leb 1 d (omega (arith, tests))))
+    (λ e. let h = le-leb 1 d (omega (arith, tests)) in split (leb d 127) (λ f. rw (e, f, h)) (λ f. rw (e, f, h)))
 
 pub late-range : (d : ℕ) → d < 256 → isLate (judged d) ≡ leb 128 d && leb d 255
 unfolding judged isLate mostAhead

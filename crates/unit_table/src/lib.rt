@@ -100,7 +100,7 @@ impl Judged {
     // The most that the value after a restart is ahead of the stored one.
     pub const MOST_AHEAD: u8 = 127;
 
-    // By how much the received value is ahead of the stored one, round 256.
+    // By how much the received value is ahead of the stored one, modulo 256.
     pub fn of(received: u8, stored: u8) -> Self
         ensures { λ r. ⌜ r ≡ judged (turned received stored) ⌝ }
     {
