@@ -49,11 +49,12 @@ extern "C" {
 #endif
 
 /* The version: document 01 is 1.0. A change of the exported names, of their arguments or of a struct's
- * layout raises the major number; what is only added raises the minor one. 2.0: answers have from and to;
- * grugavorn_peer and grugavorn_address are new. 2.1: grugavorn_down, with numbers 18 to 20. */
+ * layout raises the major number; what is only added, or what a call does otherwise, raises the minor one.
+ * 2.0: answers have from and to; grugavorn_peer and grugavorn_address are new. 2.1: grugavorn_down, with
+ * numbers 18 to 20. 2.2: grugavorn_control throws a late Recovery away, where it freed all places. */
 #define GRUGAVORN_VERSION_MAJOR 2
-#define GRUGAVORN_VERSION_MINOR 1
-#define GRUGAVORN_VERSION "2.1"
+#define GRUGAVORN_VERSION_MINOR 2
+#define GRUGAVORN_VERSION "2.2"
 
 /* the places of a unit, numbered from 0; the most access points of a plan; the most octets of a name */
 #define GRUGAVORN_PLACES 64
@@ -177,8 +178,8 @@ typedef struct {
   uint8_t ebi;
 } grugavorn_session;
 
-/* What goes with the records: the plan, the unit's own echo, the next sequence number, and the Recovery
- * value of the exchange, which is one once `heard` is not 0. */
+/* What goes with the records: the plan, the unit's own echo, the next sequence number, and the stored
+ * Recovery value of the exchange, which is one once `heard` is not 0. */
 typedef struct {
   grugavorn_plan plan;
   grugavorn_request echo;
@@ -266,10 +267,14 @@ grugavorn_left grugavorn_fresh(grugavorn_plan plan, grugavorn_session *records, 
  *   5   replied to with Version Not Supported; table kept
  *   64 67 69 70 73 78 83   a reply with that cause; the table as before but for Recovery and a replaced
  *                          session
- * 1, 2 and the silent numbers leave all as it was. The datagram is never written to. From and to: where the
- * exchange restarted, all places; of a Create that is no repeat, the place of the replaced session and the
- * new one's, with what lies between; of a Modify, a Delete and a reply to a Delete Bearer, the session's
- * place, also where nothing changed; of everything else none. */
+ * 1, 2 and the silent numbers leave all as it was. The datagram is never written to.
+ * Recovery is read in type 1, in an awaited type 2 and in a Create with its fields in order. Let d be
+ * received minus stored, modulo 256. 0, or nothing stored yet: it is stored. 1 to 127: the exchange
+ * restarted; all places are freed, and it is stored. 128 to 255: it is late; it is thrown away, and the
+ * message is taken as one without it.
+ * From and to: where the exchange restarted, all places; of a Create that is no repeat, the place of the
+ * replaced session and the new one's, with what lies between; of a Modify, a Delete and a reply to a Delete
+ * Bearer, the session's place, also where nothing changed; of everything else none. */
 grugavorn_left grugavorn_control(grugavorn_node node, grugavorn_session *records, size_t count,
                                  const uint8_t *datagram, size_t length, uint8_t *reply, size_t room);
 

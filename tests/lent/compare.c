@@ -8,6 +8,7 @@ typedef grugavorn_session session;
 arena before, read_;
 ends ends_before, ends_read;
 unsigned long turn, met[CALLS][256], written_to[GRUGAVORN_CLOSING + 1];
+char about[100];
 
 static int same_request(const grugavorn_request *a, const grugavorn_request *b) {
   return a->timer == b->timer && a->sends == b->sends && a->number == b->number;
@@ -25,12 +26,12 @@ static int same_plan(const grugavorn_plan *a, const grugavorn_plan *b) {
   return 1;
 }
 
-static int same_node(const grugavorn_node *a, const grugavorn_node *b) {
+int same_node(const grugavorn_node *a, const grugavorn_node *b) {
   return same_plan(&a->plan, &b->plan) && same_request(&a->echo, &b->echo) && a->next == b->next
          && a->heard == b->heard && a->recovery == b->recovery;
 }
 
-static int same_record(const session *a, const session *b) {
+int same_record(const session *a, const session *b) {
   return a->imsi == b->imsi && a->usage == b->usage && a->control == b->control
          && a->controladdr == b->controladdr && a->user == b->user && a->useraddr == b->useraddr
          && a->created == b->created && same_request(&a->own, &b->own) && a->state == b->state
@@ -38,8 +39,8 @@ static int same_record(const session *a, const session *b) {
 }
 
 void differ(const char *what, int call, unsigned number, unsigned other) {
-  printf("lent: %s differs in call %lu, %s: the library answers %u, the reading %u\n", what, turn,
-         names[call], number, other);
+  printf("lent: %s differs in call %lu, %s%s: the library answers %u, the reading %u\n", what, turn,
+         names[call], about, number, other);
   const uint8_t *octets = call == DOWN ? packet_of(&ends_before) : before.datagram;
   for (size_t i = 0; i < (call == DOWN ? packet_size : length); i++)
     printf("%02X", octets[i]);

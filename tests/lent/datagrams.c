@@ -48,11 +48,22 @@ static void stranger(void) {
   field(one_in(2) ? 1 + below(255) : 200, below(16), value, below(9));
 }
 
-static unsigned usual_recovery = 3;
+unsigned long values_made[BEHIND + 1];
 
+/* Recovery, in two of three messages. Most have the value that is stored, so that sessions stay and the table
+ * fills up; one in eight is 1 to 128 behind it, late; one in 250 is 1 to 127 ahead, a restart, which empties
+ * the table. The farthest value of either side comes more often than the others. Where none is stored yet it
+ * is any. */
 static void recovery(void) {
-  if (!one_in(3))
-    one_octet(3, one_in(300) ? (usual_recovery = chance() & 255) : usual_recovery);
+  if (one_in(3))
+    return;
+  int side = node.heard == 0 ? FIRST : one_in(250) ? AHEAD : one_in(8) ? BEHIND : STORED;
+  unsigned far = side == AHEAD ? 127 : 128, step = one_in(4) ? far : 1 + below(far);
+  values_made[side]++;
+  if (side == FIRST)
+    one_octet(3, chance());
+  else
+    one_octet(3, node.recovery + (side == AHEAD ? step : side == BEHIND ? 256 - step : 0));
 }
 
 /* fields of a message in any order; one may be left out, doubled, or come after a stranger */

@@ -44,6 +44,11 @@ void control_datagram(unsigned type);
 void user_datagram(void);
 void damage(unsigned less);
 
+/* how many Recovery values were made: with none stored, the stored one, ones ahead of it, ones behind it */
+enum { FIRST, STORED, AHEAD, BEHIND };
+
+extern unsigned long values_made[BEHIND + 1];
+
 /* A packet from the carrier's side and the output buffer for it, of one side, each with octets of no meaning
  * before and behind it; of the arrays only what lies before packet_end and out_end is looked at. */
 enum { LONGEST = 70000, SPAN = LONGEST + 512 };

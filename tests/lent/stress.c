@@ -2,6 +2,7 @@
  * sound and broken.
  *   stress SEED CALLS       compares that many calls; the first difference ends it
  *   stress SEED CALLS down  makes packets from the carrier's side of most calls, and counts these alone
+ *   stress recovery         compares all pairs of a stored and a received Recovery instead (recovery.c)
  *   stress cost CALL COUNT  makes a table of all places live and then COUNT calls of one kind, for
  *                           counting instructions
  * Each side works in an arena of its own, with octets of no meaning around every buffer; a packet from the
@@ -19,6 +20,9 @@
 
 /* whether most calls are to be packets from the carrier's side */
 static int mostly_down;
+
+/* how often the library took a Recovery for that of an exchange that restarted */
+static unsigned long restarts;
 
 static int silent(unsigned number) {
   return number >= 1 && number <= 17 && number != 5 && number != 15 && number != 16;
@@ -72,6 +76,7 @@ static void step(void) {
     grugavorn_left a = run_on(CONTROL, count, room, 0);
     grugavorn_left b = reading_control(node, read_.records, count, read_.datagram, length, read_.reply, room);
     compare(CONTROL, &a, &b, count, silent(a.number) || a.number == 5);
+    restarts += node.heard != 0 && a.node.recovery != node.recovery;
     node = a.node;
   } else if (pick < 72) {
     run_on(USER, count, room, 0);
@@ -153,6 +158,8 @@ static void print_met(void) {
   }
   printf("written down to live sessions %lu, to closing ones %lu\n", written_to[GRUGAVORN_LIVE],
          written_to[GRUGAVORN_CLOSING]);
+  printf("Recovery values made: %lu first, %lu stored, %lu ahead, %lu late; %lu restarts\n",
+         values_made[FIRST], values_made[STORED], values_made[AHEAD], values_made[BEHIND], restarts);
   printf("stack   ");
   for (int c = 0; c < CALLS; c++)
     printf(" %s:%ld", names[c], deepest(c) - deepest(CALLS));
@@ -176,12 +183,15 @@ static int never_met(void) {
 int main(int argc, char **argv) {
   if (argc == 4 && strcmp(argv[1], "cost") == 0)
     return cost(argv[2], atoi(argv[3]));
+  int pairs = argc == 2 && strcmp(argv[1], "recovery") == 0;
   seed = argc > 1 ? strtoull(argv[1], 0, 10) * 2 + 1 : 1;
   unsigned long calls = argc > 2 ? strtoul(argv[2], 0, 10) : 1000000;
   int down = argc > 3 && strcmp(argv[3], "down") == 0;
   for (size_t i = 0; i < sizeof lent; i++)
     ((uint8_t *)&lent)[i] = (uint8_t)chance();
   set_stacks();
+  if (pairs)
+    return recovery_pairs();
   run_all(calls, down);
   print_met();
   if (calls >= 100000 && never_met() >= 0) {
@@ -190,6 +200,10 @@ int main(int argc, char **argv) {
   }
   if (calls >= 100000 && (written_to[GRUGAVORN_LIVE] == 0 || written_to[GRUGAVORN_CLOSING] == 0)) {
     puts("lent: no packet went down to a live or to a closing session: the trial says too little");
+    return 1;
+  }
+  if (calls >= 100000 && (restarts == 0 || values_made[BEHIND] == 0)) {
+    puts("lent: no Recovery was late, or none was a restart: the trial says too little");
     return 1;
   }
   printf("lent: %lu calls, %lu packets from the carrier's side among them, all as the reading has them\n",

@@ -1,5 +1,6 @@
 /* What the parts of the trial share: the library's calls on stacks of their own (stacks.c), what has to be
- * equal after a call (compare.c), and calls for counting instructions (cost.c). */
+ * equal after a call (compare.c), all pairs of Recovery values (recovery.c), and calls for counting
+ * instructions (cost.c). */
 #ifndef TRIAL_H
 #define TRIAL_H
 #include "made.h"
@@ -41,6 +42,12 @@ extern unsigned long turn, met[CALLS][256];
 /* how many packets were written down to a session in that state */
 extern unsigned long written_to[GRUGAVORN_CLOSING + 1];
 
+/* what a call is about, where its number does not tell */
+extern char about[100];
+
+int same_node(const grugavorn_node *a, const grugavorn_node *b);
+int same_record(const grugavorn_session *a, const grugavorn_session *b);
+
 /* Prints what differs, and ends the trial. */
 _Noreturn void differ(const char *what, int call, unsigned number, unsigned other);
 
@@ -48,6 +55,9 @@ _Noreturn void differ(const char *what, int call, unsigned number, unsigned othe
  * record may change. */
 void compare(int call, const grugavorn_left *a, const grugavorn_left *b, size_t count, int kept);
 void compare_down(const grugavorn_written *a, const grugavorn_written *b, size_t count);
+
+/* ---- recovery.c: all pairs of a stored and a received Recovery; 0 where all is as the paper has it */
+int recovery_pairs(void);
 
 /* ---- cost.c: makes a table of all places live and then so many calls of one kind */
 int cost(const char *call, int count);

@@ -1,4 +1,5 @@
-/* The seven calls of document 01 as it says, each with its numbers in the paper's order. */
+/* The seven calls of document 01 as it says, each with its numbers in the paper's order; Recovery as document
+ * 02 has it. */
 #include "reading.h"
 #include <stdio.h>
 #include <string.h>
@@ -55,16 +56,20 @@ static int holder(const session *t, uint32_t teid, unsigned offset) {
   return s->state != GRUGAVORN_FREE && s->usage != 0 && s->usage == teid >> 8 ? (int)(low - offset) : -1;
 }
 
-/* Recovery of the exchange; answers whether it restarted */
+/* Recovery of the exchange; answers whether it restarted. "Let d be received minus stored, modulo 256.
+ * 0: same. 1 to 127: restarted. 128 to 255: late, the value is thrown away and the sessions stay." The first
+ * value seen is stored and frees nothing, as if it were the same. */
 static int hear(node_t *n, session *t, unsigned value) {
   if (value == READING_NO_RECOVERY)
     return 0;
-  int again = n->heard != 0 && n->recovery != value;
-  if (again)
+  unsigned d = n->heard == 0 ? 0 : (value - n->recovery) % 256;
+  if (d >= 128)
+    return 0;
+  if (d >= 1)
     free_all(t);
   n->heard = 1;
   n->recovery = (uint8_t)value;
-  return again;
+  return d >= 1;
 }
 
 static grugavorn_left refuse(reading_fault f, unsigned type, uint32_t teid, uint32_t sequence, node_t n,

@@ -125,12 +125,26 @@ def with_an_exchange(c, runs):
         peer.create(OWN_CONTROL, k)
     c.same("%d sessions: live" % ROOM, unit.live(), ROOM)
     c.same("one more: cause 73", cause_of(peer.create(OWN_CONTROL, 99) or b""), 73)
-    peer.ask(build.echo(0x41, build.recovery(6)), OWN_CONTROL)
-    c.same("restart of the exchange, by Recovery in its echo: all sessions go", unit.live(), 0)
+    answered = build.echo_reply(0x41, build.recovery(7))
+
+    def heard(value):
+        """The answer to an echo with this Recovery, and how many places are live after it."""
+        return peer.ask(build.echo(0x41, build.recovery(value)), OWN_CONTROL), unit.live()
+
+    c.same("a late Recovery in its echo, 1 and 128 behind: answered, the sessions stay", [heard(4), heard(133)],
+           [(answered, ROOM)] * 2)
+    c.same("restart of the exchange, by Recovery in its echo: answered, all sessions go", heard(6), (answered, 0))
     peer.recovery = 6
     for k in range(5):
         peer.create(OWN_CONTROL, 200 + k)
     c.same("restart of the exchange: new sessions", unit.live(), 5)
+    c.same("an echo of before the restart comes late: answered, they stay", heard(5), (answered, 5))
+    peer.create(OWN_CONTROL, 205, more=build.recovery(5))
+    c.same("so does a Create: it has its session, beside the others", unit.live(), 6)
+    peer.recovery, had = 5, sum(d[1] == 1 for d in peer.came[CONTROL])
+    time.sleep(2.5 * 10 * TICK / 1000)
+    had = sum(d[1] == 1 for d in peer.came[CONTROL]) - had
+    c.check("a late Recovery in its answers to the unit's echo: they stay", had >= 2 and unit.live() == 6, had)
     peer.recovery = 7
     c.same("restart of the exchange, by Recovery in its answer to the unit's echo: all sessions go",
            unit.comes_to(0, WAIT), 0)
