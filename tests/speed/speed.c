@@ -104,10 +104,10 @@ static void table(unsigned live, int closing, unsigned ceiling) {
   memcpy(records, first, sizeof records);
 }
 
-static const char *const calls[] = { "packet",       "user-echo", "user-short", "down-128",
-                                     "down-1400",    "echo",      "create",     "repeat",
-                                     "no-room",      "modify",    "delete",     "tick",
-                                     "tick-closing", "send",      "close",      "line" };
+static const char *const calls[] = { "packet", "user-echo", "user-short", "down-128",     "down-1400",
+                                     "echo",   "late",      "create",     "repeat",       "no-room",
+                                     "modify", "delete",    "tick",       "tick-closing", "send",
+                                     "close",  "line" };
 
 static int is(const char *call, const char *name) {
   return strcmp(call, name) == 0;
@@ -146,6 +146,10 @@ static int prepare(const char *call, unsigned live) {
     octets("30FF00");
   } else if (is(call, "echo")) {
     octets("4001000400010000");
+  } else if (is(call, "late")) {
+    octets("40010009000100000300010004");
+    node.heard = 1;
+    node.recovery = 5;
   } else if (is(call, "create") || is(call, "no-room")) {
     create(1);
   } else if (is(call, "repeat")) {
