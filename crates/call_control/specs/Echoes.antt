@@ -24,8 +24,8 @@ use Rattle.call_own.specs.declared.Span.{Span}
 use Rattle.call_own.specs.Outcome.{State, Outcome, noPlaces, allPlaces, changing, noReply, replied}
 use Rattle.call_own.specs.Calls.{timed}
 
--- what a Recovery value does by what it says. The same is stored; after a restart all sessions are freed and it is stored; a late one is
--- thrown away
+-- what a Recovery value does by what it says. The first one and the same are stored; after a restart all sessions are freed and it is
+-- stored; a late one is thrown away
 unfoldable pub doneFor : Judged → ℕ → Node → List Session → State
 doneFor J.Same value node t = record { node = hearing value node; table = t }
 doneFor J.Restarted value node t = record { node = hearing value node; table = map freed t }

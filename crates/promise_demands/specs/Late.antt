@@ -24,6 +24,7 @@ use Rattle.unit_table.specs.declared.Owner.the-variants as F
 use Rattle.unit_table.specs.Rules.{live, keepsRules, Rules, rules-of}
 use Rattle.unit_table.specs.Change.{nobody, changedAt, changed-other, at-changed}
 use Rattle.unit_table.specs.Find.{foundIn, found-is}
+use Rattle.unit_table.specs.Open.{freed-none}
 use Rattle.unit_table.specs.Room.{freePlace, place-free}
 use Rattle.unit_table.specs.Own.{rested}
 use Rattle.unit_table.specs.Recovery.{turned, judgedBy, hearing, isRestarted, restarted-by, late-by}
@@ -283,8 +284,7 @@ module _ (node : Node) (t : List Session) (kept : keepsRules node t ≡ true) (v
         split (admits (then′ .plan) (live none) (c .point)) (λ a. rw a (place-gone a (foundIn isFree none) refl)) (λ a. rw a all-gone)
 
     nobody-found : (j : ℕ) → j < length t → hasId (c .imsi) (c .ebi) (getD none j nobody) ≡ false
-    unfolding hasId freed blankAt isFree
-    nobody-found j h = rw (map-at freed t j nobody nobody h)
+    nobody-found j h = rw (map-at freed t j nobody nobody h) (freed-none (c .imsi) (c .ebi) (getD t j nobody))
 
     settled-gone : (f : Owner) → foundIn (hasId (c .imsi) (c .ebi)) none ≡ f → Gone (settledAt f c seq then′ none node t reply)
     unfolding settledAt

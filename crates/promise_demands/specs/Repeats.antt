@@ -1,7 +1,7 @@
 -- A repeated Create after any run: the accepted reply is written from the record, and nothing else changes but what Recovery does.
 -- Assumes nothing.
 use Prim.Native.Nat.{ℕ, _%_, _<_, _≤_}
-use mathlib.Core.Bool.{Bool, true, false}
+use mathlib.Core.Bool.{Bool, true}
 use mathlib.Core.List.{List, map}
 use mathlib.Core.Path.{_≡_, refl, sym, _∙_, ap}
 use native.Mathlib.Omega.{arith}
@@ -17,8 +17,9 @@ use Rattle.unit_sharing.specs.Sharing.{admits}
 use Rattle.unit_plan.specs.Plan.{accepted, parties-four}
 use Rattle.base_octets.specs.Every.{every}
 use Rattle.base_octets.specs.BigEndian.{isOctet}
-use Rattle.unit_session.specs.Session.{hasId, isFree, opened, blankAt, freed}
+use Rattle.unit_session.specs.Session.{hasId, isFree, opened, freed}
 use Rattle.unit_table.specs.Change.{nobody, changedAt, changed-here, length-changed}
+use Rattle.unit_table.specs.Open.{freed-none}
 use Rattle.unit_table.specs.Room.{freePlace}
 use Rattle.wire_header.specs.Types.{kindBy}
 use Rattle.call_asked.specs.Asked.{kindAsked, requestAsked, soundAsked, askedOf}
@@ -57,11 +58,6 @@ AgainTheSame = (p : Plan) (s : State) (es : List Event) → Run p s es → (d : 
     → controlTaken (step (control d reply) (run es s) .node) (step (control d reply) (run es s) .table) d reply
     ≡ changing noPlaces (controlTaken (run es s .node) (run es s .table) d reply)
 
--- of a freed record nobody is told
-freed-nobody : (imsi ebi : ℕ) (s : Session) → hasId imsi ebi (freed s) ≡ false
-unfolding hasId freed blankAt isFree
-freed-nobody imsi ebi s = refl
-
 -- where one has it at most, who has it is found
 found-it : (p : Session → Bool) (l : List Session) (i : ℕ) → countOf p l ≤ 1 → i < length l → p (getD l i nobody) ≡ true → foundIn p l ≡ F.At i
 unfolding foundIn
@@ -85,7 +81,7 @@ module _ (p : Plan) (s : State) (kept : Kept s) (plan : s .node .plan ≡ p) (d 
   places-none i h f b = split (restartsBy (c .recovery) (s .node))
       (λ q. let same = ap (λ (x : State). x .table) (heard-freed (c .recovery) (s .node) (s .table) q) in
       let g = found-is (hasId (c .imsi) (c .ebi)) (map freed (s .table)) i (rw same at f) in
-      impossible (sym (freed-nobody (c .imsi) (c .ebi) (getD (s .table) i nobody)) ∙ rw (map-at freed (s .table) i nobody nobody h) at (g .1 .1)))
+      impossible (sym (freed-none (c .imsi) (c .ebi) (getD (s .table) i nobody)) ∙ rw (map-at freed (s .table) i nobody nobody h) at (g .1 .1)))
       (λ q. let same = ap (λ (x : State). x .table) (heard-same (c .recovery) (s .node) (s .table) q) in
       let g = found-is (hasId (c .imsi) (c .ebi)) (s .table) i (rw same at f) in
       rw (q, ← g .1 .0, lt-ltb i (length (s .table)) h, rw same at b))

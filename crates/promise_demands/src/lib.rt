@@ -19,7 +19,7 @@ pub fn reading_and_writing_follow_the_standards()
 
 // From any table that keeps its rules under an accepted plan, of which a fresh one is one, after any run of calls: no access point is over its
 // ceiling; a sound new create for one under its guarantee is accepted; want of room comes exactly when the sharing rule says so; a freed place
-// is room at once.
+// is room at once; a Recovery that came late frees none.
 pub fn a_rented_place_stays_rented()
     ensures { λ _. ⌜ Demand3 ⌝ }
 {}

@@ -15,13 +15,14 @@ use Rattle.base_octets.specs.Sums.{sumOf}
 use Rattle.base_octets.specs.Search.{firstOf}
 use Rattle.unit_tunnel.specs.Numbering.{places}
 use Rattle.unit_session.specs.declared.Session.{Session}
-use Rattle.unit_session.specs.Session.{isFree, hasId, freed, opened, blankAt}
+use Rattle.unit_session.specs.Session.{isFree, hasId, freed, opened}
 use Rattle.unit_table.specs.declared.Node.{Node}
 use Rattle.unit_table.specs.declared.Change.the-variants as Ch
 use Rattle.unit_table.specs.Rules.{keepsRules, rules-of}
 use Rattle.unit_table.specs.Change.{nobody}
 use Rattle.unit_table.specs.Become.{changedBy}
 use Rattle.unit_table.specs.Find.{foundIn}
+use Rattle.unit_table.specs.Open.{freed-none}
 use Rattle.step_keys.specs.Survey.{weightOf}
 use Rattle.wire_requests.specs.declared.Create as C
 use Rattle.call_control.specs.Echoes.{restartsBy, heardNode, heardBy, heard-freed, stored-plan, heard-twice, heard-keeps}
@@ -37,10 +38,6 @@ use Rattle.step_control.specs.Places.{freed-free, freed-weight}
 use Rattle.step_whole.specs.Create.{placedTwo, opened-freed, settled-same}
 
 -- ---- a table of which every record is freed
-freed-nobody : (imsi ebi : ℕ) (s : Session) → hasId imsi ebi (freed s) ≡ false
-unfolding hasId freed blankAt isFree
-freed-nobody imsi ebi s = refl
-
 first-no : (p : Session → Bool) → ((s : Session) → p (freed s) ≡ false) → (l : List Session) → firstOf p (map freed l) ≡ length l
 unfolding firstOf
 first-no p h [] = refl
@@ -174,7 +171,7 @@ module _ (node : Node) (l : List Session) (k : keepsRules node l ≡ true) (c : 
       (openOn c seq after (concernedWith g gone (verdictOf g after c seq (getD gone (g .old) nobody))) reply)
   settled-gone =
       settled-same after gone kept-gone c seq g
-      (old ∙ sym size ∙ sym (first-no (hasId (c .imsi) (c .ebi)) (freed-nobody (c .imsi) (c .ebi)) l))
+      (old ∙ sym size ∙ sym (first-no (hasId (c .imsi) (c .ebi)) (freed-none (c .imsi) (c .ebi)) l))
       (free ∙ sym (first-yes isFree freed-free l))
       (counts ∙ sym (freed-sum l))
       reply node l

@@ -1,17 +1,17 @@
 -- Opening a session at a free place keeps every rule, where the sharing rule admits it and nobody else has its IMSI and EBI.
 -- Assumes nothing.
 use Prim.Native.Nat.{ℕ, _+_, _<_, _≤_}
-use mathlib.Core.Bool.{Bool, true, false, not, _&&_}
+use mathlib.Core.Bool.{true, false, _&&_}
 use mathlib.Core.List.{List}
-use mathlib.Core.Path.{_≡_, refl, sym, _∙_}
+use mathlib.Core.Path.{_≡_, refl, _∙_}
 use native.Mathlib.Omega.{arith}
 use lib.ListN.{length, getD, set, length-set}
 use lib.Dec.{eqb}
 use borrow.Author.Tests.{eqb-true}
 use mir.Val.{boolByte}
-use Rattle.base_octets.specs.Choice.{split, and-left, and-right, bit-most}
-use Rattle.base_octets.specs.Every.{every, every-set}
-use Rattle.base_octets.specs.Sums.{sumOf, countOf, sum-set, sum-set-most}
+use Rattle.base_octets.specs.Choice.{split, and-left, and-right}
+use Rattle.base_octets.specs.Every.{every-set}
+use Rattle.base_octets.specs.Sums.{countOf, sum-set, sum-set-most}
 use Rattle.base_octets.specs.Search.{firstOf, first-gone}
 use Rattle.unit_plan.specs.declared.Plan.{Plan}
 use Rattle.unit_plan.specs.Limits.{parties}
@@ -29,8 +29,8 @@ use Rattle.unit_table.specs.Room.{admits-known}
 unfoldable pub replaced : ℕ → ℕ → List Session → List Session
 replaced imsi ebi l = changedAt freed (firstOf (hasId imsi ebi) l) l
 
--- then nobody has them
-freed-none : (imsi ebi : ℕ) (s : Session) → hasId imsi ebi (freed s) ≡ false
+-- then nobody has them: a freed record is nobody's
+pub freed-none : (imsi ebi : ℕ) (s : Session) → hasId imsi ebi (freed s) ≡ false
 unfolding freed blankAt hasId isFree
 freed-none imsi ebi s = refl
 
