@@ -29,6 +29,14 @@ case("create-imsi-digits", "15 digits 0 to 9 and F in the last high half; anythi
      *[C(create(20, imsi=imsi("111111111111111", last))) for last in "0AE"],
      C(create(21, imsi=imsi("999999999999999"))), C(create(22, imsi=imsi("000000000000000"))), C(create(23, imsi=imsi("F11111111111111"))))
 
+WRONG_IMSI = "48 21 0012 00001111 %06X 00 02 0006 00 45 00 01 0000 00"
+case("create-imsi-filler", "F is the sixteenth half octet, whatever stands behind it: 69 where it is wrong alone, with others, or later",
+     C(create(1, imsi=imsi(last="1"))), C(create(2, imsi=imsi("A40101234567890", "0"))), C(create(3, imsi=imsi("A" * 15, "A"))),
+     C(create(4, imsi=imsi("44010123456789F"))), C(create(5, imsi=field(1, imsi(last="0")[4:] + b"\xF0"))),
+     C(create(6, imsi=imsi("A40101234567890"))), C(create(7, imsi=field(1, imsi()[4:] + b"\xAA"))), C(create(8, imsi=imsi(last="0"))),
+     out=[*[line(69, WRONG_IMSI % k) for k in range(1, 7)], accepted(seq="000007"), line(69, WRONG_IMSI % 8), line("L", 1),
+          line(0, 1, "L", 0, "440101234567890", 5, 4369, "0A010008", 8738, "0A010009", 7)])
+
 case("create-rat", "RAT Type missing, short, wrong",
      C(create(1, rat=NONE)), C(create(2, rat=field(82, b""))), C(create(3, rat=rat(2))),
      out=[line(70, "48 21 0012 00001111 000001 00 02 0006 00 46 00 52 0000 00"),

@@ -3,6 +3,7 @@
  *   stress SEED CALLS       compares that many calls; the first difference ends it
  *   stress SEED CALLS down  makes packets from the carrier's side of most calls, and counts these alone
  *   stress recovery         compares all pairs of a stored and a received Recovery instead (recovery.c)
+ *   stress imsi             all pairs of the half octets of an IMSI, likewise (imsi.c)
  *   stress cost CALL COUNT  makes a table of all places live and then COUNT calls of one kind, for
  *                           counting instructions
  * Each side works in an arena of its own, with octets of no meaning around every buffer; a packet from the
@@ -183,15 +184,18 @@ static int never_met(void) {
 int main(int argc, char **argv) {
   if (argc == 4 && strcmp(argv[1], "cost") == 0)
     return cost(argv[2], atoi(argv[3]));
-  int pairs = argc == 2 && strcmp(argv[1], "recovery") == 0;
+  int (*pairs)(void) = argc != 2                          ? NULL
+                       : strcmp(argv[1], "recovery") == 0 ? recovery_pairs
+                       : strcmp(argv[1], "imsi") == 0     ? imsi_pairs
+                                                          : NULL;
   seed = argc > 1 ? strtoull(argv[1], 0, 10) * 2 + 1 : 1;
   unsigned long calls = argc > 2 ? strtoul(argv[2], 0, 10) : 1000000;
   int down = argc > 3 && strcmp(argv[3], "down") == 0;
   for (size_t i = 0; i < sizeof lent; i++)
     ((uint8_t *)&lent)[i] = (uint8_t)chance();
   set_stacks();
-  if (pairs)
-    return recovery_pairs();
+  if (pairs != NULL)
+    return pairs();
   run_all(calls, down);
   print_met();
   if (calls >= 100000 && never_met() >= 0) {

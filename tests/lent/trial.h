@@ -1,6 +1,6 @@
 /* What the parts of the trial share: the library's calls on stacks of their own (stacks.c), what has to be
- * equal after a call (compare.c), all pairs of Recovery values (recovery.c), and calls for counting
- * instructions (cost.c). */
+ * equal after a call (compare.c), all pairs of Recovery values (recovery.c) and of the half octets of an IMSI
+ * (imsi.c), and calls for counting instructions (cost.c). */
 #ifndef TRIAL_H
 #define TRIAL_H
 #include "made.h"
@@ -58,6 +58,9 @@ void compare_down(const grugavorn_written *a, const grugavorn_written *b, size_t
 
 /* ---- recovery.c: all pairs of a stored and a received Recovery; 0 where all is as the paper has it */
 int recovery_pairs(void);
+
+/* ---- imsi.c: all pairs of the half octets of an IMSI with all their values; 0 likewise */
+int imsi_pairs(void);
 
 /* ---- cost.c: makes a table of all places live and then so many calls of one kind */
 int cost(const char *call, int count);

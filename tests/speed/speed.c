@@ -104,10 +104,9 @@ static void table(unsigned live, int closing, unsigned ceiling) {
   memcpy(records, first, sizeof records);
 }
 
-static const char *const calls[] = { "packet", "user-echo", "user-short", "down-128",     "down-1400",
-                                     "echo",   "late",      "create",     "repeat",       "no-room",
-                                     "modify", "delete",    "tick",       "tick-closing", "send",
-                                     "close",  "line" };
+static const char *const calls[] = { "packet", "user-echo", "user-short",   "down-128", "down-1400", "echo",
+                                     "late",   "create",    "repeat",       "no-room",  "no-filler", "modify",
+                                     "delete", "tick",      "tick-closing", "send",     "close",     "line" };
 
 static int is(const char *call, const char *name) {
   return strcmp(call, name) == 0;
@@ -152,6 +151,9 @@ static int prepare(const char *call, unsigned live) {
     node.recovery = 5;
   } else if (is(call, "create") || is(call, "no-room")) {
     create(1);
+  } else if (is(call, "no-filler")) {
+    create(1);
+    datagram[23] &= 15;
   } else if (is(call, "repeat")) {
     create(7919 * (live - 1));
     datagram[9] = (uint8_t)((0x100 + live - 1) >> 8);

@@ -19,7 +19,7 @@ from figures import PLACES
 
 CALLS = [("packet", "G-PDU"), ("user-echo", "user echo"), ("down-128", "downlink, 128"), ("down-1400", "downlink, 1,400"),
          ("echo", "control echo"), ("late", "echo, late"), ("create", "Create accepted"), ("repeat", "Create repeated"),
-         ("no-room", "Create, no room"), ("modify", "Modify"), ("delete", "Delete"), ("tick", "tick"),
+         ("no-room", "Create, no room"), ("no-filler", "Create, IMSI wrong"), ("modify", "Modify"), ("delete", "Delete"), ("tick", "tick"),
          ("tick-closing", "tick, all closing"), ("send", "send"), ("close", "close"), ("line", "line")]
 LIVE = (0, PLACES // 2, PLACES)
 # the most that a call may cost, as a multiple of the plain implementation; where it is not named, MOST

@@ -11,11 +11,11 @@ use native.Mathlib.Omega.{arith}
 use lib.ListN.{length, take, drop, getD, length-take, drop-of-length-le}
 use lib.Dec.{eqb, ltb, leb}
 use borrow.Author.Tests.{le-ltb, lt-ltb, ltb-false, leb-true}
-use Rattle.base_octets.specs.Choice.{pick, split, and-left, and-right, and-no}
+use Rattle.base_octets.specs.Choice.{pick, split, and-left, and-right}
 use Rattle.base_octets.specs.Every.{every}
 use Rattle.base_octets.specs.Places.{next-of}
 use Rattle.wire_fields.specs.declared.Imsi.{Imsi}
-use Rattle.wire_fields.specs.declared.Imsi.the-variants.{Value, Missing, Short, Wrong}
+use Rattle.wire_fields.specs.declared.Imsi.the-variants.{Value, Short, Wrong}
 
 unfoldable pub imsiSize : ℕ
 imsiSize = 8
@@ -55,7 +55,7 @@ digitsFrom n h = pick (every isHalf (front h) && eqb (lastOf h) 15) (Value (deci
 unfoldable pub imsiOf : List ℕ → Imsi
 imsiOf v = pick (ltb (length v) imsiSize) Short (digitsFrom 0 (halves (take imsiSize v)))
 
--- ---- laws of the reading loop, which has come to octet i with n read
+-- ---- octet i, behind n that was read before
 module _ (v : List ℕ) (i n : ℕ) where
   pub digits-on : i + 1 < length v → (isHalf (getD v i 0 % 16) && isHalf (getD v i 0 / 16)) ≡ true
       → digitsFrom n (halves (drop i v)) ≡ digitsFrom (n * 100 + (getD v i 0 % 16 * 10 + getD v i 0 / 16)) (halves (drop (i + 1) v))
@@ -104,13 +104,6 @@ hundreds-most (suc (suc (suc (suc (suc zero))))) h = omega arith
 hundreds-most (suc (suc (suc (suc (suc (suc zero)))))) h = omega arith
 hundreds-most (suc (suc (suc (suc (suc (suc (suc zero))))))) h = omega arith
 hundreds-most (suc (suc (suc (suc (suc (suc (suc (suc i)))))))) h = absurd (omega arith)
-
-pub two-most : (a b : ℕ) → (isHalf a && isHalf b) ≡ true → a * 10 + b ≤ 99
-unfolding isHalf
-two-most a b e =
-    let x = leb-true a 9 (and-left (isHalf a) (isHalf b) e) in
-    let y = leb-true b 9 (and-right (isHalf a) (isHalf b) e) in
-    omega arith
 
 -- ---- the size test
 module _ (v : List ℕ) where

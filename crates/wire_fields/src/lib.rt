@@ -123,6 +123,9 @@ impl Imsi {
     pub const FIELD: u8 = 1;
 
     pub const SIZE: usize = 8;
+
+    // the half behind the fifteenth digit
+    pub const FILLER: u8 = 15;
 }
 
 impl Tunnel {
@@ -149,27 +152,36 @@ fn two_digits(low: u8, high: u8) -> u64
     wide(low) * 10 + wide(high)
 }
 
+// The halves are tested from the sixteenth, the filler, back to the first: an IMSI that is wrong is mostly wrong at its end.
 fn digits(v: &[u8]) -> Imsi
     requires { ⌜ length (now v) ≡ 8 ⌝ }
     ensures { λ r. ⌜ r ≡ digitsFrom 0 (halves (now (v .entry))) ⌝ }
 {
-    let mut n: u64 = 0;
-    let mut i: usize = 0;
-    while i < 7 {
+    let mut i: usize = Imsi::SIZE - 1;
+    let last = v[i];
+    if last / 16 != Imsi::FILLER {
+        return Imsi::Wrong;
+    }
+    if 9 < last % 16 {
+        return Imsi::Wrong;
+    }
+    let mut n = wide(last % 16);
+    // what 1 is worth in front of the digits that n has
+    let mut worth: u64 = 10;
+    while 0 < i {
+        i -= 1;
         let x = v[i];
-        if (x % 16 <= 9) & (x / 16 <= 9) {
-            let two = two_digits(x % 16, x / 16);
-            n = n * 100 + two;
-        } else {
+        if 9 < x / 16 {
             return Imsi::Wrong;
         }
-        i += 1;
+        if 9 < x % 16 {
+            return Imsi::Wrong;
+        }
+        let two = two_digits(x % 16, x / 16);
+        n = two * worth + n;
+        worth = worth * 100;
     }
-    let x = v[7];
-    if (x % 16 <= 9) & (x / 16 == 15) {
-        return Imsi::Value(n * 10 + wide(x % 16));
-    }
-    Imsi::Wrong
+    Imsi::Value(n)
 }
 
 // The IMSI that a field's value holds.
