@@ -20,45 +20,13 @@ enum { ECHO, REPLY, NEW, REPEAT, REPLACING, NO_ROOM, MESSAGES };
 static const char *const called[MESSAGES] = { "type 1",     "awaited type 2",    "Create",
                                               "its repeat", "Create, replacing", "Create, no room" };
 
-#define CREATE                                                                                               \
-  "4820006D0000000000005100"                                                                                 \
-  "0100080044101000000000F0"                                                                                 \
-  "5200010006"                                                                                               \
-  "5700090086000011110A010008"                                                                               \
-  "470005000464617461"                                                                                       \
-  "4F0005000100000000"                                                                                       \
-  "5D002C00"                                                                                                 \
-  "4900010005"                                                                                               \
-  "5700090284000022220A010009"                                                                               \
-  "5000160061090000000000000000000000000000000000000000"                                                     \
-  "0300010000"
-
 static const char *const octets[MESSAGES] = {
-  "40010009000040000300010000", "40020009000009000300010000", CREATE, CREATE, CREATE, CREATE
+  "40010009000040000300010000", "40020009000009000300010000", create_hex, create_hex, create_hex, create_hex
 };
 
 /* the message, the table and the node that it comes to, but for the Recovery that is stored */
 static void prepare(int message) {
-  for (length = 0; octets[message][2 * length]; length++) {
-    unsigned v;
-    if (sscanf(octets[message] + 2 * length, "%2x", &v) != 1)
-      differ("a message", CONTROL, 0, 0);
-    lent.datagram[length] = (uint8_t)v;
-  }
-  grugavorn_plan p;
-  memset(&p, 0, sizeof p);
-  p.control = 0x0A000001;
-  p.user = 0x0A000002;
-  p.pool = 0x64400000;
-  p.recovery = 77;
-  p.resend = 3;
-  p.sends = 2;
-  p.interval = 60;
-  p.count = 1;
-  p.points[0].size = 5;
-  memcpy(p.points[0].name, "\4data", 5);
-  p.points[0].ceiling = message == NO_ROOM ? SESSIONS : GRUGAVORN_PLACES;
-  node = grugavorn_fresh(p, lent.records, GRUGAVORN_PLACES).node;
+  message_to_fresh(octets[message], message == NO_ROOM ? SESSIONS : GRUGAVORN_PLACES);
   node.echo.timer = 2;
   node.echo.sends = 1;
   node.echo.number = OWN;
@@ -137,17 +105,12 @@ static void against(int message, const arena *table, unsigned heard, unsigned st
   node.heard = (uint8_t)heard;
   node.recovery = (uint8_t)stored;
   without(&bare, table);
-  for (unsigned received = 0; received < VALUES; received++, turn++) {
+  for (unsigned received = 0; received < VALUES; received++) {
     snprintf(about, sizeof about, " (%s, heard %u, stored %u, received %u)", called[message], heard, stored,
              received);
     lent = *table;
     lent.datagram[length - 1] = (uint8_t)received;
-    before = lent;
-    read_ = lent;
-    grugavorn_left a = run_on(CONTROL, GRUGAVORN_PLACES, GRUGAVORN_REPLY, 0);
-    grugavorn_left b = reading_control(node, read_.records, GRUGAVORN_PLACES, read_.datagram, length,
-                                       read_.reply, GRUGAVORN_REPLY);
-    compare(CONTROL, &a, &b, GRUGAVORN_PLACES, 0);
+    grugavorn_left a = control_compared();
     int what = became(message, &a.node, received);
     if (what == LATE && !as_without(&bare, &a))
       differ("a late value from none", CONTROL, a.number, bare.left.number);

@@ -1,6 +1,6 @@
 /* What the parts of the trial share: the library's calls on stacks of their own (stacks.c), what has to be
  * equal after a call (compare.c), all pairs of Recovery values (recovery.c) and of the half octets of an IMSI
- * (imsi.c), and calls for counting instructions (cost.c). */
+ * (imsi.c, both with pairs.c), and calls for counting instructions (cost.c). */
 #ifndef TRIAL_H
 #define TRIAL_H
 #include "made.h"
@@ -55,6 +55,14 @@ _Noreturn void differ(const char *what, int call, unsigned number, unsigned othe
  * record may change. */
 void compare(int call, const grugavorn_left *a, const grugavorn_left *b, size_t count, int kept);
 void compare_down(const grugavorn_written *a, const grugavorn_written *b, size_t count);
+
+/* ---- pairs.c: a Create for the access point "data", with a Recovery of 0 at its end; puts a message in hex
+ * into `lent` and makes the unit that it comes to, fresh and with that access point alone; and takes what is
+ * in `lent`, on both sides, with what has to be equal compared */
+extern const char create_hex[];
+
+void message_to_fresh(const char *hex, unsigned ceiling);
+grugavorn_left control_compared(void);
 
 /* ---- recovery.c: all pairs of a stored and a received Recovery; 0 where all is as the paper has it */
 int recovery_pairs(void);

@@ -49,14 +49,6 @@ returns-4 c = sym (low-wrong (now (c .before .before .before .before .before .be
 two-digits-requires : tie.Need-two-digits-requires Inv-loop μ-loop
 two-digits-requires c κs = search needs
 
-mul-n : tie.Need-mul-n Inv-loop μ-loop
-mul-n c =
-    let k = c .before .before .before .before .before .loop in
-    let m = hundreds-most (7 - k .i) (omega arith) in
-    let t : c .two-digits .result ≤ 99 = omega (arith, c .two-digits .ensures) in
-    let b = two-below (c .two-digits .result) (k .worth) (k .n) t (omega arith) in
-    omega arith
-
 add-n : tie.Need-add-n Inv-loop μ-loop
 add-n c =
     let k = c .before .before .before .before .before .loop in
@@ -64,6 +56,9 @@ add-n c =
     let t : c .two-digits .result ≤ 99 = omega (arith, c .two-digits .ensures) in
     let b = two-below (c .two-digits .result) (k .worth) (k .n) t (omega arith) in
     omega arith
+
+mul-n : tie.Need-mul-n Inv-loop μ-loop
+mul-n c = let s = add-n c in omega arith
 
 mul-worth : tie.Need-mul-worth Inv-loop μ-loop
 mul-worth c = let m = hundreds-most (7 - c .before .before .before .before .before .loop .i) (omega arith) in omega arith
