@@ -1,5 +1,6 @@
 /* A host in C: one session is created, one packet of it is unwrapped, one for it is wrapped, its line is
- * printed, its place is closed, and what is then due is sent. Prints each call's number and octets.
+ * printed, its place is closed, and what is then due is sent; then it is deleted, and the Delete is asked
+ * again, as if its reply had been lost: the octets are the same. Prints each call's number and octets.
  * `examples/build` builds and runs it. */
 #include "../include/grugavorn.h"
 #include <stdio.h>
@@ -38,6 +39,9 @@ static const uint8_t packet[] = { 0x30, 0xFF, 0, 4, 0, 0, 1, 0x80, 0x45, 0, 0, 0
 /* an IPv4 packet of 24 octets from the carrier's side, for the address of place 0 */
 static const uint8_t down[] = { 0x45, 0,  0,   24, 0,   0,  0, 0, 64,  17,  0,   0,
                                 198,  51, 100, 7,  100, 64, 0, 1, 'd', 'o', 'w', 'n' };
+
+/* a Delete of the session of place 0 in its first use */
+static const uint8_t bye[] = { 0x48, 36, 0, 8, 0, 0, 1, 0, 0, 0, 2, 0 };
 
 /* the echo of document 01's whole case */
 static const uint8_t echo[] = { 0x40, 0x01, 0, 9, 0, 0, 1, 0, 3, 0, 1, 0, 5 };
@@ -96,6 +100,11 @@ int main(void) {
 
   a = grugavorn_unit_tick(&unit);
   show("tick", a.number, reply, a.size);
+
+  for (int times = 0; times < 2; times++) {
+    a = grugavorn_unit_control(&unit, bye, sizeof bye, reply, sizeof reply);
+    show("control", a.number, reply, a.size);
+  }
 
   /* the whole case of document 01, on a fresh unit */
   grugavorn_unit_fresh(&unit, &plan);

@@ -2,9 +2,10 @@
 // field; here the library's own calls are made, with the node by value.
 #![allow(dead_code)]
 
-// the figures of the header: places, access points, octets of a name, octets of the least reply buffer, of what a G-PDU
-// has before its packet, and of a record
+// the figures of the header: places, rows of the store, access points, octets of a name, octets of the least reply
+// buffer, of what a G-PDU has before its packet, and of a record
 const PLACES: usize = 64;
+const KEPT: usize = 32;
 const POINTS: usize = 4;
 const NAME: usize = 63;
 const REPLY: usize = 128;
@@ -62,6 +63,18 @@ struct Session {
 
 #[repr(C)]
 #[derive(Clone, Copy)]
+struct Kept {
+    r#type: u8,
+    sequence: [u8; 3],
+    teid: [u8; 4],
+    life: u8,
+    number: u8,
+    size: u8,
+    reply: [u8; REPLY],
+}
+
+#[repr(C)]
+#[derive(Clone, Copy)]
 struct Node {
     plan: Plan,
     echo: Request,
@@ -103,6 +116,8 @@ const _: () = {
     assert!(size_of::<Plan>() == 292 && offset_of!(Plan, recovery) == 12 && offset_of!(Plan, count) == 16 && offset_of!(Plan, points) == 18);
     assert!(size_of::<Request>() == 8 && offset_of!(Request, sends) == 1 && offset_of!(Request, number) == 4);
     assert!(size_of::<Session>() == RECORD && offset_of!(Session, usage) == 8 && offset_of!(Session, own) == 32 && offset_of!(Session, state) == 40);
+    assert!(size_of::<Kept>() == 139 && offset_of!(Kept, sequence) == 1 && offset_of!(Kept, teid) == 4 && offset_of!(Kept, life) == 8);
+    assert!(offset_of!(Kept, number) == 9 && offset_of!(Kept, size) == 10 && offset_of!(Kept, reply) == 11);
     assert!(size_of::<Node>() == 308 && offset_of!(Node, echo) == 292 && offset_of!(Node, next) == 300 && offset_of!(Node, recovery) == 305);
     assert!(size_of::<Left>() == 344 && offset_of!(Left, size) == 8 && offset_of!(Left, node) == 16);
     assert!(offset_of!(Left, from) == 328 && offset_of!(Left, to) == 336);
@@ -111,22 +126,29 @@ const _: () = {
 };
 
 extern "C" {
-    fn grugavorn_fresh(plan: Plan, records: *mut Session, count: usize) -> Left;
-    fn grugavorn_control(node: Node, records: *mut Session, count: usize, datagram: *const u8, length: usize, reply: *mut u8, room: usize) -> Left;
-    fn grugavorn_user(node: Node, records: *const Session, count: usize, datagram: *const u8, length: usize, reply: *mut u8, room: usize) -> Handed;
-    fn grugavorn_down(node: Node, records: *const Session, count: usize, packet: *const u8, length: usize, out: *mut u8, room: usize) -> Written;
-    fn grugavorn_tick(node: Node, records: *mut Session, count: usize) -> Left;
-    fn grugavorn_send(node: Node, records: *mut Session, count: usize, reply: *mut u8, room: usize) -> Left;
-    fn grugavorn_line(node: Node, records: *const Session, count: usize, place: usize, reply: *mut u8, room: usize) -> Left;
-    fn grugavorn_close(node: Node, records: *mut Session, count: usize, place: usize) -> Left;
+    fn grugavorn_fresh(plan: Plan, records: *mut Session, count: usize, store: *mut Kept, rows: usize) -> Left;
+    fn grugavorn_control(
+        node: Node, records: *mut Session, count: usize, store: *mut Kept, rows: usize, datagram: *const u8, length: usize, reply: *mut u8, room: usize,
+    ) -> Left;
+    fn grugavorn_user(
+        node: Node, records: *const Session, count: usize, store: *const Kept, rows: usize, datagram: *const u8, length: usize, reply: *mut u8, room: usize,
+    ) -> Handed;
+    fn grugavorn_down(
+        node: Node, records: *const Session, count: usize, store: *const Kept, rows: usize, packet: *const u8, length: usize, out: *mut u8, room: usize,
+    ) -> Written;
+    fn grugavorn_tick(node: Node, records: *mut Session, count: usize, store: *mut Kept, rows: usize) -> Left;
+    fn grugavorn_send(node: Node, records: *mut Session, count: usize, store: *const Kept, rows: usize, reply: *mut u8, room: usize) -> Left;
+    fn grugavorn_line(node: Node, records: *const Session, count: usize, store: *const Kept, rows: usize, place: usize, reply: *mut u8, room: usize) -> Left;
+    fn grugavorn_close(node: Node, records: *mut Session, count: usize, store: *const Kept, rows: usize, place: usize) -> Left;
     fn grugavorn_peer(records: *const Session, count: usize, place: usize) -> u32;
     fn grugavorn_address(node: Node, place: usize) -> u32;
 }
 
-// The unit as a Rust host has it: records, node and reply buffer in one place. Each call's slices give the library
+// The unit as a Rust host has it: records, store, node and reply buffer in one place. Each call's slices give the library
 // pointer and count, so that what it takes on trust of its caller always holds.
 struct Unit {
     records: [Session; PLACES],
+    store: [Kept; KEPT],
     node: Node,
     reply: [u8; REPLY],
     // the places whose records the last call may have changed
@@ -135,12 +157,14 @@ struct Unit {
 
 const IDLE: Request = Request { timer: 0, sends: 0, number: 0 };
 const NOBODY: Session = Session { imsi: 0, usage: 0, control: 0, controladdr: 0, user: 0, useraddr: 0, created: 0, own: IDLE, state: FREE, point: 0, ebi: 0 };
+const UNUSED: Kept = Kept { r#type: 0, sequence: [0; 3], teid: [0; 4], life: 0, number: 0, size: 0, reply: [0; REPLY] };
 
 impl Unit {
     fn fresh(plan: Plan) -> (Self, u8) {
         let mut records = [NOBODY; PLACES];
-        let a = unsafe { grugavorn_fresh(plan, records.as_mut_ptr(), records.len()) };
-        (Unit { records, node: a.node, reply: [0; REPLY], changed: a.from..a.to }, a.number)
+        let mut store = [UNUSED; KEPT];
+        let a = unsafe { grugavorn_fresh(plan, records.as_mut_ptr(), records.len(), store.as_mut_ptr(), store.len()) };
+        (Unit { records, store, node: a.node, reply: [0; REPLY], changed: a.from..a.to }, a.number)
     }
     fn keep(&mut self, a: Left) -> (u8, &[u8]) {
         self.node = a.node;
@@ -148,32 +172,35 @@ impl Unit {
         (a.number, &self.reply[..a.size])
     }
     fn control(&mut self, d: &[u8]) -> (u8, &[u8]) {
-        let a = unsafe { grugavorn_control(self.node, self.records.as_mut_ptr(), PLACES, d.as_ptr(), d.len(), self.reply.as_mut_ptr(), REPLY) };
+        let (records, store, reply) = (self.records.as_mut_ptr(), self.store.as_mut_ptr(), self.reply.as_mut_ptr());
+        let a = unsafe { grugavorn_control(self.node, records, PLACES, store, KEPT, d.as_ptr(), d.len(), reply, REPLY) };
         self.keep(a)
     }
     fn user<'a>(&mut self, d: &'a [u8]) -> (u8, usize, &'a [u8]) {
-        let h = unsafe { grugavorn_user(self.node, self.records.as_ptr(), PLACES, d.as_ptr(), d.len(), self.reply.as_mut_ptr(), REPLY) };
+        let (records, store, reply) = (self.records.as_ptr(), self.store.as_ptr(), self.reply.as_mut_ptr());
+        let h = unsafe { grugavorn_user(self.node, records, PLACES, store, KEPT, d.as_ptr(), d.len(), reply, REPLY) };
         (h.number, h.place, &d[h.start..h.start + h.octets])
     }
     // the G-PDU in `out`, and the peer's user address; empty and 0 where the packet is refused
     fn down<'a>(&self, packet: &[u8], out: &'a mut [u8]) -> (u8, &'a [u8], u32) {
-        let w = unsafe { grugavorn_down(self.node, self.records.as_ptr(), PLACES, packet.as_ptr(), packet.len(), out.as_mut_ptr(), out.len()) };
+        let (records, store) = (self.records.as_ptr(), self.store.as_ptr());
+        let w = unsafe { grugavorn_down(self.node, records, PLACES, store, KEPT, packet.as_ptr(), packet.len(), out.as_mut_ptr(), out.len()) };
         (w.number, &out[..w.size], w.peer)
     }
     fn tick(&mut self) -> (u8, &[u8]) {
-        let a = unsafe { grugavorn_tick(self.node, self.records.as_mut_ptr(), PLACES) };
+        let a = unsafe { grugavorn_tick(self.node, self.records.as_mut_ptr(), PLACES, self.store.as_mut_ptr(), KEPT) };
         self.keep(a)
     }
     fn send(&mut self) -> (u8, &[u8]) {
-        let a = unsafe { grugavorn_send(self.node, self.records.as_mut_ptr(), PLACES, self.reply.as_mut_ptr(), REPLY) };
+        let a = unsafe { grugavorn_send(self.node, self.records.as_mut_ptr(), PLACES, self.store.as_ptr(), KEPT, self.reply.as_mut_ptr(), REPLY) };
         self.keep(a)
     }
     fn line(&mut self, place: usize) -> (u8, &[u8]) {
-        let a = unsafe { grugavorn_line(self.node, self.records.as_ptr(), PLACES, place, self.reply.as_mut_ptr(), REPLY) };
+        let a = unsafe { grugavorn_line(self.node, self.records.as_ptr(), PLACES, self.store.as_ptr(), KEPT, place, self.reply.as_mut_ptr(), REPLY) };
         self.keep(a)
     }
     fn close(&mut self, place: usize) -> (u8, &[u8]) {
-        let a = unsafe { grugavorn_close(self.node, self.records.as_mut_ptr(), PLACES, place) };
+        let a = unsafe { grugavorn_close(self.node, self.records.as_mut_ptr(), PLACES, self.store.as_ptr(), KEPT, place) };
         self.keep(a)
     }
     fn peer(&self, place: usize) -> u32 {
@@ -209,6 +236,9 @@ const PACKET: [u8; 12] = [0x30, 0xFF, 0, 4, 0, 0, 1, 0x80, 0x45, 0, 0, 0];
 
 // an IPv4 packet of 24 octets from the carrier's side, for the address of place 0
 const DOWN: [u8; 24] = [0x45, 0, 0, 24, 0, 0, 0, 0, 64, 17, 0, 0, 198, 51, 100, 7, 100, 64, 0, 1, b'd', b'o', b'w', b'n'];
+
+// a Delete of the session of place 0 in its first use
+const BYE: [u8; 12] = [0x48, 36, 0, 8, 0, 0, 1, 0, 0, 0, 2, 0];
 
 // the echo of document 01's whole case
 const ECHO: [u8; 13] = [0x40, 0x01, 0, 9, 0, 0, 1, 0, 3, 0, 1, 0, 5];
@@ -263,6 +293,10 @@ fn main() {
     show("send", number, reply);
     let (number, reply) = unit.tick();
     show("tick", number, reply);
+    for _ in 0..2 {
+        let (number, reply) = unit.control(&BYE);
+        show("control", number, reply);
+    }
 
     // the whole case of document 01, on a fresh unit
     let (mut unit, _) = Unit::fresh(plan);

@@ -110,6 +110,9 @@ static void send_due(void) {
 }
 
 /* ---- what comes in: datagrams, packets from the carrier's side, ticks, orders */
+
+/* A Modify or a Delete that is asked again gets its reply from the unit's store; to the host it is one like
+ * any other, and goes to who asks now. */
 static void on_control(size_t size, uint32_t source, uint16_t port) {
   if (ending && size > 1 && datagram[1] == CREATE) {
     late++;

@@ -3,7 +3,7 @@
 Shares nothing with the model but the figures: a slip in the one's octets is not a slip in the other's. Hex texts may have spaces for the eye.
 """
 
-from figures import DATAGRAM, NAME_LENGTH, PLACES  # noqa: F401  the cases have them from here
+from figures import DATAGRAM, KEPT, LIFE, NAME_LENGTH, PLACES  # noqa: F401  the cases have them from here
 
 CASES = []  # (name, what it shows, input text, by hand: expected text or None)
 TAB = "\t"

@@ -18,6 +18,7 @@ import cases_create  # noqa: F401
 import cases_change  # noqa: F401
 import cases_own  # noqa: F401
 import cases_late  # noqa: F401
+import cases_kept  # noqa: F401
 import cases_share  # noqa: F401
 import cases_user  # noqa: F401
 import cases_down  # noqa: F401

@@ -1,5 +1,5 @@
 #!/usr/bin/env python3
-"""A model of document 01 and of requests 1 and 2 of document 02: reads a bench input on standard input and prints what the papers say.
+"""A model of document 01 and of requests 1, 2 and 4 of document 02: reads a bench input on standard input and prints what the papers say.
 
 A test oracle, written from the papers and their readings alone, without the program's code; its sections follow document 01's order.
 gtp.py has the octets, lines.py the parts of a bench line. A call returns (number, reply, what is printed behind it: payload or peer's
@@ -8,7 +8,7 @@ address, or None).
 import sys
 
 import gtp
-from figures import DATAGRAM, NAMES, NAME_LENGTH, PLACES
+from figures import DATAGRAM, KEPT, LIFE, NAMES, NAME_LENGTH, PLACES
 from gtp import Refused, first, number
 from lines import Bad, address, decimal, octets
 
@@ -67,12 +67,20 @@ class Place:
                           str(self.creating)])
 
 
+class Kept:
+    """A reply to type 34 or 36 with its number, "its type, sequence number, header TEID and a life of 10 ticks"."""
+
+    def __init__(self, three, answer):
+        self.three, self.answer, self.life = three, answer, LIFE
+
+
 class Unit:
     def __init__(self, plan):
         self.plan, self.places = plan, [Place(index) for index in range(PLACES)]
         self.stored = None  # the exchange's Recovery; none yet
         self.next = 0
         self.echo_timer, self.echo_sent, self.echo_own = plan.interval, 0, 0
+        self.store = []  # the kept replies, the newest first
 
     def live(self):
         return [place for place in self.places if place.state != FREE]
@@ -119,10 +127,8 @@ class Unit:
             return self.take_bearer_reply(teid, sequence, body)
         if kind == gtp.CREATE:
             return self.create(sequence, body)
-        if kind == gtp.MODIFY:
-            return self.modify(teid, sequence, body)
-        if kind == gtp.DELETE:
-            return self.delete(teid, sequence, body)
+        if kind in (gtp.MODIFY, gtp.DELETE):
+            return self.asked((kind, sequence, teid), body)  # "the store is asked after check 8 (TEID), before 64"
         return 0, b"", None  # "Type 3 is taken and changes nothing."
 
     def holder(self, teid):
@@ -177,6 +183,17 @@ class Unit:
         return gtp.created(place.peer, place.creating, place.control_teid(), plan.control, self.address_of(place), place.ebi,
                            place.user_teid(), plan.user, plan.own_recovery)
 
+    # ---- Deletes asked twice
+    def asked(self, three, body):
+        """"A request equal in those three gets the kept reply octet for octet, with its number, and changes nothing." Any other is answered
+        as document 01 says, and what it is answered is kept, a refusal too; "the oldest makes room when full"."""
+        kept = next((kept for kept in self.store if kept.three == three), None)
+        if kept is None:
+            kind, sequence, teid = three
+            kept = Kept(three, (self.modify if kind == gtp.MODIFY else self.delete)(teid, sequence, body))
+            self.store = [kept] + self.store[:KEPT - 1]
+        return kept.answer
+
     # ---- Modify (34)
     def modify(self, teid, sequence, body):
         place, found = self.holder(teid), gtp.message_fields(body)
@@ -222,8 +239,8 @@ class Unit:
         return 0, gtp.echo(gtp.ECHO_REPLY, sequence, self.plan.own_recovery), None
 
     def read_recovery(self, value):
-        """"First value seen: stored"; restarted: "all sessions are freed", the value is stored; late: "the value is thrown away and the
-        sessions stay; the message is still answered"."""
+        """"First value seen: stored"; restarted: "all sessions are freed", the value is stored, and this "empties the store"; late: "the value
+        is thrown away and the sessions stay; the message is still answered"."""
         if value is None:
             return
         if self.stored is None:
@@ -231,6 +248,7 @@ class Unit:
         elif judged(value, self.stored) == RESTARTED:
             self.free_all()
             self.stored = value
+            self.store = []
 
     # ---- Own requests
     def close(self, index):
@@ -266,7 +284,8 @@ class Unit:
         return None
 
     def tick(self):
-        """"counts each sent, unanswered request down from T; at zero it is due again, or after N sends given up"."""
+        """"counts each sent, unanswered request down from T; at zero it is due again, or after N sends given up"; of a kept reply's life "the
+        tenth drops it"."""
         for place in self.places:
             if place.timer > 0:
                 place.timer -= 1
@@ -277,6 +296,9 @@ class Unit:
             if self.echo_timer == 0 and self.echo_sent == self.plan.sends:
                 self.free_all()
                 self.echo_timer, self.echo_sent = self.plan.interval, 0
+        for kept in self.store:
+            kept.life -= 1
+        self.store = [kept for kept in self.store if kept.life > 0]
         return 0, b"", None
 
     def take_echo_reply(self, sequence, body):

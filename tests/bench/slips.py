@@ -23,6 +23,14 @@ IS_LATE = "self.stored is not None and judged(gtp.recovery(found or []) or self.
 ECHO_ENDS = "        self.echo_timer, self.echo_sent = self.plan.interval, 0\n        self.read_recovery(gtp.recovery(found))\n"
 CREATE_READS = "            self.read_recovery(gtp.recovery(found))\n            #"
 
+# of the kept replies: where one is looked for, where a new one goes in front, where a restart empties the store, where the answer is given,
+# and where the echo is given up
+FOUND = "kept = next((kept for kept in self.store if kept.three == three), None)\n"
+IN_FRONT = "            self.store = [kept] + self.store[:KEPT - 1]\n"
+EMPTIED = "            self.store = []\n"
+ANSWERED = "        return kept.answer\n"
+GIVEN_UP = "                self.free_all()\n                self.echo_timer"
+
 SLIPS = [
     (G, "at + 4 > len(octets)", "False", ALIKE),
     (G, "end > len(octets)", "end > len(octets) + 1"),
@@ -81,8 +89,8 @@ SLIPS = [
     (M, "                self.free_all()\n                self.echo_timer, self.echo_sent = self.plan.interval, 0",
      "                self.free_all()\n                self.stored = None\n                self.echo_timer, self.echo_sent = self.plan.interval, 0"),
     (M, RESTART, RESTART + "            self.echo_timer, self.echo_sent = self.plan.interval, 0\n"),
-    (M, "                self.echo_timer, self.echo_sent = self.plan.interval, 0\n        return 0",
-     "                self.echo_timer, self.echo_sent = max(self.plan.interval-1,1), 0\n        return 0"),
+    (M, "                self.echo_timer, self.echo_sent = self.plan.interval, 0\n        for kept",
+     "                self.echo_timer, self.echo_sent = max(self.plan.interval-1,1), 0\n        for kept"),
     (M, "self.echo_sent == 0 or sequence", "sequence"),
     (M, " or found is None:\n            return 9", " :\n            return 9"),
     (M, '        self.read_recovery(gtp.recovery(found))\n        return 0, b"", None', '        return 0, b"", None'),
@@ -147,6 +155,61 @@ SLIPS = [
     (M, "if (held.point, held.creating) == (point, sequence)", "if (held.point, held.creating) == (point, sequence) and not (" + IS_LATE + ")"),
     (M, "                held.free()\n            if not", "                if not (" + IS_LATE + "):\n                    held.free()\n            if not"),
     (M, "            if not self.admits(point):", "            if not self.admits(point) and not (" + IS_LATE + "):"),
+    # the kept replies: what is equal
+    (M, "if kept.three == three", "if kept.three[1:] == three[1:]"),
+    (M, "if kept.three == three", "if (kept.three[0], kept.three[2]) == (three[0], three[2])"),
+    (M, "if kept.three == three", "if kept.three[:2] == three[:2]"),
+    (M, "if kept.three == three", "if (kept.three[0], kept.three[1] % 65536, kept.three[2]) == (three[0], three[1] % 65536, three[2])"),
+    (M, "if kept.three == three", "if (*kept.three[:2], kept.three[2] % 256) == (*three[:2], three[2] % 256)"),
+    (M, "if kept.three == three", "if (*kept.three[:2], kept.three[2] % 65536) == (*three[:2], three[2] % 65536)"),
+    (M, "if kept.three == three", "if False"),
+    # what is answered, and that nothing changes
+    (M, ANSWERED, "        return 0, kept.answer[1], None\n"),
+    (M, ANSWERED, "        return kept.answer[0], b'', None\n"),
+    (M, FOUND, FOUND + "        if kept is not None:\n            kept.life = LIFE\n"),
+    (M, FOUND, FOUND + "        if kept is not None:\n            self.store.remove(kept)\n            self.store.insert(0, kept)\n"),
+    (M, FOUND, FOUND + "        if kept is not None:\n            self.store = [kept] + self.store[:KEPT - 1]\n"),
+    (M, FOUND, FOUND + "        if kept is not None:\n            self.store.remove(kept)\n"),
+    (M, FOUND, FOUND + "        if kept is not None and three[0] == gtp.MODIFY:\n            self.modify(three[2], three[1], body)\n"),
+    (M, FOUND, FOUND + "        if gtp.message_fields(body) is None:\n            kept = None\n"),
+    (M, FOUND, FOUND + "        if self.holder(three[2]) is None:\n            kept = None\n"),
+    (M, FOUND, FOUND + "        if self.holder(three[2]) is not None:\n            kept = None\n"),
+    (M, "        if d[0] & 0x10:\n            return 4", "        if d[0] & 0x10 and d[1] != 36:\n            return 4"),
+    # which replies are kept
+    (M, IN_FRONT, "            if kept.answer[0] == 0:\n    " + IN_FRONT),
+    (M, IN_FRONT, "            if kept.answer[0] in (0, 64):\n    " + IN_FRONT),
+    (M, IN_FRONT, "            if kept.answer[0] != 67:\n    " + IN_FRONT),
+    (M, IN_FRONT, "            if kept.answer[0] != 69:\n    " + IN_FRONT),
+    (M, IN_FRONT, "            if kept.answer[0] != 70:\n    " + IN_FRONT),
+    (M, IN_FRONT, "            if kept.answer[0] != 64 or self.holder(teid) is not None:\n    " + IN_FRONT),
+    (M, IN_FRONT, "            if kind == gtp.DELETE:\n    " + IN_FRONT),
+    (M, IN_FRONT, "            if kind == gtp.MODIFY:\n    " + IN_FRONT),
+    # how many, and which makes room
+    (M, "self.store[:KEPT - 1]", "self.store[:KEPT]"),
+    (M, "self.store[:KEPT - 1]", "self.store[:KEPT - 2]"),
+    (M, IN_FRONT, "            self.store = (self.store + [kept])[:KEPT]\n"),
+    (M, IN_FRONT, "            self.store = [kept] + (self.store if len(self.store) < KEPT else self.store[1:])\n"),
+    (M, IN_FRONT, "            self.store = [kept] + (self.store if len(self.store) < KEPT else [])\n"),
+    # the life
+    (M, "if kept.life > 0", "if kept.life >= 0"),
+    (M, "if kept.life > 0", "if kept.life > 1"),
+    (M, "if kept.life > 0", ""),
+    (M, "kept.life -= 1", "kept.life -= 1 if kept.answer[0] == 0 else 2"),
+    (M, "        for kept in self.store:\n", "        for kept in self.store[-1:]:\n"),
+    (M, "        for kept in self.store:\n", "        for kept in self.store[:1]:\n"),
+    # what empties the store
+    (M, RESTART + EMPTIED, RESTART),
+    (M, RESTART + EMPTIED, RESTART.replace("self.free_all()", "self.store = [] if self.live() else self.store\n            self.free_all()")),
+    (M, RESTART + EMPTIED, RESTART.replace("self.free_all()", "self.store = self.store if self.live() else []\n            self.free_all()")),
+    (M, RESTART, FOR_LATE + "self.store = []\n" + RESTART),
+    (M, "            self.stored = value\n        elif", "            self.stored = value\n            self.store = []\n        elif"),
+    (M, RESTART, "        elif value == self.stored:\n            self.store = []\n" + RESTART),
+    (M, GIVEN_UP, GIVEN_UP.replace("                self.echo_timer", "                self.store = []\n                self.echo_timer")),
+    (M, "                    place.free()\n", "                    place.free()\n                    self.store = []\n"),
+    (M, "        self.places[index].state = CLOSING", "        self.store = []\n        self.places[index].state = CLOSING"),
+    (M, "        place.free()  # \"whatever the cause\"", "        self.store = []\n        place.free()"),
+    (M, "                held.free()\n            if not", "                held.free()\n                self.store = []\n            if not"),
+    (M, "            if not self.admits(point):\n", "            if not self.admits(point):\n                self.store = []\n"),
     # the downlink
     (G, "number(d[16:20])", "number(d[12:16])"),
     (G, "if len(d) < 20:", "if len(d) < 21:"),

@@ -7,7 +7,7 @@
 typedef grugavorn_session session;
 arena before, read_;
 ends ends_before, ends_read;
-unsigned long turn, met[CALLS][256], written_to[GRUGAVORN_CLOSING + 1];
+unsigned long turn, met[CALLS][256], written_to[GRUGAVORN_CLOSING + 1], store_met[EVENTS];
 char about[100];
 
 static int same_request(const grugavorn_request *a, const grugavorn_request *b) {
@@ -48,13 +48,15 @@ void differ(const char *what, int call, unsigned number, unsigned other) {
   exit(1);
 }
 
-/* the same call on a unit of its own, as a host makes it: it has to come to the same, node and records too */
+/* the same call on a unit of its own, as a host makes it: it has to come to the same, node, records and store
+ * too */
 static void compare_unit(int call, const grugavorn_left *a) {
   static grugavorn_unit unit;
   static uint8_t reply[BUFFER];
   grugavorn_answer u = { 0, 0, 0, 0 };
   unit.node = node;
   memcpy(unit.records, before.records, sizeof unit.records);
+  memcpy(unit.store, before.store, sizeof unit.store);
   memcpy(reply, before.reply, sizeof reply);
   switch (call) {
   case FRESH:
@@ -100,6 +102,8 @@ static void compare_unit(int call, const grugavorn_left *a) {
   for (int i = 0; i < GRUGAVORN_PLACES; i++)
     if (!same_record(&unit.records[i], &lent.records[i]))
       differ("a record of a unit", call, a->number, u.number);
+  if (memcmp(unit.store, lent.store, sizeof unit.store) != 0)
+    differ("the store of a unit", call, a->number, u.number);
 }
 
 /* where the session of the call's place is, of the records as they are left: any count, any place */
@@ -112,7 +116,70 @@ static void compare_where(int call, const grugavorn_left *a, size_t count) {
     differ("the address", call, a->number, a->number);
 }
 
-void compare(int call, const grugavorn_left *a, const grugavorn_left *b, size_t count, int kept) {
+static int used(const arena *side) {
+  int all = 0;
+  for (int i = 0; i < GRUGAVORN_KEPT; i++)
+    all += side->store[i].life != 0;
+  return all;
+}
+
+/* the row that a taken Modify or Delete asks for, told by its octets as they came; null where there is
+ * none */
+static const grugavorn_kept *row_asked(void) {
+  const uint8_t *d = before.datagram;
+  for (int i = 0; i < GRUGAVORN_KEPT; i++) {
+    const grugavorn_kept *k = &before.store[i];
+    if (k->life != 0 && k->type == d[1] && memcmp(k->teid, d + 4, 4) == 0
+        && memcmp(k->sequence, d + 8, 3) == 0)
+      return k;
+  }
+  return NULL;
+}
+
+/* "A request equal in those three gets the kept reply octet for octet, with its number, and changes nothing":
+ * told without the reading. Any other Modify or Delete has its reply in front of the store. */
+static void compare_asked(const grugavorn_left *a) {
+  const grugavorn_kept *k = row_asked();
+  if (k == NULL) {
+    if (lent.store[0].life != GRUGAVORN_LIFE || lent.store[0].number != a->number
+        || lent.store[0].size != a->size || memcmp(lent.store[0].reply, lent.reply, a->size) != 0)
+      differ("the reply that is kept", CONTROL, a->number, lent.store[0].number);
+    store_met[KEPT]++;
+    store_met[LOST] += used(&before) == GRUGAVORN_KEPT;
+    return;
+  }
+  if (a->number != k->number || a->size != k->size || memcmp(lent.reply, k->reply, k->size) != 0)
+    differ("the kept reply", CONTROL, a->number, k->number);
+  if (a->from != 0 || a->to != 0 || !same_node(&a->node, &node)
+      || memcmp(lent.records, before.records, sizeof lent.records) != 0
+      || memcmp(lent.store, before.store, sizeof lent.store) != 0)
+    differ("what a kept reply leaves", CONTROL, a->number, k->number);
+  store_met[ANSWERED]++;
+}
+
+/* the store, octet for octet; only fresh, control and tick write to it, and nothing behind its rows */
+static void compare_store(int call, const grugavorn_left *a, const grugavorn_left *b, size_t rows, int kept) {
+  int writes = call == FRESH || call == CONTROL || call == TICK;
+  if (memcmp(lent.store, read_.store, sizeof lent.store) != 0)
+    differ("a row of the store", call, a->number, b->number);
+  if ((kept || !writes) && memcmp(lent.store, before.store, sizeof lent.store) != 0)
+    differ("a row that is kept", call, a->number, b->number);
+  size_t past = rows < ROWS ? rows : ROWS;
+  if (memcmp(lent.store + past, before.store + past, (ROWS - past) * sizeof(grugavorn_kept)) != 0)
+    differ("a row past the store", call, a->number, b->number);
+  if (memcmp(lent.e, before.e, AROUND) != 0)
+    differ("what is around the store", call, a->number, b->number);
+  int taken = call == CONTROL && !kept;
+  if (taken && (before.datagram[1] == 34 || before.datagram[1] == 36))
+    compare_asked(a);
+  else if (taken)
+    store_met[EMPTIED] += used(&before) > 0 && used(&lent) == 0;
+  else if (call == TICK)
+    store_met[DROPPED] += used(&before) > used(&lent);
+}
+
+void compare(int call, const grugavorn_left *a, const grugavorn_left *b, size_t count, size_t rows,
+             int kept) {
   if (a->number != b->number || a->size != b->size)
     differ("the answer", call, a->number, b->number);
   if (a->from != b->from || a->to != b->to || a->from > a->to || a->to > GRUGAVORN_PLACES)
@@ -140,8 +207,9 @@ void compare(int call, const grugavorn_left *a, const grugavorn_left *b, size_t 
     differ("the buffer past the reply", call, a->number, b->number);
   if (call == LINE && a->size > GRUGAVORN_LINE)
     differ("the most that a line has", call, a->number, b->number);
+  compare_store(call, a, b, rows, kept);
   compare_where(call, a, count);
-  if (count == GRUGAVORN_PLACES)
+  if (count == GRUGAVORN_PLACES && rows == GRUGAVORN_KEPT)
     compare_unit(call, a);
   met[call][a->number]++;
 }
@@ -156,7 +224,7 @@ static int reads_back(const uint8_t *gpdu, size_t size, uint32_t teid, const uin
          && memcmp(gpdu + size - octets, packet, octets) == 0;
 }
 
-void compare_down(const grugavorn_written *a, const grugavorn_written *b, size_t count) {
+void compare_down(const grugavorn_written *a, const grugavorn_written *b, size_t count, size_t rows) {
   const uint8_t *was = out_of(&ends_before), *is = out_of(&ends_lent);
   if (a->number != b->number || a->place != b->place || a->size != b->size || a->peer != b->peer)
     differ("the answer", DOWN, a->number, b->number);
@@ -178,5 +246,5 @@ void compare_down(const grugavorn_written *a, const grugavorn_written *b, size_t
     differ("what a refusal answers", DOWN, a->number, b->number);
   }
   grugavorn_left x = { a->number, 0, node, 0, 0 }, y = { b->number, 0, node, 0, 0 };
-  compare(DOWN, &x, &y, count, 1);
+  compare(DOWN, &x, &y, count, rows, 1);
 }

@@ -182,6 +182,42 @@ static void head(unsigned type, int with, uint32_t teid, uint32_t sequence) {
   octet(chance());
 }
 
+/* the Modifies and Deletes of before, some more than the store has rows */
+enum { EARLIER = GRUGAVORN_KEPT + 8 };
+
+static uint8_t earlier[EARLIER][MOST];
+static size_t earlier_sizes[EARLIER];
+static unsigned latest;
+
+static void remember(void) {
+  latest = (latest + 1) % EARLIER;
+  memcpy(earlier[latest], d, MOST);
+  earlier_sizes[latest] = length;
+}
+
+/* One of them once more, octet for octet; or what a row of the store was kept for, with no fields or with one
+ * that overruns. Now and then one bit of its type, sequence number or TEID is another. */
+static void asked_again(void) {
+  if (one_in(3)) {
+    const grugavorn_kept *k = some_row();
+    head(k->type, 1, 0, 0);
+    memcpy(d + 4, k->teid, 4);
+    memcpy(d + 8, k->sequence, 3);
+    if (one_in(3))
+      word(chance(), (int)below(5));
+  } else {
+    unsigned back = below(one_in(4) ? EARLIER : 12);
+    unsigned i = (latest + EARLIER - back) % EARLIER;
+    length = earlier_sizes[i];
+    memcpy(d, earlier[i], MOST);
+  }
+  if (one_in(12) && length > 11) {
+    static const uint8_t at[] = { 1, 4, 5, 6, 7, 8, 9, 10 };
+    unsigned which = at[below(sizeof at)];
+    d[which] ^= which == 1 ? 34 ^ 36 : 1u << below(8);
+  }
+}
+
 void control_datagram(unsigned kind) {
   uint32_t sequence = one_in(30) ? chance() & 0xFFFFFF : below(6);
   int k = some_place(TAKEN);
@@ -240,6 +276,9 @@ void control_datagram(unsigned kind) {
     shuffled(p, 1);
     break;
   }
+  case AGAIN:
+    asked_again();
+    break;
   default:
     length = below(40);
     for (size_t i = 0; i < length; i++)
@@ -251,6 +290,8 @@ void control_datagram(unsigned kind) {
     d[2] = (uint8_t)((length - 4) >> 8);
     d[3] = (uint8_t)(length - 4);
   }
+  if (kind == 34 || kind == 36)
+    remember();
 }
 
 void user_datagram(void) {

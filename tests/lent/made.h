@@ -1,11 +1,11 @@
-/* What the trial makes up: plans and tables (made.c), datagrams (datagrams.c) and packets from the carrier's
- * side (packets.c), sound and broken, for the calls of stress.c. */
+/* What the trial makes up: plans and tables (made.c), stores (stores.c), datagrams (datagrams.c) and packets
+ * from the carrier's side (packets.c), sound and broken, for the calls of stress.c. */
 #ifndef MADE_H
 #define MADE_H
 #include "../reading/reading.h"
 
-/* records and octets that a side has, and the octets of no meaning around each buffer */
-enum { ROOM = GRUGAVORN_PLACES + 16, MOST = 640, BUFFER = 256, AROUND = 64 };
+/* records, rows and octets that a side has, and the octets of no meaning around each buffer */
+enum { ROOM = GRUGAVORN_PLACES + 16, ROWS = GRUGAVORN_KEPT + 8, MOST = 640, BUFFER = 256, AROUND = 64 };
 
 /* what one side works on */
 typedef struct {
@@ -16,6 +16,8 @@ typedef struct {
   uint8_t c[AROUND];
   uint8_t reply[BUFFER];
   uint8_t d[AROUND];
+  grugavorn_kept store[ROWS];
+  uint8_t e[AROUND];
 } arena;
 
 /* the library's side, and the node and the length of the datagram, which both sides have */
@@ -38,8 +40,11 @@ enum { TAKEN = GRUGAVORN_CLOSING + 1, AWAITED };
 
 int some_place(int kind);
 
-/* A control datagram of a type (0: octets of no meaning) and a user datagram, into `lent`; and damage to what
- * stands there, `less` being what its length leaves out. */
+/* A control datagram of a type (0: octets of no meaning; AGAIN: an earlier Modify or Delete, or one that a
+ * row of the store was kept for) and a user datagram, into `lent`; and damage to what stands there, `less`
+ * being what its length leaves out. */
+enum { AGAIN = 256 };
+
 void control_datagram(unsigned type);
 void user_datagram(void);
 void damage(unsigned less);
@@ -75,4 +80,10 @@ int same_ends(const ends *a, const ends *b);
 /* a table that breaks a rule, or may; places that were used before, and numbers about to go round */
 void break_table(void);
 void age(void);
+
+/* a store that keeps its rules, with used rows anywhere; one that breaks one, or may; a used row, or any
+ * where there is none */
+void some_store(void);
+void break_store(void);
+grugavorn_kept *some_row(void);
 #endif

@@ -1,12 +1,10 @@
 /* Recovery with its turn: every pair of a stored and a received value, in each message that carries one, on a
- * table with sessions. Each call is compared with the reading. Besides, and without the reading, what became
- * of the value is told by the sessions and the node that the library left, and counted; and where it was
- * late, all has to be as after the same message without Recovery. */
+ * table with sessions and kept replies. Each call is compared with the reading. Besides, and without the
+ * reading, what became of the value is told by the sessions, the store and the node that the library left,
+ * and counted; and where it was late, all has to be as after the same message without Recovery. */
 #include "trial.h"
 #include <stdio.h>
 #include <string.h>
-
-typedef grugavorn_session session;
 
 /* SESSIONS: taken places, of which CLOSED is closing, and PERSON that of the person whose Create comes; OWN:
  * the number of the unit's echo; SEQUENCE: that of the Create; FIELD: the octets of Recovery, which stands
@@ -31,16 +29,8 @@ static void prepare(int message) {
   node.echo.sends = 1;
   node.echo.number = OWN;
   node.next = OWN + 1;
-  for (int i = 0; i < SESSIONS; i++) {
-    session *s = &lent.records[i];
-    s->imsi = 440101000000001ull + (unsigned)i;
-    s->usage = 1 + (unsigned)i;
-    s->control = s->user = 0x100 + (unsigned)i;
-    s->controladdr = s->useraddr = 0x0A010008;
-    s->created = 0x40 + (unsigned)i;
-    s->ebi = 5;
-    s->state = i == CLOSED ? GRUGAVORN_CLOSING : GRUGAVORN_LIVE;
-  }
+  live_sessions(SESSIONS);
+  lent.records[CLOSED].state = GRUGAVORN_CLOSING;
   lent.records[CLOSED].own.timer = 1;
   lent.records[CLOSED].own.sends = 2;
   lent.records[CLOSED].own.number = OWN - 1;
@@ -48,6 +38,10 @@ static void prepare(int message) {
     lent.records[PERSON].imsi = 440101000000000ull;
   if (message == REPEAT)
     lent.records[PERSON].created = SEQUENCE;
+  seed = 1 + (unsigned)message;
+  do
+    some_store();
+  while (some_row()->life == 0);
 }
 
 /* the sessions that the library left; and of those before it, the ones that are there still, as they were */
@@ -65,16 +59,30 @@ static int stayed(void) {
   return all;
 }
 
-/* What became of a value: it was stored and the sessions stayed, it was stored and they went (and a Create
- * had its place), it was not stored and they stayed; or something else. */
+/* whether the store is as it was, and whether it is but for the lives of all rows, which are 0 */
+static int store_stayed(void) {
+  return memcmp(lent.store, before.store, sizeof lent.store) == 0;
+}
+
+static int store_emptied(void) {
+  static grugavorn_kept lifeless[GRUGAVORN_KEPT];
+  memcpy(lifeless, before.store, sizeof lifeless);
+  for (int i = 0; i < GRUGAVORN_KEPT; i++)
+    lifeless[i].life = 0;
+  return memcmp(lent.store, lifeless, sizeof lifeless) == 0;
+}
+
+/* What became of a value: it was stored and the sessions and kept replies stayed, it was stored and they went
+ * (and a Create had its place), it was not stored and they stayed; or something else. */
 enum { SAME, RESTARTED, LATE, ELSE };
 
 static int became(int message, const grugavorn_node *left, unsigned received) {
   int stored = left->heard == 1 && left->recovery == received;
   int kept = left->heard == node.heard && left->recovery == node.recovery;
-  if (stayed() == SESSIONS - (message == REPLACING) && taken() == SESSIONS + (message == NEW))
+  if (stayed() == SESSIONS - (message == REPLACING) && taken() == SESSIONS + (message == NEW)
+      && store_stayed())
     return stored ? SAME : kept ? LATE : ELSE;
-  return stored && stayed() == 0 && taken() == (message >= NEW) ? RESTARTED : ELSE;
+  return stored && stayed() == 0 && taken() == (message >= NEW) && store_emptied() ? RESTARTED : ELSE;
 }
 
 /* what the message comes to without Recovery */
@@ -86,8 +94,8 @@ typedef struct {
 static void without(outcome *o, const arena *table) {
   o->side = *table;
   o->side.datagram[3] -= FIELD;
-  o->left = grugavorn_control(node, o->side.records, GRUGAVORN_PLACES, o->side.datagram, length - FIELD,
-                              o->side.reply, GRUGAVORN_REPLY);
+  o->left = grugavorn_control(node, o->side.records, GRUGAVORN_PLACES, o->side.store, GRUGAVORN_KEPT,
+                              o->side.datagram, length - FIELD, o->side.reply, GRUGAVORN_REPLY);
 }
 
 static int as_without(const outcome *o, const grugavorn_left *a) {
@@ -96,7 +104,8 @@ static int as_without(const outcome *o, const grugavorn_left *a) {
       return 0;
   return a->number == o->left.number && a->size == o->left.size && a->from == o->left.from
          && a->to == o->left.to && same_node(&a->node, &o->left.node)
-         && memcmp(o->side.reply, lent.reply, BUFFER) == 0;
+         && memcmp(o->side.reply, lent.reply, BUFFER) == 0
+         && memcmp(o->side.store, lent.store, sizeof lent.store) == 0;
 }
 
 /* A stored value (`heard` 0: none is) and each that may be received; counts what became of them. */

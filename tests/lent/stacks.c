@@ -15,31 +15,32 @@ static void work(int call) {
   for (;;) {
     switch (call) {
     case FRESH:
-      job.left = grugavorn_fresh(job.plan, job.records, job.count);
+      job.left = grugavorn_fresh(job.plan, job.records, job.count, job.store, job.rows);
       break;
     case CONTROL:
-      job.left =
-          grugavorn_control(node, job.records, job.count, job.datagram, job.length, job.reply, job.room);
+      job.left = grugavorn_control(node, job.records, job.count, job.store, job.rows, job.datagram,
+                                   job.length, job.reply, job.room);
       break;
     case USER:
-      job.handed =
-          grugavorn_user(node, job.records, job.count, job.datagram, job.length, job.reply, job.room);
+      job.handed = grugavorn_user(node, job.records, job.count, job.store, job.rows, job.datagram, job.length,
+                                  job.reply, job.room);
       break;
     case TICK:
-      job.left = grugavorn_tick(node, job.records, job.count);
+      job.left = grugavorn_tick(node, job.records, job.count, job.store, job.rows);
       break;
     case SEND:
-      job.left = grugavorn_send(node, job.records, job.count, job.reply, job.room);
+      job.left = grugavorn_send(node, job.records, job.count, job.store, job.rows, job.reply, job.room);
       break;
     case CLOSE:
-      job.left = grugavorn_close(node, job.records, job.count, job.place);
+      job.left = grugavorn_close(node, job.records, job.count, job.store, job.rows, job.place);
       break;
     case LINE:
-      job.left = grugavorn_line(node, job.records, job.count, job.place, job.reply, job.room);
+      job.left =
+          grugavorn_line(node, job.records, job.count, job.store, job.rows, job.place, job.reply, job.room);
       break;
     case DOWN:
-      job.written = grugavorn_down(node, job.records, job.count, packet_of(&ends_lent), packet_size,
-                                   out_of(&ends_lent), out_size);
+      job.written = grugavorn_down(node, job.records, job.count, job.store, job.rows, packet_of(&ends_lent),
+                                   packet_size, out_of(&ends_lent), out_size);
       break;
     }
     swapcontext(&there[call], &home);
@@ -65,9 +66,11 @@ long deepest(int call) {
   return DEEP - i;
 }
 
-grugavorn_left run_on(int call, size_t count, size_t room, size_t place) {
+grugavorn_left run_on(int call, size_t count, size_t rows, size_t room, size_t place) {
   job.records = lent.records;
   job.count = count;
+  job.store = lent.store;
+  job.rows = rows;
   job.datagram = lent.datagram;
   job.length = length;
   job.reply = lent.reply;

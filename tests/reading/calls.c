@@ -1,11 +1,12 @@
-/* The seven calls of document 01 as it says, each with its numbers in the paper's order; Recovery as document
- * 02 has it. */
+/* The seven calls of document 01 as it says, each with its numbers in the paper's order; Recovery and the
+ * kept replies as document 02 has them. */
 #include "reading.h"
 #include <stdio.h>
 #include <string.h>
 
 typedef grugavorn_session session;
 typedef grugavorn_node node_t;
+typedef grugavorn_kept kept;
 
 /* ---- small things */
 static grugavorn_left answer(unsigned number, size_t size, node_t n) {
@@ -58,15 +59,17 @@ static int holder(const session *t, uint32_t teid, unsigned offset) {
 
 /* Recovery of the exchange; answers whether it restarted. "Let d be received minus stored, modulo 256.
  * 0: same. 1 to 127: restarted. 128 to 255: late, the value is thrown away and the sessions stay." The first
- * value seen is stored and frees nothing, as if it were the same. */
-static int hear(node_t *n, session *t, unsigned value) {
+ * value seen is stored and frees nothing, as if it were the same. What frees everything empties the store. */
+static int hear(node_t *n, session *t, kept *store, unsigned value) {
   if (value == READING_NO_RECOVERY)
     return 0;
   unsigned d = n->heard == 0 ? 0 : (value - n->recovery) % 256;
   if (d >= 128)
     return 0;
-  if (d >= 1)
+  if (d >= 1) {
     free_all(t);
+    reading_empty(store);
+  }
   n->heard = 1;
   n->recovery = (uint8_t)value;
   return d >= 1;
@@ -88,14 +91,15 @@ static grugavorn_left accepted(node_t n, const session *t, int place, uint32_t s
   return answer(0, reading_write_created(reply, &n.plan, &t[place], (unsigned)place, sequence), n);
 }
 
-static grugavorn_left create(node_t n, session *t, reading_octets m, uint32_t sequence, uint8_t *reply) {
+static grugavorn_left create(node_t n, session *t, kept *store, reading_octets m, uint32_t sequence,
+                             uint8_t *reply) {
   session s;
   uint32_t to;
   memset(&s, 0, sizeof s);
   reading_fault f = reading_create(m, &n.plan, &s, &to);
   if (f.cause != 0)
     return refuse(f, 33, to, sequence, n, reply);
-  int again = hear(&n, t, reading_recovery(m)), replaced = -1;
+  int again = hear(&n, t, store, reading_recovery(m)), replaced = -1;
   for (int i = 0; i < GRUGAVORN_PLACES; i++)
     if (t[i].state != GRUGAVORN_FREE && t[i].imsi == s.imsi && t[i].ebi == s.ebi) {
       if (t[i].point == s.point && t[i].created == sequence)
@@ -157,6 +161,21 @@ static grugavorn_left delete_session(node_t n, session *t, reading_octets m, uin
   return over_one(answer(0, reading_write_deleted(reply, peer, sequence), n), place);
 }
 
+/* "The store is asked after check 8 (TEID), before 64." A request that is there "gets the kept reply octet
+ * for octet, with its number, and changes nothing"; the reply to another is kept, whatever its number. */
+static grugavorn_left modify_or_delete(node_t n, session *t, kept *store, const reading_head *h,
+                                       reading_octets m, uint8_t *reply) {
+  const kept *k = reading_asked(store, h);
+  if (k != NULL) {
+    memcpy(reply, k->reply, k->size);
+    return answer(k->number, k->size, n);
+  }
+  grugavorn_left a = h->kind == 34 ? modify(n, t, m, h->teid, h->sequence, reply)
+                                   : delete_session(n, t, m, h->teid, h->sequence, reply);
+  reading_keep(store, h, a.number, a.size, reply);
+  return a;
+}
+
 /* ---- the reply to a Delete Bearer */
 static grugavorn_left bearer_answered(node_t n, session *t, reading_octets m, uint32_t teid,
                                       uint32_t sequence) {
@@ -178,11 +197,11 @@ static grugavorn_left bearer_deleted(node_t n, session *t, reading_octets m, uin
 }
 
 /* ---- take control datagram: 1, 2, those of the header, then by type */
-grugavorn_left reading_control(node_t n, session *t, size_t count, const uint8_t *d, size_t length,
-                               uint8_t *reply, size_t room) {
+grugavorn_left reading_control(node_t n, session *t, size_t count, kept *store, size_t rows, const uint8_t *d,
+                               size_t length, uint8_t *reply, size_t room) {
   if (room < GRUGAVORN_REPLY)
     return answer(1, 0, n);
-  if (!reading_rules_kept(&n, t, count))
+  if (!reading_rules_kept(&n, t, count, store, rows))
     return answer(2, 0, n);
   reading_head h = reading_control_head(d, length);
   if (h.number == 5)
@@ -192,24 +211,23 @@ grugavorn_left reading_control(node_t n, session *t, size_t count, const uint8_t
   reading_octets m = { d + h.fields, length - h.fields };
   switch (h.kind) {
   case 1: {
-    int again = !reading_overruns(m) && hear(&n, t, reading_recovery(m));
+    int again = !reading_overruns(m) && hear(&n, t, store, reading_recovery(m));
     grugavorn_left a = answer(0, reading_write_echo(reply, 2, h.sequence, n.plan.recovery), n);
     return again ? over_all(a) : a;
   }
   case 2: {
     if (n.echo.sends == 0 || n.echo.number != h.sequence || reading_overruns(m))
       return answer(9, 0, n);
-    int again = hear(&n, t, reading_recovery(m));
+    int again = hear(&n, t, store, reading_recovery(m));
     n.echo.timer = n.plan.interval;
     n.echo.sends = 0;
     return again ? over_all(answer(0, 0, n)) : answer(0, 0, n);
   }
   case 32:
-    return create(n, t, m, h.sequence, reply);
+    return create(n, t, store, m, h.sequence, reply);
   case 34:
-    return modify(n, t, m, h.teid, h.sequence, reply);
   case 36:
-    return delete_session(n, t, m, h.teid, h.sequence, reply);
+    return modify_or_delete(n, t, store, &h, m, reply);
   case 100:
     return bearer_deleted(n, t, m, h.teid, h.sequence);
   default:
@@ -218,8 +236,8 @@ grugavorn_left reading_control(node_t n, session *t, size_t count, const uint8_t
 }
 
 /* ---- take user datagram: 1, 2, those of the header, 15 */
-grugavorn_handed reading_user(node_t n, const session *t, size_t count, const uint8_t *d, size_t length,
-                              uint8_t *reply, size_t room) {
+grugavorn_handed reading_user(node_t n, const session *t, size_t count, const kept *store, size_t rows,
+                              const uint8_t *d, size_t length, uint8_t *reply, size_t room) {
   grugavorn_handed h;
   memset(&h, 0, sizeof h);
   h.start = length;
@@ -227,7 +245,7 @@ grugavorn_handed reading_user(node_t n, const session *t, size_t count, const ui
     h.number = 1;
     return h;
   }
-  if (!reading_rules_kept(&n, t, count)) {
+  if (!reading_rules_kept(&n, t, count, store, rows)) {
     h.number = 2;
     return h;
   }
@@ -254,12 +272,13 @@ grugavorn_handed reading_user(node_t n, const session *t, size_t count, const ui
 }
 
 /* ---- fresh: 2, 16 */
-grugavorn_left reading_fresh(grugavorn_plan plan, session *t, size_t count) {
+grugavorn_left reading_fresh(grugavorn_plan plan, session *t, size_t count, kept *store, size_t rows) {
   node_t n;
   memset(&n, 0, sizeof n);
-  if (count != GRUGAVORN_PLACES)
+  if (count != GRUGAVORN_PLACES || rows != GRUGAVORN_KEPT)
     return answer(2, 0, n);
   memset(t, 0, GRUGAVORN_PLACES * sizeof *t);
+  memset(store, 0, GRUGAVORN_KEPT * sizeof *store);
   if (!reading_plan_fits(&plan))
     return over_all(answer(16, 0, n));
   n.plan = plan;
@@ -267,14 +286,15 @@ grugavorn_left reading_fresh(grugavorn_plan plan, session *t, size_t count) {
   return over_all(answer(0, 0, n));
 }
 
-/* ---- tick: 2. What is due and unsent is not counted */
+/* ---- tick: 2. What is due and unsent is not counted; kept replies grow older, whatever else it does */
 static int given_up(const grugavorn_request *r, const grugavorn_plan *p) {
   return r->timer == 1 && r->sends >= p->sends;
 }
 
-grugavorn_left reading_tick(node_t n, session *t, size_t count) {
-  if (!reading_rules_kept(&n, t, count))
+grugavorn_left reading_tick(node_t n, session *t, size_t count, kept *store, size_t rows) {
+  if (!reading_rules_kept(&n, t, count, store, rows))
     return answer(2, 0, n);
+  reading_age(store);
   if (given_up(&n.echo, &n.plan)) {
     n.echo.timer = n.plan.interval;
     n.echo.sends = 0;
@@ -320,10 +340,11 @@ static void sent(node_t *n, session *t, grugavorn_request *r) {
   r->timer = n->plan.resend;
 }
 
-grugavorn_left reading_send(node_t n, session *t, size_t count, uint8_t *reply, size_t room) {
+grugavorn_left reading_send(node_t n, session *t, size_t count, const kept *store, size_t rows,
+                            uint8_t *reply, size_t room) {
   if (room < GRUGAVORN_REPLY)
     return answer(1, 0, n);
-  if (!reading_rules_kept(&n, t, count))
+  if (!reading_rules_kept(&n, t, count, store, rows))
     return answer(2, 0, n);
   if (n.echo.timer == 0) {
     sent(&n, t, &n.echo);
@@ -338,8 +359,9 @@ grugavorn_left reading_send(node_t n, session *t, size_t count, uint8_t *reply, 
 }
 
 /* ---- close: 2, 10 */
-grugavorn_left reading_close(node_t n, session *t, size_t count, size_t place) {
-  if (!reading_rules_kept(&n, t, count))
+grugavorn_left reading_close(node_t n, session *t, size_t count, const kept *store, size_t rows,
+                             size_t place) {
+  if (!reading_rules_kept(&n, t, count, store, rows))
     return answer(2, 0, n);
   if (place >= GRUGAVORN_PLACES || t[place].state == GRUGAVORN_FREE)
     return answer(10, 0, n);
@@ -348,11 +370,11 @@ grugavorn_left reading_close(node_t n, session *t, size_t count, size_t place) {
 }
 
 /* ---- line: 1, 2, 10 */
-grugavorn_left reading_line(node_t n, const session *t, size_t count, size_t place, uint8_t *reply,
-                            size_t room) {
+grugavorn_left reading_line(node_t n, const session *t, size_t count, const kept *store, size_t rows,
+                            size_t place, uint8_t *reply, size_t room) {
   if (room < GRUGAVORN_REPLY)
     return answer(1, 0, n);
-  if (!reading_rules_kept(&n, t, count))
+  if (!reading_rules_kept(&n, t, count, store, rows))
     return answer(2, 0, n);
   if (place >= GRUGAVORN_PLACES)
     return answer(10, 0, n);

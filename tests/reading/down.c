@@ -22,10 +22,11 @@ static int addressee(const grugavorn_plan *p, const grugavorn_session *t, uint32
 
 /* ---- downlink: 2, 18, 19, 20 */
 grugavorn_written reading_down(grugavorn_node n, const grugavorn_session *t, size_t count,
-                               const uint8_t *packet, size_t length, uint8_t *out, size_t room) {
+                               const grugavorn_kept *store, size_t rows, const uint8_t *packet, size_t length,
+                               uint8_t *out, size_t room) {
   grugavorn_written w;
   memset(&w, 0, sizeof w);
-  if (!reading_rules_kept(&n, t, count)) {
+  if (!reading_rules_kept(&n, t, count, store, rows)) {
     w.number = 2;
     return w;
   }

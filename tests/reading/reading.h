@@ -5,7 +5,8 @@
  *   control.c   control datagrams: their header, their fields, what each type carries
  *   messages.c  the octets of every message that the unit writes
  *   table.c     the plan's limits, what a record is held to, the counts of the sharing rule
- *   rules.c     the table's rules, slow on purpose; tests/speed has a quick one in its place
+ *   rules.c     the rules of table and store, slow on purpose; tests/speed has a quick one in its place
+ *   store.c     the store of kept replies: asked, kept, aged, emptied
  *   calls.c     the seven calls of document 01
  *   down.c      the eighth, which document 02 adds: downlink */
 #ifndef READING_H
@@ -19,19 +20,26 @@
 #endif
 
 /* ---- the calls (calls.c, down.c) */
-grugavorn_left reading_fresh(grugavorn_plan plan, grugavorn_session *records, size_t count);
+grugavorn_left reading_fresh(grugavorn_plan plan, grugavorn_session *records, size_t count,
+                             grugavorn_kept *store, size_t rows);
 grugavorn_left reading_control(grugavorn_node node, grugavorn_session *records, size_t count,
-                               const uint8_t *datagram, size_t length, uint8_t *reply, size_t room);
+                               grugavorn_kept *store, size_t rows, const uint8_t *datagram, size_t length,
+                               uint8_t *reply, size_t room);
 grugavorn_handed reading_user(grugavorn_node node, const grugavorn_session *records, size_t count,
-                              const uint8_t *datagram, size_t length, uint8_t *reply, size_t room);
-grugavorn_left reading_tick(grugavorn_node node, grugavorn_session *records, size_t count);
-grugavorn_left reading_send(grugavorn_node node, grugavorn_session *records, size_t count, uint8_t *reply,
+                              const grugavorn_kept *store, size_t rows, const uint8_t *datagram,
+                              size_t length, uint8_t *reply, size_t room);
+grugavorn_left reading_tick(grugavorn_node node, grugavorn_session *records, size_t count,
+                            grugavorn_kept *store, size_t rows);
+grugavorn_left reading_send(grugavorn_node node, grugavorn_session *records, size_t count,
+                            const grugavorn_kept *store, size_t rows, uint8_t *reply, size_t room);
+grugavorn_left reading_close(grugavorn_node node, grugavorn_session *records, size_t count,
+                             const grugavorn_kept *store, size_t rows, size_t place);
+grugavorn_left reading_line(grugavorn_node node, const grugavorn_session *records, size_t count,
+                            const grugavorn_kept *store, size_t rows, size_t place, uint8_t *reply,
                             size_t room);
-grugavorn_left reading_close(grugavorn_node node, grugavorn_session *records, size_t count, size_t place);
-grugavorn_left reading_line(grugavorn_node node, const grugavorn_session *records, size_t count, size_t place,
-                            uint8_t *reply, size_t room);
 grugavorn_written reading_down(grugavorn_node node, const grugavorn_session *records, size_t count,
-                               const uint8_t *packet, size_t length, uint8_t *out, size_t room);
+                               const grugavorn_kept *store, size_t rows, const uint8_t *packet, size_t length,
+                               uint8_t *out, size_t room);
 
 /* ---- user datagrams (user.c) */
 
@@ -128,5 +136,14 @@ READING_PART int reading_record_fits(const grugavorn_session *s, const grugavorn
 READING_PART unsigned reading_sessions(const grugavorn_session *t, unsigned point);
 READING_PART unsigned reading_shared(const grugavorn_session *t, const grugavorn_plan *plan);
 
-READING_PART int reading_rules_kept(const grugavorn_node *node, const grugavorn_session *t, size_t count);
+READING_PART int reading_rules_kept(const grugavorn_node *node, const grugavorn_session *t, size_t count,
+                                    const grugavorn_kept *store, size_t rows);
+
+/* ---- the store (store.c), of 32 rows: the kept reply to a request with this header, or null; a reply is
+ * kept; a tick; a restart of the exchange */
+READING_PART const grugavorn_kept *reading_asked(const grugavorn_kept *store, const reading_head *h);
+READING_PART void reading_keep(grugavorn_kept *store, const reading_head *h, unsigned number, size_t size,
+                               const uint8_t *reply);
+READING_PART void reading_age(grugavorn_kept *store);
+READING_PART void reading_empty(grugavorn_kept *store);
 #endif

@@ -7,5 +7,6 @@
 #include "../reading/messages.c"
 #include "../reading/table.c"
 #include "rules.c"
+#include "../reading/store.c"
 #include "../reading/calls.c"
 #include "../reading/down.c"

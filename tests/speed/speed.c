@@ -1,11 +1,12 @@
 /* One call again and again, on the proved library or on the plain implementation (plain.c), for counting
- * instructions; and a comparison of what the two answer. The same table, node and datagram go into every
- * call: what a call changes is put back after it.
+ * instructions; and a comparison of what the two answer. The same table, store, node and datagram go into
+ * every call: what a call changes is put back after it. Behind a + stands how many replies are kept; without
+ * it there is none, but the one to a request that is asked again.
  *   speed check
  *       every call with every number of sessions, both ways: answers, tables and buffers are equal
- *   speed library|plain CALL LIVE COUNT [LENT]
- *       COUNT calls with so many live sessions; LENT records are lent, all places where it is not said: any
- *       other number is refused (2) with no record looked at
+ *   speed library|plain CALL LIVE COUNT [LENT ROWS]
+ *       COUNT calls with so many live sessions; LENT records and ROWS rows of the store are lent, all where
+ *       it is not said: any other number is refused (2) with none of them looked at
  *   speed time library|plain CALL LIVE COUNT
  *       the same, and prints the nanoseconds a call */
 #define _POSIX_C_SOURCE 199309L /* for the clock */
@@ -19,9 +20,10 @@
 enum { PLACES = GRUGAVORN_PLACES, LONGEST = 1400 };
 
 static grugavorn_session first[PLACES], records[PLACES];
+static grugavorn_kept first_store[GRUGAVORN_KEPT], store[GRUGAVORN_KEPT];
 static grugavorn_node node;
 static uint8_t reply[GRUGAVORN_REPLY], datagram[LONGEST], out[LONGEST + GRUGAVORN_HEAD];
-static size_t size, lent = PLACES;
+static size_t size, lent = PLACES, rows = GRUGAVORN_KEPT;
 
 static void octets(const char *hex) {
   for (size = 0; hex[0]; hex += 2) {
@@ -81,7 +83,7 @@ static void table(unsigned live, int closing, unsigned ceiling) {
   p.count = 2;
   set_point(&p.points[0], "\4data", ceiling);
   set_point(&p.points[1], "\4grid", PLACES);
-  node = reading_fresh(p, first, PLACES).node;
+  node = reading_fresh(p, first, PLACES, first_store, GRUGAVORN_KEPT).node;
   for (unsigned i = 0; i < live; i++) {
     grugavorn_session *s = &first[i];
     s->imsi = 440101000000000ull + 7919u * i;
@@ -101,12 +103,23 @@ static void table(unsigned live, int closing, unsigned ceiling) {
   }
   if (closing)
     node.next = live;
-  memcpy(records, first, sizeof records);
 }
 
-static const char *const calls[] = { "packet", "user-echo", "user-short",   "down-128", "down-1400", "echo",
-                                     "late",   "create",    "repeat",       "no-room",  "no-filler", "modify",
-                                     "delete", "tick",      "tick-closing", "send",     "close",     "line" };
+/* so many replies to Deletes, each of another session, their numbers one after the other, the newest first */
+static void keep(unsigned replies) {
+  memmove(first_store + replies, first_store, (GRUGAVORN_KEPT - replies) * sizeof *first_store);
+  for (unsigned i = 0; i < replies; i++)
+    first_store[replies - 1 - i] = (grugavorn_kept){
+      36, { 0, 3, (uint8_t)i }, { 0, 0, 2, (uint8_t)i }, GRUGAVORN_LIFE, 0, 18, { 0x48 }
+    };
+}
+
+static const char *const calls[] = {
+  "packet",    "packet+1",  "packet+32",    "user-echo", "user-short", "user-short+1", "user-short+32",
+  "down-128",  "down-1400", "echo",         "late",      "create",     "repeat",       "no-room",
+  "no-filler", "modify",    "modify-again", "delete",    "delete+32",  "delete-again", "delete-again+31",
+  "tick",      "tick+32",   "tick-closing", "send",      "close",      "line"
+};
 
 static int is(const char *call, const char *name) {
   return strcmp(call, name) == 0;
@@ -126,14 +139,13 @@ static int is_down(const char *call) {
   return call[0] == 'd' && call[1] == 'o';
 }
 
-/* the table and the datagram of a call; 0 where it makes no sense with so many sessions */
-static int prepare(const char *call, unsigned live) {
-  int closing = is(call, "tick-closing"), last = is(call, "create") && live == PLACES;
-  if (live == 0
-      && (is(call, "repeat") || is(call, "no-room") || is(call, "modify") || is(call, "delete")
-          || is_down(call) || closing))
-    return 0;
-  table(last ? PLACES - 1 : live, closing, is(call, "no-room") ? live : PLACES);
+/* a Modify or a Delete */
+static int is_request(const char *call) {
+  return call[0] == 'm' || (call[0] == 'd' && call[1] == 'e');
+}
+
+/* the datagram of a call, and of the table what is its own */
+static void make(const char *call, unsigned live) {
   if (is(call, "packet")) {
     octets("30FF00040000018045000000");
     datagram[7] = (uint8_t)(live == 0 ? 128 : 127 + live);
@@ -158,16 +170,33 @@ static int prepare(const char *call, unsigned live) {
     create(7919 * (live - 1));
     datagram[9] = (uint8_t)((0x100 + live - 1) >> 8);
     datagram[10] = (uint8_t)(0x100 + live - 1);
-  } else if (is(call, "modify")) {
-    octets("4822001500000100000200005700090086000033330A010077");
-    datagram[7] = (uint8_t)(live - 1);
-  } else if (is(call, "delete")) {
-    octets("482400080000010000020000");
+  } else if (is_request(call)) {
+    octets(call[0] == 'm' ? "4822001500000100000200005700090086000033330A010077"
+                          : "482400080000010000020000");
     datagram[7] = (uint8_t)(live - 1);
   } else if (is(call, "send") && live != 0) {
     first[live - 1].state = GRUGAVORN_CLOSING;
-    memcpy(records, first, sizeof records);
   }
+}
+
+/* the table, the store and the datagram of a call; 0 where it makes no sense with so many sessions */
+static int prepare(const char *name, unsigned live) {
+  char call[32] = "";
+  const char *plus = strchr(name, '+');
+  memcpy(call, name, strcspn(name, "+"));
+  int closing = is(call, "tick-closing"), last = is(call, "create") && live == PLACES;
+  if (live == 0
+      && (is(call, "repeat") || is(call, "no-room") || is_request(call) || is_down(call) || closing))
+    return 0;
+  table(last ? PLACES - 1 : live, closing, is(call, "no-room") ? live : PLACES);
+  make(call, live);
+  memcpy(records, first, sizeof records);
+  if (strstr(call, "-again") != NULL)
+    reading_control(node, records, PLACES, first_store, GRUGAVORN_KEPT, datagram, size, reply, sizeof reply);
+  if (plus != NULL)
+    keep((unsigned)atoi(plus + 1));
+  memcpy(records, first, sizeof records);
+  memcpy(store, first_store, sizeof store);
   return 1;
 }
 
@@ -191,34 +220,36 @@ static int kind_of(const char *call) {
   return is(call, "send") ? 's' : is(call, "close") ? 'x' : is(call, "line") ? 'l' : 'c';
 }
 
+/* what every call begins with */
+#define LENT node, records, lent, store, rows
+
 static void once(const char *call, int plain, unsigned live) {
   size_t place = live == 0 ? 0 : live - 1;
   switch (kind_of(call)) {
   case 'u':
-    handed = plain ? reading_user(node, records, lent, datagram, size, reply, sizeof reply)
-                   : grugavorn_user(node, records, lent, datagram, size, reply, sizeof reply);
+    handed = plain ? reading_user(LENT, datagram, size, reply, sizeof reply)
+                   : grugavorn_user(LENT, datagram, size, reply, sizeof reply);
     break;
   case 'd':
-    written = plain ? reading_down(node, records, lent, datagram, size, out, sizeof out)
-                    : grugavorn_down(node, records, lent, datagram, size, out, sizeof out);
+    written = plain ? reading_down(LENT, datagram, size, out, sizeof out)
+                    : grugavorn_down(LENT, datagram, size, out, sizeof out);
     break;
   case 't':
-    answer = plain ? reading_tick(node, records, lent) : grugavorn_tick(node, records, lent);
+    answer = plain ? reading_tick(LENT) : grugavorn_tick(LENT);
     break;
   case 's':
-    answer = plain ? reading_send(node, records, lent, reply, sizeof reply)
-                   : grugavorn_send(node, records, lent, reply, sizeof reply);
+    answer = plain ? reading_send(LENT, reply, sizeof reply) : grugavorn_send(LENT, reply, sizeof reply);
     break;
   case 'x':
-    answer = plain ? reading_close(node, records, lent, place) : grugavorn_close(node, records, lent, place);
+    answer = plain ? reading_close(LENT, place) : grugavorn_close(LENT, place);
     break;
   case 'l':
-    answer = plain ? reading_line(node, records, lent, place, reply, sizeof reply)
-                   : grugavorn_line(node, records, lent, place, reply, sizeof reply);
+    answer = plain ? reading_line(LENT, place, reply, sizeof reply)
+                   : grugavorn_line(LENT, place, reply, sizeof reply);
     break;
   default:
-    answer = plain ? reading_control(node, records, lent, datagram, size, reply, sizeof reply)
-                   : grugavorn_control(node, records, lent, datagram, size, reply, sizeof reply);
+    answer = plain ? reading_control(LENT, datagram, size, reply, sizeof reply)
+                   : grugavorn_control(LENT, datagram, size, reply, sizeof reply);
   }
 }
 
@@ -251,6 +282,7 @@ static int check(void) {
   for (size_t c = 0; c < sizeof calls / sizeof *calls; c++)
     for (int k = 0; k < 3; k++) {
       grugavorn_session seen[2][PLACES];
+      grugavorn_kept kept[2][GRUGAVORN_KEPT];
       uint8_t said[2][GRUGAVORN_REPLY], packet[2][sizeof out];
       grugavorn_left left[2];
       grugavorn_handed part[2];
@@ -259,6 +291,7 @@ static int check(void) {
         continue;
       for (int plain = 0; plain < 2; plain++) {
         memcpy(records, first, sizeof records);
+        memcpy(store, first_store, sizeof store);
         memset(reply, 0x5A, sizeof reply);
         memset(out, 0x5A, sizeof out);
         memset(&answer, 0, sizeof answer);
@@ -266,6 +299,7 @@ static int check(void) {
         memset(&written, 0, sizeof written);
         once(calls[c], plain, numbers[k]);
         memcpy(seen[plain], records, sizeof records);
+        memcpy(kept[plain], store, sizeof store);
         memcpy(said[plain], reply, sizeof reply);
         memcpy(packet[plain], out, sizeof out);
         left[plain] = answer;
@@ -274,7 +308,8 @@ static int check(void) {
       }
       int same = same_answers(&left[0], &left[1]) && same_parts(&part[0], &part[1])
                  && same_packets(&down[0], &down[1]) && memcmp(said[0], said[1], GRUGAVORN_REPLY) == 0
-                 && memcmp(packet[0], packet[1], sizeof out) == 0;
+                 && memcmp(packet[0], packet[1], sizeof out) == 0
+                 && memcmp(kept[0], kept[1], sizeof store) == 0;
       for (int i = 0; i < PLACES; i++)
         same = same && same_records(&seen[0][i], &seen[1][i]);
       if (!same) {
@@ -291,13 +326,34 @@ static int check(void) {
   return 0;
 }
 
+/* what a call changes in the store: of a request the front row, or where all are used every row; of a tick
+ * the lives; else nothing */
+enum { NOTHING, FRONT, ROWS, LIVES };
+
+static int changed_by(const char *call) {
+  int full = strchr(call, '+') != NULL;
+  if (is_request(call) && strstr(call, "-again") == NULL)
+    return full ? ROWS : FRONT;
+  return call[0] == 't' && full ? LIVES : NOTHING;
+}
+
+static void put_back(int changed) {
+  if (changed == FRONT)
+    store[0] = first_store[0];
+  else if (changed == ROWS)
+    memcpy(store, first_store, sizeof store);
+  else if (changed == LIVES)
+    for (int i = 0; i < GRUGAVORN_KEPT; i++)
+      store[i].life = first_store[i].life;
+}
+
 int main(int argc, char **argv) {
   if (argc == 2 && is(argv[1], "check"))
     return check();
   int timed = argc == 6 && is(argv[1], "time");
   argc -= timed;
   argv += timed;
-  if (argc != 5 && argc != 6)
+  if (argc != 5 && argc != 7)
     return 2;
   int plain = is(argv[1], "plain");
   const char *call = known(argv[2]);
@@ -306,11 +362,14 @@ int main(int argc, char **argv) {
   unsigned live = (unsigned)atoi(argv[3]), sum = 0;
   if (!prepare(call, live))
     return 3;
-  if (argc == 6)
+  if (argc == 7) {
     lent = (size_t)atoi(argv[5]);
+    rows = (size_t)atoi(argv[6]);
+  }
   size_t last = live == 0 || is(call, "create") ? (live == PLACES ? PLACES - 1 : live) : live - 1;
-  int all = call[0] == 't';
-  struct timespec start, end;
+  int all = call[0] == 't', changed = changed_by(call);
+  /* aligned, so that the stack of every call is, and the C library's copies take the same way each time */
+  _Alignas(64) struct timespec start, end;
   clock_gettime(CLOCK_MONOTONIC, &start);
   for (int i = atoi(argv[4]); i > 0; i--) {
     once(call, plain, live);
@@ -319,6 +378,7 @@ int main(int argc, char **argv) {
       memcpy(records, first, sizeof records);
     else
       records[last] = first[last];
+    put_back(changed);
   }
   clock_gettime(CLOCK_MONOTONIC, &end);
   printf("%u\n", sum);

@@ -1,13 +1,14 @@
 """A bench run, input and output side by side, and what each line did to the places.
 
 The numbers and octets are the bench's own. What it does not print (which place an own request or a packet is about,
-which places a Recovery or a tick freed, that a Recovery was late, where a peer is) is followed with the model of the
-paper in tests/bench; where the model prints something else for a line than the bench did, the step says so.
+which places a Recovery or a tick freed, that a Recovery was late, that a reply was a kept one, where a peer is) is
+followed with the model of the paper in tests/bench; where the model prints something else for a line than the bench
+did, the step says so.
 """
 import os
 import sys
 
-from .datagrams import PLACES, USER_BIT, number
+from .datagrams import PLACES, USER_BIT, counted, number
 from .meanings import CONTROL_TYPES, number_words
 
 sys.path.insert(0, os.path.join(os.path.dirname(os.path.abspath(__file__)), "..", "..", "tests", "bench"))
@@ -15,6 +16,7 @@ import gtp  # noqa: E402
 import model  # noqa: E402
 
 SENDER_INTERFACE, CREATE, ECHO = 6, 32, 1
+KEPT_TYPES = {34: "Modify", 36: "Delete"}
 
 
 class Sent:
@@ -46,9 +48,14 @@ class Step:
 
 
 class Unit(model.Unit):
-    """The model's unit, which also says which Recovery a call has read (None: it has read none)."""
+    """The model's unit, which also says which Recovery a call has read, and which kept reply it has answered (None: it
+    has read none, answered none)."""
 
-    read = None
+    read = again = None
+
+    def asked(self, three, body):
+        self.again = next((kept for kept in self.store if kept.three == three), None)
+        return super().asked(three, body)
 
     def read_recovery(self, value):
         self.read = value
@@ -215,14 +222,15 @@ class Run:
 
 
 class Seen:
-    """The places and the stored Recovery before a call."""
+    """The places, the stored Recovery and the kept replies before a call."""
 
     def __init__(self, unit):
         self.places = [(place.state, place.use) for place in unit.places]
         self.peers = [(place.peer, place.peer_address, place.peer_user, place.peer_user_address)
                       for place in unit.places]
         self.stored, self.next, self.echo = unit.stored, unit.next, unit.echo_sent
-        unit.read = None
+        self.store = list(unit.store)
+        unit.read = unit.again = None
 
     def recovery(self, unit):
         """What the Recovery that was read comes to, in words; the same one again, or none, to nothing."""
@@ -237,6 +245,22 @@ class Seen:
         if model.judged(unit.read, self.stored) == model.RESTARTED:
             return [f"the exchange's Recovery went from {self.stored} to {unit.read}: it restarted"]
         return []
+
+    def kept(self, unit, step):
+        """What became of the kept replies, in words: one that was answered, those that are gone."""
+        if unit.again is not None:
+            age = model.LIFE - unit.again.life
+            return [f"a repeat of a {KEPT_TYPES[unit.again.three[0]]}: answered from the kept replies ("
+                    + (f"{counted(age, 'tick')} old" if age else "kept in this tick") + "), nothing changes"]
+        gone = sum(kept not in unit.store for kept in self.store)
+        if not gone:
+            return []
+        if step.letter == "T":
+            return [f"a kept reply is dropped after {model.LIFE} ticks" if gone == 1 else
+                    f"{gone} kept replies are dropped after {model.LIFE} ticks"]
+        if unit.store:
+            return ["the oldest kept reply makes room"]
+        return ["the kept reply is dropped" if gone == 1 else f"all {gone} kept replies are dropped"]
 
     def changes(self, unit, step):
         """What is otherwise now, in words."""
@@ -261,7 +285,7 @@ class Seen:
         taken = step.letter == "C" and step.number == 0 and step.datagram[1:2] == bytes([CREATE])
         if taken and not any("is taken" in text for text in found):
             found.append("a repeat of a Create: no place is taken")
-        return found
+        return found + self.kept(unit, step)
 
 
 def found_before(found):

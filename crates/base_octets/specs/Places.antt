@@ -35,6 +35,12 @@ map-at f [] i d e h = absurd (omega arith)
 map-at f (x ∷ l) zero d e h = refl
 map-at f (x ∷ l) (suc i) d e h = map-at f l i d e (omega arith)
 
+-- an array that a loop fills with f of each element, one step on
+pub fill-step : {A B : Type 0} (f : A → B) (l : List A) (xs : List B) (i : ℕ) (d : A) → i < length l → i < length xs
+    → take i xs ≡ map f (take i l) → take (i + 1) (set xs i (f (getD l i d))) ≡ map f (take (i + 1) l)
+fill-step f l xs i d h k e =
+    rw (add-one, take-suc-set xs i (f (getD l i d)) k, take-suc l i d h, e, map-append f (take i l) (getD l i d ∷ []))
+
 -- ---- a loop that writes every place: f put to the first i elements
 unfoldable pub mapFirst : {A : Type 0} → (A → A) → ℕ → List A → List A
 mapFirst f zero l = l

@@ -127,7 +127,8 @@ pub fn same_octets(a: &[u8], b: &[u8]) -> bool
     true
 }
 
-fn least(a: usize, b: usize) -> usize
+// The lesser of two.
+pub fn least(a: usize, b: usize) -> usize
     ensures { λ r. ⌜ r ≡ min a b ⌝ }
 {
     if a < b { a } else { b }

@@ -35,85 +35,88 @@ goesOn b many line =
 unfoldable pub anewOf : Bench → Bench
 anewOf b = withMade (b .made) benchStart
 
-unfoldable pub startAnew : Bench → List Session → Bool → List ℕ → List ℕ → Ran
-startAnew b t many line out =
-    pick (goesOn b many line) (ran b t out) (ran (anewOf (endOfInput b t out .bench)) (endOfInput b t out .table) (endOfInput b t out .out))
+unfoldable pub startAnew : Bench → List Session → List (List ℕ) → Bool → List ℕ → List ℕ → Ran
+startAnew b t w many line out =
+    pick (goesOn b many line) (ran b t w out)
+    (ran (anewOf (endOfInput b t w out .bench)) (endOfInput b t w out .table) (endOfInput b t w out .store) (endOfInput b t w out .out))
 
 -- ---- what a line of input prints, with the lines at the end of the run before it
-unfoldable pub runPrints : Bench → List Session → Bool → List ℕ → List ℕ
-runPrints b t many line = pick (goesOn b many line) (linePrints line b t) (endPrints b t ++ linePrints line benchStart [])
+unfoldable pub runPrints : Bench → List Session → List (List ℕ) → Bool → List ℕ → List ℕ
+runPrints b t w many line = pick (goesOn b many line) (linePrints line b t w) (endPrints b t w ++ linePrints line benchStart [] [])
 
 -- text that stands whole behind the first octets, and the rest as it was
 unfoldable pub placed : ℕ → List ℕ → List ℕ → List ℕ
 placed made m out = take made out ++ (m ++ drop (made + length m) out)
 
 -- the first line of a fresh run prints the same whatever was printed before
-fresh-prints : (line : List ℕ) (made : ℕ) (t : List Session) → linePrints line (withMade made benchStart) t ≡ linePrints line benchStart []
+fresh-prints : (line : List ℕ) (made : ℕ) (t : List Session) (w : List (List ℕ)) → linePrints line (withMade made benchStart) t w ≡ linePrints line benchStart [] []
 unfolding linePrints toldPrints earlyPrints withMade benchStart withLine firstPhase plans runs
-fresh-prints line made t = refl
+fresh-prints line made t w = refl
 
-module _ (b : Bench) (t : List Session) (many : Bool) (line out : List ℕ) where
+module _ (b : Bench) (t : List Session) (w : List (List ℕ)) (many : Bool) (line out : List ℕ) where
   abbrev start : Ran
-  start = startAnew b t many line out
+  start = startAnew b t w many line out
 
   abbrev after : Ran
-  after = lineTaken line (start .bench) (start .table) (start .out)
+  after = lineTaken line (start .bench) (start .table) (start .store) (start .out)
 
-  runs-add : b .made ≤ length out → Adds (runPrints b t many line) (b .made) out (after .bench .made) (after .out)
+  runs-add : b .made ≤ length out → Adds (runPrints b t w many line) (b .made) out (after .bench .made) (after .out)
   unfolding runPrints startAnew anewOf withMade
   runs-add h =
-      let e = end-adds b t out h in
-      split (goesOn b many line) (λ g. rw g (line-adds line b t out h))
-      (λ g. rw (g, ← fresh-prints line (endOfInput b t out .bench .made) (endOfInput b t out .table))
-      (adds-on _ _ _ _ _ _ _ _ e (line-adds line (withMade (endOfInput b t out .bench .made) benchStart) (endOfInput b t out .table) (endOfInput b t out .out) (adds-within _ _ _ _ _ e))))
+      let x = endOfInput b t w out in
+      let e = end-adds b t w out h in
+      split (goesOn b many line) (λ g. rw g (line-adds line b t w out h))
+      (λ g. rw (g, ← fresh-prints line (x .bench .made) (x .table) (x .store))
+      (adds-on _ _ _ _ _ _ _ _ e (line-adds line (withMade (x .bench .made) benchStart) (x .table) (x .store) (x .out) (adds-within _ _ _ _ _ e))))
 
-pub runs-most : (b : Bench) (t : List Session) (many : Bool) (line : List ℕ) → length (runPrints b t many line) ≤ lineRoom
+pub runs-most : (b : Bench) (t : List Session) (w : List (List ℕ)) (many : Bool) (line : List ℕ) → length (runPrints b t w many line) ≤ lineRoom
 unfolding runPrints benchStart lineRoom placeRoom leastReply
-runs-most b t many line =
-    let l = line-most line b t in
-    let e = end-most b t in
-    let f = first-most line benchStart [] refl in
+runs-most b t w many line =
+    let l = line-most line b t w in
+    let e = end-most b t w in
+    let f = first-most line benchStart [] [] refl in
     split (goesOn b many line) (λ g. rw g (omega arith)) (λ g. rw g (simp length-append (omega arith)))
 
 -- ---- with room for a line nothing is cut
-pub run-whole : (b : Bench) (t : List Session) (many : Bool) (line out : List ℕ) → b .made + lineRoom ≤ length out
-    → (after b t many line out .bench .made ≡ b .made + length (runPrints b t many line))
-    × (after b t many line out .out ≡ placed (b .made) (runPrints b t many line) out)
+pub run-whole : (b : Bench) (t : List Session) (w : List (List ℕ)) (many : Bool) (line out : List ℕ) → b .made + lineRoom ≤ length out
+    → (after b t w many line out .bench .made ≡ b .made + length (runPrints b t w many line))
+    × (after b t w many line out .out ≡ placed (b .made) (runPrints b t w many line) out)
 unfolding placed
-run-whole b t many line out h =
-    let m = runs-most b t many line in
-    adds-whole _ _ _ _ _ (runs-add b t many line out (omega arith)) (omega arith)
+run-whole b t w many line out h =
+    let m = runs-most b t w many line in
+    adds-whole _ _ _ _ _ (runs-add b t w many line out (omega arith)) (omega arith)
 
 -- ---- laws in the words of the walks
-pub anew-on : (b : Bench) (t : List Session) (many : Bool) (line out : List ℕ) (on : Bool) → on ≡ goesOn b many line → on ≡ true
-    → ran b t out ≡ startAnew b t many line out
-unfolding startAnew
-anew-on b t many line out on e f = rw (← e, f)
+module _ (b : Bench) (t : List Session) (w : List (List ℕ)) (many : Bool) (line out : List ℕ) where
+  pub anew-on : (on : Bool) → on ≡ goesOn b many line → on ≡ true → ran b t w out ≡ startAnew b t w many line out
+  unfolding startAnew
+  anew-on on e f = rw (← e, f)
 
-pub anew-off : (b r x : Bench) (t t′ : List Session) (many : Bool) (line out o : List ℕ) (on : Bool) → on ≡ goesOn b many line → on ≡ false
-    → ran x t′ o ≡ endOfInput b t out → r ≡ anewOf x → ran r t′ o ≡ startAnew b t many line out
-unfolding startAnew
-anew-off b r x t t′ many line out o on e f g h = rw (← e, f, ← g, h)
+  pub anew-off : (r x : Bench) (t′ : List Session) (w′ : List (List ℕ)) (o : List ℕ) (on : Bool) → on ≡ goesOn b many line → on ≡ false
+      → ran x t′ w′ o ≡ endOfInput b t w out → r ≡ anewOf x → ran r t′ w′ o ≡ startAnew b t w many line out
+  unfolding startAnew
+  anew-off r x t′ w′ o on e f g h = rw (← e, f, ← g, h)
 
-pub run-placed : (b s c r : Bench) (t t′ t″ : List Session) (many : Bool) (line out o p : List ℕ) → (b .made ≤ mostMade) × (65536 ≤ length out)
-    → ran s t′ o ≡ startAnew b t many line out → ran c t″ p ≡ lineTaken line s t′ o → r .made ≤ mostMade
-    → (r .made ≤ mostMade) × (p ≡ placed (b .made) (runPrints b t many line) out)
-run-placed b s c r t t′ t″ many line out o p h e f g =
-    let k = h .0 in
-    let l = h .1 in
-    let n = room-left in
-    let z : p ≡ after b t many line out .out = ap (λ (x : Ran). x .out) f ∙ ap (λ (x : Ran). lineTaken line (x .bench) (x .table) (x .out) .out) e in
-    (g, z ∙ run-whole b t many line out (omega arith) .1)
+  pub run-placed : (s c r : Bench) (t′ t″ : List Session) (w′ w″ : List (List ℕ)) (o p : List ℕ) → (b .made ≤ mostMade) × (65536 ≤ length out)
+      → ran s t′ w′ o ≡ startAnew b t w many line out → ran c t″ w″ p ≡ lineTaken line s t′ w′ o → r .made ≤ mostMade
+      → (r .made ≤ mostMade) × (p ≡ placed (b .made) (runPrints b t w many line) out)
+  run-placed s c r t′ t″ w′ w″ o p h e f g =
+      let k = h .0 in
+      let l = h .1 in
+      let n = room-left in
+      let z : p ≡ after b t w many line out .out
+      = ap (λ (x : Ran). x .out) f ∙ ap (λ (x : Ran). lineTaken line (x .bench) (x .table) (x .store) (x .out) .out) e in
+      (g, z ∙ run-whole b t w many line out (omega arith) .1)
 
-pub end-placed : (b r : Bench) (t t′ : List Session) (out o : List ℕ) → (b .made ≤ mostMade) × (65536 ≤ length out) → ran r t′ o ≡ endOfInput b t out
-    → o ≡ placed (b .made) (endPrints b t) out
+pub end-placed : (b r : Bench) (t t′ : List Session) (w w′ : List (List ℕ)) (out o : List ℕ) → (b .made ≤ mostMade) × (65536 ≤ length out)
+    → ran r t′ w′ o ≡ endOfInput b t w out → o ≡ placed (b .made) (endPrints b t w) out
 unfolding placed lineRoom placeRoom leastReply
-end-placed b r t t′ out o h e =
+end-placed b r t t′ w w′ out o h e =
     let k = h .0 in
     let l = h .1 in
     let n = room-left in
-    let m = end-most b t in
-    ap (λ (x : Ran). x .out) e ∙ adds-whole _ _ _ _ _ (end-adds b t out (omega arith)) (omega arith) .1
+    let m = end-most b t w in
+    ap (λ (x : Ran). x .out) e ∙ adds-whole _ _ _ _ _ (end-adds b t w out (omega arith)) (omega arith) .1
 
 -- room for a line, carried through the program
 pub room-as : (b c : Bench) (out : List ℕ) → (b .made ≤ mostMade) × (65536 ≤ length out) → c ≡ b → (c .made ≤ mostMade) × (65536 ≤ length out)

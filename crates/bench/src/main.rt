@@ -1,10 +1,11 @@
-// The service bench: reads lines from standard input, puts each to the unit, and prints what it did. The unit's records are one array here, lent
-// to all that follows. The input may be of any length: a buffer is filled, its whole lines are taken, and what is left of the last moves to
+// The service bench: reads lines from standard input, puts each to the unit, and prints what it did. The unit's records are one array here and
+// its store of kept replies another, lent to all that follows. The input may be of any length: a buffer is filled, its whole lines are taken, and what is left of the last moves to
 // the front. Started with any argument, it takes many runs one after another: a line N starts a fresh unit, after the lines at the end of
 // the unit before it.
 use bench_unit::Bench;
 use call_own::Answer;
 use unit_session::Session;
+use unit_store::Kept;
 use unit_tunnel::Unit;
 ghost use mathlib.Core.Path.{_≡_};
 ghost use Prim.Native.Nat.{_≤_};
@@ -84,24 +85,38 @@ fn anew(b: Bench) -> Bench
     bench_unit::with_made(next, b.made)
 }
 
-fn start_anew(b: Bench, recs: &mut [Session], many: bool, line: &[u8], out: &mut [u8]) -> Bench
-    ensures { λ r. ⌜ ran r (now (recs .exit)) (now (out .exit)) ≡ startAnew b (now (recs .entry)) many (now (line .entry)) (now (out .entry)) ⌝ }
+fn start_anew(
+    b: Bench,
+    recs: &mut [Session],
+    store: &mut [[u8; Kept::OCTETS]],
+    many: bool,
+    line: &[u8],
+    out: &mut [u8],
+) -> Bench
+    ensures { λ r. ⌜ ran r (now (recs .exit)) (now (store .exit)) (now (out .exit)) ≡ startAnew b (now (recs .entry)) (now (store .entry)) many (now (line .entry)) (now (out .entry)) ⌝ }
 {
     let on = goes_on(b, many, line);
     if on {
         return b;
     }
-    let e = bench_unit::end_of_input(b, recs, out);
+    let e = bench_unit::end_of_input(b, recs, store, out);
     anew(e)
 }
 
 // What the line prints stands whole behind what was printed before; then there is room for the next.
-fn run_line(b: Bench, recs: &mut [Session], many: bool, line: &[u8], out: &mut [u8]) -> Bench
+fn run_line(
+    b: Bench,
+    recs: &mut [Session],
+    store: &mut [[u8; Kept::OCTETS]],
+    many: bool,
+    line: &[u8],
+    out: &mut [u8],
+) -> Bench
     requires { ⌜ (b .made ≤ mostMade) × (65536 ≤ length (now out)) ⌝ }
-    ensures { λ r. ⌜ (r .made ≤ mostMade) × (now (out .exit) ≡ placed (b .made) (runPrints b (now (recs .entry)) many (now (line .entry))) (now (out .entry))) ⌝ }
+    ensures { λ r. ⌜ (r .made ≤ mostMade) × (now (out .exit) ≡ placed (b .made) (runPrints b (now (recs .entry)) (now (store .entry)) many (now (line .entry))) (now (out .entry))) ⌝ }
 {
-    let a = start_anew(b, recs, many, line, out);
-    let c = bench_run::take_line(a, recs, line, out);
+    let a = start_anew(b, recs, store, many, line, out);
+    let c = bench_run::take_line(a, recs, store, line, out);
     emit_if_full(c, out)
 }
 
@@ -164,18 +179,32 @@ fn turn_after(b: Bench, s: &[u8], t: Turn) -> Turn
     turn_at(b, s, t.end)
 }
 
-fn take_next(t: Turn, recs: &mut [Session], many: bool, s: &[u8], out: &mut [u8]) -> Turn
+fn take_next(
+    t: Turn,
+    recs: &mut [Session],
+    store: &mut [[u8; Kept::OCTETS]],
+    many: bool,
+    s: &[u8],
+    out: &mut [u8],
+) -> Turn
     requires { ⌜ (t .bench .made ≤ mostMade) × (65536 ≤ length (now out)) ⌝ }
     ensures { λ r. ⌜ r .bench .made ≤ mostMade ⌝ }
 {
     let line = line_in(s, t);
     let b = bench_of(t);
-    let c = run_line(b, recs, many, line, out);
+    let c = run_line(b, recs, store, many, line, out);
     turn_after(c, s, t)
 }
 
 // The whole lines taken, up to the end of the run.
-fn lines_in(b: Bench, recs: &mut [Session], many: bool, s: &[u8], out: &mut [u8]) -> Turn
+fn lines_in(
+    b: Bench,
+    recs: &mut [Session],
+    store: &mut [[u8; Kept::OCTETS]],
+    many: bool,
+    s: &[u8],
+    out: &mut [u8],
+) -> Turn
     requires { ⌜ (b .made ≤ mostMade) × (65536 ≤ length (now out)) ⌝ }
     ensures { λ r. ⌜ r .bench .made ≤ mostMade ⌝ }
 {
@@ -187,7 +216,7 @@ fn lines_in(b: Bench, recs: &mut [Session], many: bool, s: &[u8], out: &mut [u8]
         if taken {
             return t;
         }
-        t = take_next(t, recs, many, s, out);
+        t = take_next(t, recs, store, many, s, out);
         i += 1;
     }
     t
@@ -196,6 +225,7 @@ fn lines_in(b: Bench, recs: &mut [Session], many: bool, s: &[u8], out: &mut [u8]
 fn take_lines(
     b: Bench,
     recs: &mut [Session],
+    store: &mut [[u8; Kept::OCTETS]],
     many: bool,
     buf: &[u8],
     end: usize,
@@ -205,7 +235,7 @@ fn take_lines(
     ensures { λ r. ⌜ r .bench .made ≤ mostMade ⌝ }
 {
     let s = bench_unit::front(buf, end);
-    lines_in(b, recs, many, s, out)
+    lines_in(b, recs, store, many, s, out)
 }
 
 // One read behind the `have` octets that are in use: how many are then; as many as before at the end, or where the buffer is full.
@@ -246,7 +276,14 @@ fn keep_rest(buf: &mut [u8], t: Turn, end: usize) -> usize {
 }
 
 // The last line may lack its line end; a buffer that is full holds a line that is too long, which is a bad one.
-fn take_rest(b: Bench, recs: &mut [Session], many: bool, rest: &[u8], out: &mut [u8]) -> Bench
+fn take_rest(
+    b: Bench,
+    recs: &mut [Session],
+    store: &mut [[u8; Kept::OCTETS]],
+    many: bool,
+    rest: &[u8],
+    out: &mut [u8],
+) -> Bench
     requires { ⌜ (b .made ≤ mostMade) × (65536 ≤ length (now out)) ⌝ }
     ensures { λ r. ⌜ r .made ≤ mostMade ⌝ }
 {
@@ -254,23 +291,36 @@ fn take_rest(b: Bench, recs: &mut [Session], many: bool, rest: &[u8], out: &mut 
     if n == 0 {
         return b;
     }
-    run_line(b, recs, many, rest, out)
+    run_line(b, recs, store, many, rest, out)
 }
 
 // What the end of the input prints stands whole behind what was printed before.
-fn end_run(b: Bench, recs: &mut [Session], out: &mut [u8]) -> Bench
+fn end_run(
+    b: Bench,
+    recs: &mut [Session],
+    store: &mut [[u8; Kept::OCTETS]],
+    out: &mut [u8],
+) -> Bench
     requires { ⌜ (b .made ≤ mostMade) × (65536 ≤ length (now out)) ⌝ }
-    ensures { λ r. ⌜ now (out .exit) ≡ placed (b .made) (endPrints b (now (recs .entry))) (now (out .entry)) ⌝ }
+    ensures { λ r. ⌜ now (out .exit) ≡ placed (b .made) (endPrints b (now (recs .entry)) (now (store .entry))) (now (out .entry)) ⌝ }
 {
-    bench_unit::end_of_input(b, recs, out)
+    bench_unit::end_of_input(b, recs, store, out)
 }
 
-fn finish(b: Bench, recs: &mut [Session], many: bool, buf: &[u8], end: usize, out: &mut [u8])
+fn finish(
+    b: Bench,
+    recs: &mut [Session],
+    store: &mut [[u8; Kept::OCTETS]],
+    many: bool,
+    buf: &[u8],
+    end: usize,
+    out: &mut [u8],
+)
     requires { ⌜ (b .made ≤ mostMade) × (65536 ≤ length (now out)) ⌝ }
 {
     let rest = bench_unit::front(buf, end);
-    let c = take_rest(b, recs, many, rest, out);
-    let d = end_run(c, recs, out);
+    let c = take_rest(b, recs, store, many, rest, out);
+    let d = end_run(c, recs, store, out);
     emit(d, out);
 }
 
@@ -282,7 +332,7 @@ fn turns_most() -> usize {
     usize::MAX
 }
 
-fn run(recs: &mut [Session], buf: &mut [u8], out: &mut [u8])
+fn run(recs: &mut [Session], store: &mut [[u8; Kept::OCTETS]], buf: &mut [u8], out: &mut [u8])
     requires { ⌜ 65536 ≤ length (now out) ⌝ }
 {
     let many = is_many();
@@ -293,10 +343,10 @@ fn run(recs: &mut [Session], buf: &mut [u8], out: &mut [u8])
     while i < n {
         let end = fill(buf, have);
         if end == have {
-            finish(b, recs, many, buf, end, out);
+            finish(b, recs, store, many, buf, end, out);
             return;
         }
-        let t = take_lines(b, recs, many, buf, end, out);
+        let t = take_lines(b, recs, store, many, buf, end, out);
         b = bench_of(t);
         let over = is_over(b);
         if over {
@@ -314,6 +364,11 @@ fn records() -> [Session; Unit::PLACES] {
     [nobody; Unit::PLACES]
 }
 
+// Nothing is kept.
+fn rows() -> [[u8; Kept::OCTETS]; Kept::ROWS] {
+    [[0; Kept::OCTETS]; Kept::ROWS]
+}
+
 fn buffer() -> [u8; 65536]
     ensures { λ r. ⌜ length r ≡ 65536 ⌝ }
 {
@@ -322,7 +377,8 @@ fn buffer() -> [u8; 65536]
 
 fn main() {
     let mut recs = records();
+    let mut store = rows();
     let mut buf = buffer();
     let mut out = buffer();
-    run(&mut recs, &mut buf, &mut out);
+    run(&mut recs, &mut store, &mut buf, &mut out);
 }

@@ -11,20 +11,20 @@ use Rattle.bench_text.specs.declared.Line.the-variants.{Node, Point, Control, U
 use Rattle.bench_text.proofs.Line as LT
 use Rattle.bench_unit.specs.declared.Bench.{Bench}
 use Rattle.bench_unit.specs.State.{endBad}
-use Rattle.bench_run.specs.Taken.{noCall, asking, askOf, isPoint, pointLine}
+use Rattle.bench_run.specs.Taken.{noCall, calling, callOf, isPoint, pointLine}
 
 -- no line of a run
-pub no-ask : (line : Line) → OneOf (0 ∷ 1 ∷ 7 ∷ 8 ∷ []) (tagOf LT.the-type line) → asking noCall 0 0 ≡ askOf line
-unfolding askOf
-no-ask (Node control user pool recovery resend sends interval) h = refl
-no-ask (Point guarantee ceiling size) h = refl
-no-ask (Control size) h = absurd (miss (0 ∷ 1 ∷ 7 ∷ 8 ∷ []) 2 tt h)
-no-ask (User size) h = absurd (miss (0 ∷ 1 ∷ 7 ∷ 8 ∷ []) 3 tt h)
-no-ask (Down size) h = absurd (miss (0 ∷ 1 ∷ 7 ∷ 8 ∷ []) 4 tt h)
-no-ask Tick h = absurd (miss (0 ∷ 1 ∷ 7 ∷ 8 ∷ []) 5 tt h)
-no-ask (Close place) h = absurd (miss (0 ∷ 1 ∷ 7 ∷ 8 ∷ []) 6 tt h)
-no-ask BadPoint h = refl
-no-ask Bad h = refl
+pub no-call : (line : Line) → OneOf (0 ∷ 1 ∷ 7 ∷ 8 ∷ []) (tagOf LT.the-type line) → calling noCall 0 0 ≡ callOf line
+unfolding callOf
+no-call (Node control user pool recovery resend sends interval) h = refl
+no-call (Point guarantee ceiling size) h = refl
+no-call (Control size) h = absurd (miss (0 ∷ 1 ∷ 7 ∷ 8 ∷ []) 2 tt h)
+no-call (User size) h = absurd (miss (0 ∷ 1 ∷ 7 ∷ 8 ∷ []) 3 tt h)
+no-call (Down size) h = absurd (miss (0 ∷ 1 ∷ 7 ∷ 8 ∷ []) 4 tt h)
+no-call Tick h = absurd (miss (0 ∷ 1 ∷ 7 ∷ 8 ∷ []) 5 tt h)
+no-call (Close place) h = absurd (miss (0 ∷ 1 ∷ 7 ∷ 8 ∷ []) 6 tt h)
+no-call BadPoint h = refl
+no-call Bad h = refl
 
 -- no line of an access point
 pub no-point : (line : Line) → OneOf (0 ∷ 2 ∷ 3 ∷ 4 ∷ 5 ∷ 6 ∷ 8 ∷ []) (tagOf LT.the-type line) → false ≡ isPoint line

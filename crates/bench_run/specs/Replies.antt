@@ -13,6 +13,7 @@ use Rattle.base_octets.specs.Overlay.{overlay, length-overlay}
 use Rattle.unit_session.specs.declared.Session.{Session}
 use Rattle.unit_session.specs.Session.{isFree, freed}
 use Rattle.unit_session.specs.OwnRequest.{sentOnce}
+use Rattle.unit_store.specs.Store.{storeOk}
 use Rattle.unit_table.specs.declared.Node.{Node}
 use Rattle.unit_table.specs.declared.Owner.{Owner}
 use Rattle.unit_table.specs.declared.Owner.the-variants as F
@@ -32,12 +33,14 @@ use Rattle.call_own.specs.Calls.{tickOf, closeOf, closeOn, echoSent, placeSent,
 use Rattle.call_control.specs.Echoes.{echoTaken, echoReplyTaken}
 use Rattle.call_control.specs.Amends.{causeTaken}
 use Rattle.call_control.specs.Creates.{acceptedTaken, openedAt, shared, isRepeat, settledAt, heardCreate, createTaken}
-use Rattle.call_control.specs.Control.{askedTaken, controlTaken}
+use Rattle.call_control.specs.Control.{askedTaken}
 use Rattle.wire_user.specs.declared.Header.{Header}
 use Rattle.wire_user.specs.declared.Header.the-variants as H
 use Rattle.wire_user.specs.Header.{userHeaderOf}
 use Rattle.wire_user.specs.User.{userOf}
 use Rattle.call_user.specs.User.{packetTaken, headerTaken, userTaken}
+use Rattle.call_down.specs.Down.{down-length}
+use Rattle.call_store.specs.Stored.{keeps, closeStored, sendStored, userStored, downStored, tickStored, isKept, takenStored, controlStored}
 
 -- ---- a control datagram
 module _ (c : C.Create) (seq : ℕ) (node₀ : Node) (t₀ : List Session) (reply : List ℕ) where
@@ -68,11 +71,13 @@ module _ (node : Node) (t : List Session) (reply : List ℕ) where
   asked-length (A.Refused w to seq) = length-overlay _ reply
   asked-length (A.Session teid seq x) = length-overlay _ reply
 
-  pub control-length : (d : List ℕ) → length (controlTaken node t d reply .reply) ≡ length reply
-  unfolding controlTaken noReply
-  control-length d =
+  pub control-length : (w : List (List ℕ)) (d : List ℕ) → length (controlStored node t w d reply .call .reply) ≡ length reply
+  unfolding controlStored takenStored noReply
+  control-length w d =
       split (ltb (length reply) leastReply) (λ e. rw e)
-      (λ e. rw e (split (keepsRules node t) (λ f. rw f (asked-length (askedOf node d))) (λ f. rw f)))
+      (λ e. rw e (split (keeps node t w)
+      (λ f. rw f (split (isKept d w) (λ g. rw g (length-overlay _ reply)) (λ g. rw g (asked-length (askedOf node d)))))
+      (λ f. rw f)))
 
   -- ---- a user datagram
   packet-length : (f : Owner) (teid addr start end : ℕ) → length (packetTaken f teid addr start end reply .reply) ≡ length reply
@@ -85,23 +90,35 @@ module _ (node : Node) (t : List Session) (reply : List ℕ) where
   header-length (H.Echo sequence) start end = length-overlay _ reply
   header-length (H.Packet teid) start end = packet-length _ _ _ start end
 
-  pub user-length : (d : List ℕ) → length (userTaken node t d reply .reply) ≡ length reply
+  taken-length : (d : List ℕ) → length (userTaken node t d reply .reply) ≡ length reply
   unfolding userTaken
-  user-length d =
+  taken-length d =
       split (ltb (length reply) leastReply) (λ e. rw e)
       (λ e. rw e (split (keepsRules node t)
       (λ f. rw f (split (eqb (userOf d .number) taken) (λ g. rw g (header-length (userHeaderOf d) (userOf d .size) (length d))) (λ g. rw g)))
       (λ f. rw f)))
 
--- ---- the clock has no reply
-pub tick-length : (node : Node) (t : List Session) → length (tickOf node t .reply) ≡ 0
-unfolding tickOf noReply
-tick-length node t = split (keepsRules node t) (λ e. rw e) (λ e. rw e)
+  pub user-length : (w : List (List ℕ)) (d : List ℕ) → length (userStored node t w d reply .reply) ≡ length reply
+  unfolding userStored
+  user-length w d = split (storeOk w) (λ e. rw e (taken-length d)) (λ e. rw e)
 
-pub close-length : (node : Node) (t : List Session) (place : ℕ) → length (closeOf node t place .reply) ≡ 0
-unfolding closeOf onSession noReply
-close-length node t place =
-    split (keepsRules node t) (λ e. rw e (length-overlay (closeOn (getD t place nobody) .message) [])) (λ e. rw e)
+module _ (node : Node) (t : List Session) (w : List (List ℕ)) where
+  -- ---- a packet down
+  pub output-length : (packet out : List ℕ) → length (downStored node t w packet out .buffer) ≡ length out
+  unfolding downStored
+  output-length packet out = split (storeOk w) (λ e. rw e (down-length node t packet out)) (λ e. rw e)
+
+  -- ---- the clock has no reply
+  pub tick-length : length (tickStored node t w .call .reply) ≡ 0
+  unfolding tickStored tickOf noReply
+  tick-length = split (storeOk w) (λ e. rw e (split (keepsRules node t) (λ f. rw f) (λ f. rw f))) (λ e. rw e)
+
+  pub close-length : (place : ℕ) → length (closeStored node t w place .reply) ≡ 0
+  unfolding closeStored closeOf onSession noReply
+  close-length place =
+      split (storeOk w)
+      (λ e. rw e (split (keepsRules node t) (λ f. rw f (length-overlay (closeOn (getD t place nobody) .message) [])) (λ f. rw f)))
+      (λ e. rw e)
 
 -- ---- what is sent: an echo has 13 octets, a Delete Bearer Request 17
 front-most : (m l : List ℕ) (k : ℕ) → length m ≡ k → k ≤ 17 → length (take (length m) l) ≤ 17
@@ -120,11 +137,16 @@ module _ (node : Node) (t : List Session) (k : ℕ) (reply : List ℕ) where
       let m = deleteBearer (s .control) (sentOnce (node .plan .resend) k (s .own) .number) (s .ebi) in
       front-most m (overlay m reply) 17 (size-delete-bearer _ _ _) (omega arith)
 
-pub sent-most : (node : Node) (t : List Session) (reply : List ℕ) → length (take (sendOf node t reply .answer .size) (sendOf node t reply .reply)) ≤ 17
+due-most : (node : Node) (t : List Session) (reply : List ℕ) → length (take (sendOf node t reply .answer .size) (sendOf node t reply .reply)) ≤ 17
 unfolding sendOf dueSent noReply
-sent-most node t reply =
+due-most node t reply =
     split (ltb (length reply) leastReply) (λ e. rw e (omega arith))
     (λ e. rw e (split (keepsRules node t)
     (λ f. rw f (split (eqb (node .echo .timer) 0) (λ g. rw g (echo-most node t _ reply))
     (λ g. rw g (split (ltb (duePlace t) (length t)) (λ h. rw h (place-most node t _ reply _ _)) (λ h. rw h (omega arith))))))
     (λ f. rw f (omega arith))))
+
+pub sent-most : (node : Node) (t : List Session) (w : List (List ℕ)) (reply : List ℕ)
+    → length (take (sendStored node t w reply .answer .size) (sendStored node t w reply .reply)) ≤ 17
+unfolding sendStored noReply
+sent-most node t w reply = split (storeOk w) (λ e. rw e (due-most node t reply)) (λ e. rw e (omega arith))

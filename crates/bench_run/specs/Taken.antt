@@ -9,15 +9,14 @@ use lib.ListN.{take, replicate}
 use lib.Dec.{eqb}
 use Rattle.base_octets.specs.Choice.{pick}
 use Rattle.unit_session.specs.declared.Session.{Session}
-use Rattle.call_own.specs.Calls.{tickOf, closeOf}
-use Rattle.call_control.specs.Control.{controlTaken}
+use Rattle.call_store.specs.Stored.{stored, closeStored, tickStored, controlStored}
 use Rattle.bench_text.specs.declared.Line.{Line}
 use Rattle.bench_text.specs.declared.Line.the-variants.{Node, Point, Control, User, Down, Tick, Close, BadPoint, Bad}
 use Rattle.bench_text.specs.Lines.{Told, told, lineRead}
 use Rattle.bench_unit.specs.declared.Bench.{Bench}
 use Rattle.bench_unit.specs.State.{Shown, shown, Ran, ran, beside, firstPhase, plans, runs, over, lentReply, withLine, endBad, unitShown}
 use Rattle.bench_unit.specs.Plans.{oneMore, planTaken, startLine}
-use Rattle.bench_run.specs.declared.Ask.{Ask}
+use Rattle.bench_run.specs.declared.Call.{Call}
 use Rattle.bench_run.specs.Run.{thenSent, userRun, downRun}
 
 -- ---- what a line asks of the unit: which call, of how many octets a datagram or a packet, of which place
@@ -39,31 +38,31 @@ tickCall = 4
 abbrev pub closeCall : ℕ
 closeCall = 5
 
-abbrev pub asking : ℕ → ℕ → ℕ → Ask
-asking kind size place = record { kind = kind; size = size; place = place }
+abbrev pub calling : ℕ → ℕ → ℕ → Call
+calling kind size place = record { kind = kind; size = size; place = place }
 
-unfoldable pub askOf : Line → Ask
-askOf (Control size) = asking controlCall size 0
-askOf (User size) = asking userCall size 0
-askOf (Down size) = asking downCall size 0
-askOf Tick = asking tickCall 0 0
-askOf (Close place) = asking closeCall 0 place
-askOf (Node control user pool recovery resend sends interval) = asking noCall 0 0
-askOf (Point guarantee ceiling size) = asking noCall 0 0
-askOf BadPoint = asking noCall 0 0
-askOf Bad = asking noCall 0 0
+unfoldable pub callOf : Line → Call
+callOf (Control size) = calling controlCall size 0
+callOf (User size) = calling userCall size 0
+callOf (Down size) = calling downCall size 0
+callOf Tick = calling tickCall 0 0
+callOf (Close place) = calling closeCall 0 place
+callOf (Node control user pool recovery resend sends interval) = calling noCall 0 0
+callOf (Point guarantee ceiling size) = calling noCall 0 0
+callOf BadPoint = calling noCall 0 0
+callOf Bad = calling noCall 0 0
 
 -- ---- once the plan is taken: C, U, D, T, X, and any other line is a bad one
-unfoldable pub askRun : Ask → List ℕ → Bench → List Session → List ℕ → Ran
-askRun a octets b t out =
-    pick (eqb (a .kind) controlCall) (unitShown (controlTaken (b .node) t (take (a .size) octets) lentReply) b out)
-    (pick (eqb (a .kind) userCall) (userRun (take (a .size) octets) b t out)
-    (pick (eqb (a .kind) downCall) (downRun (take (a .size) octets) b t out)
-    (pick (eqb (a .kind) tickCall) (thenSent (unitShown (tickOf (b .node) t) b out))
-    (pick (eqb (a .kind) closeCall) (thenSent (unitShown (closeOf (b .node) t (a .place)) b out)) (beside t (endBad b out))))))
+unfoldable pub callRun : Call → List ℕ → Bench → List Session → List (List ℕ) → List ℕ → Ran
+callRun a octets b t w out =
+    pick (eqb (a .kind) controlCall) (unitShown (controlStored (b .node) t w (take (a .size) octets) lentReply) b out)
+    (pick (eqb (a .kind) userCall) (userRun (take (a .size) octets) b t w out)
+    (pick (eqb (a .kind) downCall) (downRun (take (a .size) octets) b t w out)
+    (pick (eqb (a .kind) tickCall) (thenSent (unitShown (tickStored (b .node) t w) b out))
+    (pick (eqb (a .kind) closeCall) (thenSent (unitShown (stored (closeStored (b .node) t w (a .place)) w) b out)) (beside t w (endBad b out))))))
 
-unfoldable pub runLine : Line → List ℕ → Bench → List Session → List ℕ → Ran
-runLine line octets b t out = askRun (askOf line) octets b t out
+unfoldable pub runLine : Line → List ℕ → Bench → List Session → List (List ℕ) → List ℕ → Ran
+runLine line octets b t w out = callRun (callOf line) octets b t w out
 
 -- ---- where the lines of the plan stand
 -- a line of an access point, a good one or a bad one
@@ -91,10 +90,10 @@ pointLine (Close place) octets b out = endBad b out
 pointLine Bad octets b out = endBad b out
 
 -- any other takes the plan first
-unfoldable pub leavePlan : Line → List ℕ → Bench → List Session → List ℕ → Ran
-leavePlan line octets b t out =
-    pick (eqb (planTaken b t out .bench .phase) over) (planTaken b t out)
-    (runLine line octets (planTaken b t out .bench) (planTaken b t out .table) (planTaken b t out .out))
+unfoldable pub leavePlan : Line → List ℕ → Bench → List Session → List (List ℕ) → List ℕ → Ran
+leavePlan line octets b t w out =
+    pick (eqb (planTaken b t w out .bench .phase) over) (planTaken b t w out)
+    (runLine line octets (planTaken b t w out .bench) (planTaken b t w out .table) (planTaken b t w out .store) (planTaken b t w out .out))
 
 -- ---- by where the run stands
 -- a line that asks nothing of the unit: the first, one of an access point, or one once the run has ended, which does nothing
@@ -106,70 +105,70 @@ earlyLine line octets b out =
 unfoldable pub lentOctets : List ℕ
 lentOctets = replicate 2048 0
 
-unfoldable pub toldTaken : Told → Bench → List Session → List ℕ → Ran
-toldTaken x b t out =
-    pick (eqb (b .phase) runs) (runLine (x .line) (x .octets) (withLine b) t out)
-    (pick (eqb (b .phase) plans && not (isPoint (x .line))) (leavePlan (x .line) (x .octets) (withLine b) t out)
-    (beside t (earlyLine (x .line) (x .octets) b out)))
+unfoldable pub toldTaken : Told → Bench → List Session → List (List ℕ) → List ℕ → Ran
+toldTaken x b t w out =
+    pick (eqb (b .phase) runs) (runLine (x .line) (x .octets) (withLine b) t w out)
+    (pick (eqb (b .phase) plans && not (isPoint (x .line))) (leavePlan (x .line) (x .octets) (withLine b) t w out)
+    (beside t w (earlyLine (x .line) (x .octets) b out)))
 
-unfoldable pub lineTaken : List ℕ → Bench → List Session → List ℕ → Ran
-lineTaken text b t out = toldTaken (lineRead text lentOctets) b t out
+unfoldable pub lineTaken : List ℕ → Bench → List Session → List (List ℕ) → List ℕ → Ran
+lineTaken text b t w out = toldTaken (lineRead text lentOctets) b t w out
 
 -- ---- laws: a line by what it asks
-module _ (line : Line) (octets : List ℕ) (b : Bench) (t : List Session) (out : List ℕ) (x : Ran) (a : Ask) (kind size place : ℕ)
-    (e : a ≡ askOf line) (k : kind ≡ a .kind) (s : size ≡ a .size) (p : place ≡ a .place) where
-  pub asks-control : eqb kind controlCall ≡ true → x ≡ unitShown (controlTaken (b .node) t (take size octets) lentReply) b out → x ≡ runLine line octets b t out
-  unfolding runLine askRun
+module _ (line : Line) (octets : List ℕ) (b : Bench) (t : List Session) (w : List (List ℕ)) (out : List ℕ) (x : Ran) (a : Call) (kind size place : ℕ)
+    (e : a ≡ callOf line) (k : kind ≡ a .kind) (s : size ≡ a .size) (p : place ≡ a .place) where
+  pub asks-control : eqb kind controlCall ≡ true → x ≡ unitShown (controlStored (b .node) t w (take size octets) lentReply) b out → x ≡ runLine line octets b t w out
+  unfolding runLine callRun
   asks-control h g = rw (← e, rw k at h, ← s) g
 
-  pub asks-user : eqb kind controlCall ≡ false → eqb kind userCall ≡ true → x ≡ userRun (take size octets) b t out → x ≡ runLine line octets b t out
-  unfolding runLine askRun
+  pub asks-user : eqb kind controlCall ≡ false → eqb kind userCall ≡ true → x ≡ userRun (take size octets) b t w out → x ≡ runLine line octets b t w out
+  unfolding runLine callRun
   asks-user h i g = rw (← e, rw k at h, rw k at i, ← s) g
 
-  pub asks-down : eqb kind controlCall ≡ false → eqb kind userCall ≡ false → eqb kind downCall ≡ true → x ≡ downRun (take size octets) b t out
-      → x ≡ runLine line octets b t out
-  unfolding runLine askRun
+  pub asks-down : eqb kind controlCall ≡ false → eqb kind userCall ≡ false → eqb kind downCall ≡ true → x ≡ downRun (take size octets) b t w out
+      → x ≡ runLine line octets b t w out
+  unfolding runLine callRun
   asks-down h i j g = rw (← e, rw k at h, rw k at i, rw k at j, ← s) g
 
   pub asks-tick : eqb kind controlCall ≡ false → eqb kind userCall ≡ false → eqb kind downCall ≡ false → eqb kind tickCall ≡ true
-      → x ≡ thenSent (unitShown (tickOf (b .node) t) b out) → x ≡ runLine line octets b t out
-  unfolding runLine askRun
+      → x ≡ thenSent (unitShown (tickStored (b .node) t w) b out) → x ≡ runLine line octets b t w out
+  unfolding runLine callRun
   asks-tick h i j l g = rw (← e, rw k at h, rw k at i, rw k at j, rw k at l) g
 
   pub asks-close : eqb kind controlCall ≡ false → eqb kind userCall ≡ false → eqb kind downCall ≡ false → eqb kind tickCall ≡ false → eqb kind closeCall ≡ true
-      → x ≡ thenSent (unitShown (closeOf (b .node) t place) b out) → x ≡ runLine line octets b t out
-  unfolding runLine askRun
+      → x ≡ thenSent (unitShown (stored (closeStored (b .node) t w place) w) b out) → x ≡ runLine line octets b t w out
+  unfolding runLine callRun
   asks-close h i j l m g = rw (← e, rw k at h, rw k at i, rw k at j, rw k at l, rw k at m, ← p) g
 
   pub asks-none : eqb kind controlCall ≡ false → eqb kind userCall ≡ false → eqb kind downCall ≡ false → eqb kind tickCall ≡ false → eqb kind closeCall ≡ false
-      → x ≡ beside t (endBad b out) → x ≡ runLine line octets b t out
-  unfolding runLine askRun
+      → x ≡ beside t w (endBad b out) → x ≡ runLine line octets b t w out
+  unfolding runLine callRun
   asks-none h i j l m g = rw (← e, rw k at h, rw k at i, rw k at j, rw k at l, rw k at m) g
 
 -- ---- the plan is taken
-module _ (line : Line) (octets : List ℕ) (b c : Bench) (t t′ : List Session) (out p : List ℕ) (x : Ran) (phase : ℕ)
-    (e : ran c t′ p ≡ planTaken b t out) (f : phase ≡ c .phase) where
-  pub leave-over : eqb phase 3 ≡ true → ran c t′ p ≡ leavePlan line octets b t out
+module _ (line : Line) (octets : List ℕ) (b c : Bench) (t t′ : List Session) (w w′ : List (List ℕ)) (out p : List ℕ) (x : Ran) (phase : ℕ)
+    (e : ran c t′ w′ p ≡ planTaken b t w out) (f : phase ≡ c .phase) where
+  pub leave-over : eqb phase 3 ≡ true → ran c t′ w′ p ≡ leavePlan line octets b t w out
   unfolding leavePlan over
   leave-over h = rw (← e, rw f at h)
 
-  pub leave-run : eqb phase 3 ≡ false → x ≡ runLine line octets c t′ p → x ≡ leavePlan line octets b t out
+  pub leave-run : eqb phase 3 ≡ false → x ≡ runLine line octets c t′ w′ p → x ≡ leavePlan line octets b t w out
   unfolding leavePlan over
   leave-run h g = rw (← e, rw f at h) g
 
 -- ---- a line by where the run stands
-module _ (text octets : List ℕ) (b c : Bench) (t : List Session) (out : List ℕ) (x : Ran) (line : Line) (phase : ℕ)
+module _ (text octets : List ℕ) (b c : Bench) (t : List Session) (w : List (List ℕ)) (out : List ℕ) (x : Ran) (line : Line) (phase : ℕ)
     (e : told line octets ≡ lineRead text (replicate 2048 0)) (f : c ≡ withLine b) (g : phase ≡ b .phase) where
-  pub line-runs : eqb phase 2 ≡ true → x ≡ runLine line octets c t out → x ≡ lineTaken text b t out
+  pub line-runs : eqb phase 2 ≡ true → x ≡ runLine line octets c t w out → x ≡ lineTaken text b t w out
   unfolding lineTaken toldTaken lentOctets runs
   line-runs h k = rw (← e, rw g at h, ← f) k
 
-  pub line-leaves : (v : Bool) → v ≡ (eqb (b .phase) plans && not (isPoint line)) → eqb phase 2 ≡ false → v ≡ true → x ≡ leavePlan line octets c t out
-      → x ≡ lineTaken text b t out
+  pub line-leaves : (v : Bool) → v ≡ (eqb (b .phase) plans && not (isPoint line)) → eqb phase 2 ≡ false → v ≡ true → x ≡ leavePlan line octets c t w out
+      → x ≡ lineTaken text b t w out
   unfolding lineTaken toldTaken lentOctets runs
-  line-leaves v w h i k = rw (← e, rw g at h, ← w, i, ← f) k
+  line-leaves v u h i k = rw (← e, rw g at h, ← u, i, ← f) k
 
   pub line-early : (v : Bool) (r : Bench) (o : List ℕ) → v ≡ (eqb (b .phase) plans && not (isPoint line)) → eqb phase 2 ≡ false → v ≡ false
-      → shown r o ≡ earlyLine line octets b out → ran r t o ≡ lineTaken text b t out
+      → shown r o ≡ earlyLine line octets b out → ran r t w o ≡ lineTaken text b t w out
   unfolding lineTaken toldTaken lentOctets runs
-  line-early v r o w h i k = rw (← e, rw g at h, ← w, i) (ap (beside t) k)
+  line-early v r o u h i k = rw (← e, rw g at h, ← u, i) (ap (beside t w) k)

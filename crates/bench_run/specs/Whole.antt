@@ -14,10 +14,9 @@ use Rattle.base_octets.specs.BigEndian.{octetsOf, length-octets}
 use Rattle.unit_session.specs.declared.Session.{Session}
 use Rattle.unit_table.specs.declared.Node.{Node}
 use Rattle.call_own.specs.Outcome.{Outcome, leastReply}
-use Rattle.call_own.specs.Calls.{freshOf, tickOf, closeOf, sendOf}
-use Rattle.call_control.specs.Control.{controlTaken}
-use Rattle.call_user.specs.User.{Took, userTaken}
-use Rattle.call_down.specs.Down.{Output, downTaken, down-length}
+use Rattle.call_user.specs.User.{Took}
+use Rattle.call_down.specs.Down.{Output}
+use Rattle.call_store.specs.Stored.{Stored, stored, closeStored, sendStored, userStored, downStored, freshStored, tickStored, controlStored}
 use Rattle.bench_text.specs.declared.Line.{Line}
 use Rattle.bench_text.specs.declared.Line.the-variants as L
 use Rattle.bench_text.specs.Lines.{Told, lineRead, datagramMost}
@@ -27,11 +26,11 @@ use Rattle.bench_unit.specs.declared.Bench.{Bench}
 use Rattle.bench_unit.specs.State.{Ran, firstPhase, plans, runs, over, lentReply, withLine, withMade, keptIn, printed, answeredShown, unitShown}
 use Rattle.bench_unit.specs.Plans.{firstLine, oneMore, planTaken, startLine}
 use Rattle.bench_unit.specs.Ended.{endOfInput}
-use Rattle.bench_unit.specs.Whole.{Adds, adds-none, adds-on, adds-printed, adds-within, adds-whole, planPrints, endPrints, bad-adds, plan-adds, plan-phase, plan-node, plan-table, plan-lines, plan-most, placeRoom, end-adds, end-most}
-use Rattle.bench_run.specs.declared.Ask.{Ask}
+use Rattle.bench_unit.specs.Whole.{Adds, adds-none, adds-on, adds-printed, adds-within, adds-whole, planPrints, endPrints, bad-adds, plan-adds, plan-phase, plan-node, plan-table, plan-store, plan-lines, plan-most, placeRoom, end-adds, end-most}
+use Rattle.bench_run.specs.declared.Call.{Call}
 use Rattle.bench_run.specs.Run.{sendTry, hasDue, sentShown, oneSent, sentTimes, allSent, thenSent, userText, userShown, userRun, downText, downShown, gpduMost, lentOutput, downRun}
-use Rattle.bench_run.specs.Taken.{controlCall, userCall, downCall, tickCall, closeCall, askOf, askRun, runLine, isPoint, pointLine, leavePlan, earlyLine, lentOctets, toldTaken, lineTaken}
-use Rattle.bench_run.specs.Replies.{control-length, user-length, tick-length, close-length, sent-most}
+use Rattle.bench_run.specs.Taken.{controlCall, userCall, downCall, tickCall, closeCall, callOf, callRun, runLine, isPoint, pointLine, leavePlan, earlyLine, lentOctets, toldTaken, lineTaken}
+use Rattle.bench_run.specs.Replies.{control-length, user-length, output-length, tick-length, close-length, sent-most}
 use Rattle.unit_tunnel.specs.Numbering.{places}
 
 -- ---- the texts
@@ -40,16 +39,16 @@ unfoldable pub unitPrints : Outcome → List ℕ
 unitPrints x = answerText (x .answer .number) (take (x .answer .size) (x .reply))
 
 -- all that is due, so many at most
-unfoldable pub sendsPrint : ℕ → Node → List Session → List ℕ
-sendsPrint zero node t = []
-sendsPrint (suc k) node t =
-    pick (eqb (sendOf node t lentReply .answer .number) 0)
-    (dueText (take (sendOf node t lentReply .answer .size) (sendOf node t lentReply .reply))
-    ++ sendsPrint k (sendOf node t lentReply .answer .node) (sendOf node t lentReply .table))
+unfoldable pub sendsPrint : ℕ → Node → List Session → List (List ℕ) → List ℕ
+sendsPrint zero node t w = []
+sendsPrint (suc k) node t w =
+    pick (eqb (sendStored node t w lentReply .answer .number) 0)
+    (dueText (take (sendStored node t w lentReply .answer .size) (sendStored node t w lentReply .reply))
+    ++ sendsPrint k (sendStored node t w lentReply .answer .node) (sendStored node t w lentReply .table) w)
     []
 
-unfoldable pub thenPrints : Outcome → List ℕ
-thenPrints x = unitPrints x ++ sendsPrint (places + 1) (x .answer .node) (x .table)
+unfoldable pub thenPrints : Stored → List ℕ
+thenPrints x = unitPrints (x .call) ++ sendsPrint (places + 1) (x .call .answer .node) (x .call .table) (x .store)
 
 unfoldable pub tookPrints : Took → List ℕ → List ℕ
 tookPrints x d = userText (x .number) (x .size) (x .reply) (drop (x .start) d)
@@ -58,19 +57,19 @@ unfoldable pub outputPrints : Output → List ℕ
 outputPrints x = downText (x .written .number) (x .written .size) (x .buffer) (x .written .peer)
 
 -- once the plan is taken, of a line of this number
-unfoldable pub askPrints : Ask → List ℕ → ℕ → Node → List Session → List ℕ
-askPrints a octets lines node t =
-    pick (eqb (a .kind) controlCall) (unitPrints (controlTaken node t (take (a .size) octets) lentReply))
-    (pick (eqb (a .kind) userCall) (tookPrints (userTaken node t (take (a .size) octets) lentReply) (take (a .size) octets))
-    (pick (eqb (a .kind) downCall) (outputPrints (downTaken node t (take (a .size) octets) lentOutput))
-    (pick (eqb (a .kind) tickCall) (thenPrints (tickOf node t))
-    (pick (eqb (a .kind) closeCall) (thenPrints (closeOf node t (a .place))) (badText lines)))))
+unfoldable pub callPrints : Call → List ℕ → ℕ → Node → List Session → List (List ℕ) → List ℕ
+callPrints a octets lines node t w =
+    pick (eqb (a .kind) controlCall) (unitPrints (controlStored node t w (take (a .size) octets) lentReply .call))
+    (pick (eqb (a .kind) userCall) (tookPrints (userStored node t w (take (a .size) octets) lentReply) (take (a .size) octets))
+    (pick (eqb (a .kind) downCall) (outputPrints (downStored node t w (take (a .size) octets) lentOutput))
+    (pick (eqb (a .kind) tickCall) (thenPrints (tickStored node t w))
+    (pick (eqb (a .kind) closeCall) (thenPrints (stored (closeStored node t w (a .place)) w)) (badText lines)))))
 
 -- the plan is taken first
-unfoldable pub leavePrints : Line → List ℕ → Bench → List Session → List ℕ
-leavePrints line octets b t =
-    pick (eqb (planTaken b t [] .bench .phase) over) (planPrints (freshOf (b .node .plan) t .answer))
-    (planPrints (freshOf (b .node .plan) t .answer) ++ askPrints (askOf line) octets (b .lines) (planTaken b t [] .bench .node) (planTaken b t [] .table))
+unfoldable pub leavePrints : Line → List ℕ → Bench → List Session → List (List ℕ) → List ℕ
+leavePrints line octets b t w =
+    pick (eqb (planTaken b t w [] .bench .phase) over) (planPrints (freshStored (b .node .plan) t w .call .answer))
+    (planPrints (freshStored (b .node .plan) t w .call .answer) ++ callPrints (callOf line) octets (b .lines) (planTaken b t w [] .bench .node) (planTaken b t w [] .table) (planTaken b t w [] .store))
 
 -- the first line
 unfoldable pub startPrints : Line → ℕ → List ℕ
@@ -101,52 +100,52 @@ earlyPrints line b =
     pick (eqb (b .phase) firstPhase) (startPrints line (withLine b .lines))
     (pick (eqb (b .phase) plans) (pointPrints line (b .node .plan .count) (withLine b .lines)) [])
 
-unfoldable pub toldPrints : Told → Bench → List Session → List ℕ
-toldPrints x b t =
-    pick (eqb (b .phase) runs) (askPrints (askOf (x .line)) (x .octets) (withLine b .lines) (b .node) t)
-    (pick (eqb (b .phase) plans && not (isPoint (x .line))) (leavePrints (x .line) (x .octets) (withLine b) t) (earlyPrints (x .line) b))
+unfoldable pub toldPrints : Told → Bench → List Session → List (List ℕ) → List ℕ
+toldPrints x b t w =
+    pick (eqb (b .phase) runs) (callPrints (callOf (x .line)) (x .octets) (withLine b .lines) (b .node) t w)
+    (pick (eqb (b .phase) plans && not (isPoint (x .line))) (leavePrints (x .line) (x .octets) (withLine b) t w) (earlyPrints (x .line) b))
 
-unfoldable pub linePrints : List ℕ → Bench → List Session → List ℕ
-linePrints text b t = toldPrints (lineRead text lentOctets) b t
+unfoldable pub linePrints : List ℕ → Bench → List Session → List (List ℕ) → List ℕ
+linePrints text b t w = toldPrints (lineRead text lentOctets) b t w
 
 -- ---- each line prints its text
-unit-adds : (x : Outcome) (b : Bench) (out : List ℕ) → Adds (unitPrints x) (b .made) out (unitShown x b out .bench .made) (unitShown x b out .out)
+unit-adds : (x : Stored) (b : Bench) (out : List ℕ) → Adds (unitPrints (x .call)) (b .made) out (unitShown x b out .bench .made) (unitShown x b out .out)
 unfolding unitPrints unitShown answeredShown keptIn
 unit-adds x b out = adds-printed _ _ (b .made) out (λ k. refl)
 
-module _ (b : Bench) (t : List Session) (out : List ℕ) where
-  sent-due : eqb (sendOf (b .node) t lentReply .answer .number) 0 ≡ true
-      → Adds (dueText (take (sendOf (b .node) t lentReply .answer .size) (sendOf (b .node) t lentReply .reply))) (b .made) out
-      (oneSent b t out .bench .made) (oneSent b t out .out)
+module _ (b : Bench) (t : List Session) (w : List (List ℕ)) (out : List ℕ) where
+  sent-due : eqb (sendStored (b .node) t w lentReply .answer .number) 0 ≡ true
+      → Adds (dueText (take (sendStored (b .node) t w lentReply .answer .size) (sendStored (b .node) t w lentReply .reply))) (b .made) out
+      (oneSent b t w out .bench .made) (oneSent b t w out .out)
   unfolding oneSent sentShown sendTry keptIn
   sent-due e = rw e (adds-printed _ _ (b .made) out (λ k. refl))
 
-  sent-node : eqb (sendOf (b .node) t lentReply .answer .number) 0 ≡ true → oneSent b t out .bench .node ≡ sendOf (b .node) t lentReply .answer .node
+  sent-node : eqb (sendStored (b .node) t w lentReply .answer .number) 0 ≡ true → oneSent b t w out .bench .node ≡ sendStored (b .node) t w lentReply .answer .node
   unfolding oneSent sentShown sendTry keptIn printed
   sent-node e = rw e
 
-  sent-table : oneSent b t out .table ≡ sendOf (b .node) t lentReply .table
+  sent-table : oneSent b t w out .table ≡ sendStored (b .node) t w lentReply .table
   unfolding oneSent sendTry
   sent-table = refl
 
-  sent-nothing : b .made ≤ length out → eqb (sendOf (b .node) t lentReply .answer .number) 0 ≡ false
-      → Adds [] (b .made) out (oneSent b t out .bench .made) (oneSent b t out .out)
+  sent-nothing : b .made ≤ length out → eqb (sendStored (b .node) t w lentReply .answer .number) 0 ≡ false
+      → Adds [] (b .made) out (oneSent b t w out .bench .made) (oneSent b t w out .out)
   unfolding oneSent sentShown sendTry
   sent-nothing h e = rw e (adds-none (b .made) out h)
 
 sends-add : (k : ℕ) (x : Ran) → x .bench .made ≤ length (x .out)
-    → Adds (sendsPrint k (x .bench .node) (x .table)) (x .bench .made) (x .out) (sentTimes k x .bench .made) (sentTimes k x .out)
-unfolding sendsPrint sentTimes hasDue sendTry
+    → Adds (sendsPrint k (x .bench .node) (x .table) (x .store)) (x .bench .made) (x .out) (sentTimes k x .bench .made) (sentTimes k x .out)
+unfolding sendsPrint sentTimes hasDue sendTry oneSent
 sends-add zero x h = adds-none _ _ h
 sends-add (suc k) x h =
-    split (eqb (sendOf (x .bench .node) (x .table) lentReply .answer .number) 0)
+    split (eqb (sendStored (x .bench .node) (x .table) (x .store) lentReply .answer .number) 0)
     (λ e.
-    let d = sent-due (x .bench) (x .table) (x .out) e in
-    let r = sends-add k (oneSent (x .bench) (x .table) (x .out)) (adds-within _ _ _ _ _ d) in
-    rw (e, ← sent-node (x .bench) (x .table) (x .out) e, ← sent-table (x .bench) (x .table) (x .out)) (adds-on _ _ _ _ _ _ _ _ d r))
-    (λ e. rw e (sent-nothing (x .bench) (x .table) (x .out) h e))
+    let d = sent-due (x .bench) (x .table) (x .store) (x .out) e in
+    let r = sends-add k (oneSent (x .bench) (x .table) (x .store) (x .out)) (adds-within _ _ _ _ _ d) in
+    rw (e, ← sent-node (x .bench) (x .table) (x .store) (x .out) e, ← sent-table (x .bench) (x .table) (x .store) (x .out)) (adds-on _ _ _ _ _ _ _ _ d r))
+    (λ e. rw e (sent-nothing (x .bench) (x .table) (x .store) (x .out) h e))
 
-then-adds : (x : Outcome) (b : Bench) (out : List ℕ)
+then-adds : (x : Stored) (b : Bench) (out : List ℕ)
     → Adds (thenPrints x) (b .made) out (thenSent (unitShown x b out) .bench .made) (thenSent (unitShown x b out) .out)
 unfolding thenPrints thenSent allSent unitPrints unitShown answeredShown printed keptIn
 then-adds x b out =
@@ -154,39 +153,39 @@ then-adds x b out =
     let s = sends-add (places + 1) (unitShown x b out) (adds-within _ _ _ _ _ u) in
     adds-on _ _ _ _ _ _ _ _ u s
 
-user-adds : (d : List ℕ) (b : Bench) (t : List Session) (out : List ℕ)
-    → Adds (tookPrints (userTaken (b .node) t d lentReply) d) (b .made) out (userRun d b t out .bench .made) (userRun d b t out .out)
+user-adds : (d : List ℕ) (b : Bench) (t : List Session) (w : List (List ℕ)) (out : List ℕ)
+    → Adds (tookPrints (userStored (b .node) t w d lentReply) d) (b .made) out (userRun d b t w out .bench .made) (userRun d b t w out .out)
 unfolding tookPrints userRun userShown withMade
-user-adds d b t out = adds-printed _ _ (b .made) out (λ k. refl)
+user-adds d b t w out = adds-printed _ _ (b .made) out (λ k. refl)
 
-down-adds : (packet : List ℕ) (b : Bench) (t : List Session) (out : List ℕ)
-    → Adds (outputPrints (downTaken (b .node) t packet lentOutput)) (b .made) out (downRun packet b t out .bench .made) (downRun packet b t out .out)
+down-adds : (packet : List ℕ) (b : Bench) (t : List Session) (w : List (List ℕ)) (out : List ℕ)
+    → Adds (outputPrints (downStored (b .node) t w packet lentOutput)) (b .made) out (downRun packet b t w out .bench .made) (downRun packet b t w out .out)
 unfolding outputPrints downRun downShown withMade
-down-adds packet b t out = adds-printed _ _ (b .made) out (λ k. refl)
+down-adds packet b t w out = adds-printed _ _ (b .made) out (λ k. refl)
 
-ask-adds : (a : Ask) (octets : List ℕ) (b : Bench) (t : List Session) (out : List ℕ)
-    → Adds (askPrints a octets (b .lines) (b .node) t) (b .made) out (askRun a octets b t out .bench .made) (askRun a octets b t out .out)
-unfolding askPrints askRun
-ask-adds a octets b t out =
+call-adds : (a : Call) (octets : List ℕ) (b : Bench) (t : List Session) (w : List (List ℕ)) (out : List ℕ)
+    → Adds (callPrints a octets (b .lines) (b .node) t w) (b .made) out (callRun a octets b t w out .bench .made) (callRun a octets b t w out .out)
+unfolding callPrints callRun
+call-adds a octets b t w out =
     split (eqb (a .kind) controlCall) (λ e. rw e (unit-adds _ b out))
-    (λ e. rw e (split (eqb (a .kind) userCall) (λ f. rw f (user-adds (take (a .size) octets) b t out))
-    (λ f. rw f (split (eqb (a .kind) downCall) (λ g. rw g (down-adds (take (a .size) octets) b t out))
+    (λ e. rw e (split (eqb (a .kind) userCall) (λ f. rw f (user-adds (take (a .size) octets) b t w out))
+    (λ f. rw f (split (eqb (a .kind) downCall) (λ g. rw g (down-adds (take (a .size) octets) b t w out))
     (λ g. rw g (split (eqb (a .kind) tickCall) (λ i. rw i (then-adds _ b out))
     (λ i. rw i (split (eqb (a .kind) closeCall) (λ j. rw j (then-adds _ b out)) (λ j. rw j (bad-adds b out))))))))))
 
-ask-lines : (a : Ask) (octets : List ℕ) (lines : ℕ) (b : Bench) (t : List Session) (out : List ℕ) → b .lines ≡ lines
-    → Adds (askPrints a octets lines (b .node) t) (b .made) out (askRun a octets b t out .bench .made) (askRun a octets b t out .out)
-ask-lines a octets lines b t out e = rw (← e) (ask-adds a octets b t out)
+call-lines : (a : Call) (octets : List ℕ) (lines : ℕ) (b : Bench) (t : List Session) (w : List (List ℕ)) (out : List ℕ) → b .lines ≡ lines
+    → Adds (callPrints a octets lines (b .node) t w) (b .made) out (callRun a octets b t w out .bench .made) (callRun a octets b t w out .out)
+call-lines a octets lines b t w out e = rw (← e) (call-adds a octets b t w out)
 
-leave-adds : (line : Line) (octets : List ℕ) (b : Bench) (t : List Session) (out : List ℕ) → b .made ≤ length out
-    → Adds (leavePrints line octets b t) (b .made) out (leavePlan line octets b t out .bench .made) (leavePlan line octets b t out .out)
+leave-adds : (line : Line) (octets : List ℕ) (b : Bench) (t : List Session) (w : List (List ℕ)) (out : List ℕ) → b .made ≤ length out
+    → Adds (leavePrints line octets b t w) (b .made) out (leavePlan line octets b t w out .bench .made) (leavePlan line octets b t w out .out)
 unfolding leavePrints leavePlan runLine
-leave-adds line octets b t out h =
-    rw (plan-phase b t out h) (split (eqb (planTaken b t [] .bench .phase) over)
-    (λ e. rw e (plan-adds b t out h))
-    (λ e. rw (e, ← plan-node b t out h, ← plan-table b t out h)
-    (adds-on _ _ _ _ _ _ _ _ (plan-adds b t out h)
-    (ask-lines (askOf line) octets (b .lines) (planTaken b t out .bench) (planTaken b t out .table) (planTaken b t out .out) (plan-lines b t out h)))))
+leave-adds line octets b t w out h =
+    rw (plan-phase b t w out h) (split (eqb (planTaken b t w [] .bench .phase) over)
+    (λ e. rw e (plan-adds b t w out h))
+    (λ e. rw (e, ← plan-node b t w out h, ← plan-table b t w out h, ← plan-store b t w out h)
+    (adds-on _ _ _ _ _ _ _ _ (plan-adds b t w out h)
+    (call-lines (callOf line) octets (b .lines) (planTaken b t w out .bench) (planTaken b t w out .table) (planTaken b t w out .store) (planTaken b t w out .out) (plan-lines b t w out h)))))
 
 start-adds : (line : Line) (b : Bench) (out : List ℕ) → b .made ≤ length out
     → Adds (startPrints line (b .lines)) (b .made) out (startLine line b out .bench .made) (startLine line b out .out)
@@ -222,14 +221,14 @@ early-adds line octets b out h =
     split (eqb (b .phase) firstPhase) (λ e. rw e (start-adds line (withLine b) out h))
     (λ e. rw e (split (eqb (b .phase) plans) (λ f. rw f (point-adds line octets (withLine b) out h)) (λ f. rw f (adds-none (b .made) out h))))
 
-pub line-adds : (text : List ℕ) (b : Bench) (t : List Session) (out : List ℕ) → b .made ≤ length out
-    → Adds (linePrints text b t) (b .made) out (lineTaken text b t out .bench .made) (lineTaken text b t out .out)
+pub line-adds : (text : List ℕ) (b : Bench) (t : List Session) (w : List (List ℕ)) (out : List ℕ) → b .made ≤ length out
+    → Adds (linePrints text b t w) (b .made) out (lineTaken text b t w out .bench .made) (lineTaken text b t w out .out)
 unfolding linePrints lineTaken toldPrints toldTaken runLine withLine
-line-adds text b t out h =
+line-adds text b t w out h =
     let line = lineRead text lentOctets .line in
     let octets = lineRead text lentOctets .octets in
-    split (eqb (b .phase) runs) (λ e. rw e (ask-adds (askOf line) octets (withLine b) t out))
-    (λ e. rw e (split (eqb (b .phase) plans && not (isPoint line)) (λ f. rw f (leave-adds line octets (withLine b) t out h))
+    split (eqb (b .phase) runs) (λ e. rw e (call-adds (callOf line) octets (withLine b) t w out))
+    (λ e. rw e (split (eqb (b .phase) plans && not (isPoint line)) (λ f. rw f (leave-adds line octets (withLine b) t w out h))
     (λ f. rw f (early-adds line octets b out h))))
 
 -- ---- how long the texts are
@@ -251,20 +250,20 @@ unit-most x n h =
     omega arith
 
 -- a datagram that is due is 17 octets at most: 38 characters
-sends-most : (k : ℕ) (node : Node) (t : List Session) → length (sendsPrint k node t) ≤ 38 * k
+sends-most : (k : ℕ) (node : Node) (t : List Session) (w : List (List ℕ)) → length (sendsPrint k node t w) ≤ 38 * k
 unfolding sendsPrint
-sends-most zero node t = omega arith
-sends-most (suc k) node t =
-    let a = due-most (take (sendOf node t lentReply .answer .size) (sendOf node t lentReply .reply)) in
-    let s = sent-most node t lentReply in
-    let r = sends-most k (sendOf node t lentReply .answer .node) (sendOf node t lentReply .table) in
-    split (eqb (sendOf node t lentReply .answer .number) 0) (λ e. rw e (simp length-append (omega arith))) (λ e. rw e (omega arith))
+sends-most zero node t w = omega arith
+sends-most (suc k) node t w =
+    let a = due-most (take (sendStored node t w lentReply .answer .size) (sendStored node t w lentReply .reply)) in
+    let s = sent-most node t w lentReply in
+    let r = sends-most k (sendStored node t w lentReply .answer .node) (sendStored node t w lentReply .table) w in
+    split (eqb (sendStored node t w lentReply .answer .number) 0) (λ e. rw e (simp length-append (omega arith))) (λ e. rw e (omega arith))
 
-then-most : (x : Outcome) → length (x .reply) ≡ 0 → length (thenPrints x) ≤ 61 + 38 * places
+then-most : (x : Stored) → length (x .call .reply) ≡ 0 → length (thenPrints x) ≤ 61 + 38 * places
 unfolding thenPrints
 then-most x h =
-    let a = unit-most x 0 h in
-    let b = sends-most (places + 1) (x .answer .node) (x .table) in
+    let a = unit-most (x .call) 0 h in
+    let b = sends-most (places + 1) (x .call .answer .node) (x .call .table) (x .store) in
     simp length-append (omega arith)
 
 took-most : (x : Took) (d : List ℕ) → length (x .reply) ≡ leastReply → length d ≤ 2048 → length (tookPrints x d) ≤ 4377
@@ -276,9 +275,9 @@ took-most x d h k =
     let q = rest-most (x .start) d in
     split (eqb (x .number) 0 && eqb (x .size) 0) (λ e. rw e (omega arith)) (λ e. rw e (omega arith))
 
-output-length : length lentOutput ≡ gpduMost
+lent-output : length lentOutput ≡ gpduMost
 unfolding lentOutput
-output-length = length-replicate {A = ℕ} gpduMost 0
+lent-output = length-replicate {A = ℕ} gpduMost 0
 
 -- 2,056 octets and an address
 output-most : (x : Output) → length (x .buffer) ≡ gpduMost → length (outputPrints x) ≤ 4145
@@ -290,18 +289,18 @@ output-most x h =
     let q = length-octets 4 (x .written .peer) in
     split (eqb (x .written .number) 0) (λ e. rw e (omega arith)) (λ e. rw e (omega arith))
 
-ask-most : (a : Ask) (octets : List ℕ) (lines : ℕ) (node : Node) (t : List Session) → length octets ≡ 2048
-    → length (askPrints a octets lines node t) ≤ 4377 + 38 * places
-unfolding askPrints leastReply
-ask-most a octets lines node t h =
+call-most : (a : Call) (octets : List ℕ) (lines : ℕ) (node : Node) (t : List Session) (w : List (List ℕ)) → length octets ≡ 2048
+    → length (callPrints a octets lines node t w) ≤ 4377 + 38 * places
+unfolding callPrints leastReply
+call-most a octets lines node t w h =
     let d = take (a .size) octets in
     let l = lent-most in
     let p = part-most (a .size) octets in
-    let c = unit-most (controlTaken node t d lentReply) leastReply (control-length node t lentReply d ∙ lent-most) in
-    let u = took-most (userTaken node t d lentReply) d (user-length node t lentReply d ∙ lent-most) (omega arith) in
-    let w = output-most (downTaken node t d lentOutput) (down-length node t d lentOutput ∙ output-length) in
-    let k = then-most (tickOf node t) (tick-length node t) in
-    let x = then-most (closeOf node t (a .place)) (close-length node t (a .place)) in
+    let c = unit-most (controlStored node t w d lentReply .call) leastReply (control-length node t lentReply w d ∙ lent-most) in
+    let u = took-most (userStored node t w d lentReply) d (user-length node t lentReply w d ∙ lent-most) (omega arith) in
+    let o = output-most (downStored node t w d lentOutput) (output-length node t w d lentOutput ∙ lent-output) in
+    let k = then-most (tickStored node t w) (tick-length node t w) in
+    let x = then-most (stored (closeStored node t w (a .place)) w) (close-length node t w (a .place)) in
     let b = bad-most lines in
     split (eqb (a .kind) controlCall) (λ e. rw e (omega arith))
     (λ e. rw e (split (eqb (a .kind) userCall) (λ f. rw f (omega arith))
@@ -309,13 +308,13 @@ ask-most a octets lines node t h =
     (λ g. rw g (split (eqb (a .kind) tickCall) (λ i. rw i (omega arith))
     (λ i. rw i (split (eqb (a .kind) closeCall) (λ j. rw j (omega arith)) (λ j. rw j (omega arith))))))))))
 
-leave-most : (line : Line) (octets : List ℕ) (b : Bench) (t : List Session) → length octets ≡ 2048
-    → length (leavePrints line octets b t) ≤ 4400 + 38 * places
+leave-most : (line : Line) (octets : List ℕ) (b : Bench) (t : List Session) (w : List (List ℕ)) → length octets ≡ 2048
+    → length (leavePrints line octets b t w) ≤ 4400 + 38 * places
 unfolding leavePrints
-leave-most line octets b t h =
-    let p = plan-most (freshOf (b .node .plan) t .answer) in
-    let a = ask-most (askOf line) octets (b .lines) (planTaken b t [] .bench .node) (planTaken b t [] .table) h in
-    split (eqb (planTaken b t [] .bench .phase) over) (λ e. rw e (omega arith)) (λ e. rw e (simp length-append (omega arith)))
+leave-most line octets b t w h =
+    let p = plan-most (freshStored (b .node .plan) t w .call .answer) in
+    let a = call-most (callOf line) octets (b .lines) (planTaken b t w [] .bench .node) (planTaken b t w [] .table) (planTaken b t w [] .store) h in
+    split (eqb (planTaken b t w [] .bench .phase) over) (λ e. rw e (omega arith)) (λ e. rw e (simp length-append (omega arith)))
 
 start-most : (line : Line) (lines : ℕ) → length (startPrints line lines) ≤ 23
 unfolding startPrints
@@ -355,22 +354,22 @@ octets-length : (text : List ℕ) → length (lineRead text lentOctets .octets) 
 unfolding lentOctets
 octets-length text = line-read-length text (replicate 2048 0) ∙ length-replicate {A = ℕ} 2048 0
 
-pub line-most : (text : List ℕ) (b : Bench) (t : List Session) → length (linePrints text b t) ≤ 4400 + 38 * places
+pub line-most : (text : List ℕ) (b : Bench) (t : List Session) (w : List (List ℕ)) → length (linePrints text b t w) ≤ 4400 + 38 * places
 unfolding linePrints toldPrints
-line-most text b t =
+line-most text b t w =
     let line = lineRead text lentOctets .line in
     let octets = lineRead text lentOctets .octets in
     let o = octets-length text in
-    let a = ask-most (askOf line) octets (withLine b .lines) (b .node) t o in
-    let l = leave-most line octets (withLine b) t o in
+    let a = call-most (callOf line) octets (withLine b .lines) (b .node) t w o in
+    let l = leave-most line octets (withLine b) t w o in
     let e = early-most line b in
     split (eqb (b .phase) runs) (λ f. rw f (omega arith))
     (λ f. rw f (split (eqb (b .phase) plans && not (isPoint line)) (λ g. rw g (omega arith)) (λ g. rw g (omega arith))))
 
 -- the first line of a run
-pub first-most : (text : List ℕ) (b : Bench) (t : List Session) → b .phase ≡ firstPhase → length (linePrints text b t) ≤ 23
+pub first-most : (text : List ℕ) (b : Bench) (t : List Session) (w : List (List ℕ)) → b .phase ≡ firstPhase → length (linePrints text b t w) ≤ 23
 unfolding linePrints toldPrints firstPhase plans runs
-first-most text b t h =
+first-most text b t w h =
     let e = early-most (lineRead text lentOctets .line) b in
     let r : eqb (b .phase) 2 ≡ false = rw h in
     let p : eqb (b .phase) 1 ≡ false = rw h in
@@ -381,18 +380,18 @@ first-most text b t h =
 unfoldable pub lineRoom : ℕ
 lineRoom = 4400 + placeRoom * places
 
-pub line-whole : (text : List ℕ) (b : Bench) (t : List Session) (out : List ℕ) → b .made + lineRoom ≤ length out
-    → (lineTaken text b t out .bench .made ≡ b .made + length (linePrints text b t))
-    × (lineTaken text b t out .out ≡ take (b .made) out ++ (linePrints text b t ++ drop (b .made + length (linePrints text b t)) out))
+pub line-whole : (text : List ℕ) (b : Bench) (t : List Session) (w : List (List ℕ)) (out : List ℕ) → b .made + lineRoom ≤ length out
+    → (lineTaken text b t w out .bench .made ≡ b .made + length (linePrints text b t w))
+    × (lineTaken text b t w out .out ≡ take (b .made) out ++ (linePrints text b t w ++ drop (b .made + length (linePrints text b t w)) out))
 unfolding lineRoom placeRoom leastReply
-line-whole text b t out h =
-    let m = line-most text b t in
-    adds-whole _ _ _ _ _ (line-adds text b t out (omega arith)) (omega arith)
+line-whole text b t w out h =
+    let m = line-most text b t w in
+    adds-whole _ _ _ _ _ (line-adds text b t w out (omega arith)) (omega arith)
 
-pub end-whole : (b : Bench) (t : List Session) (out : List ℕ) → b .made + lineRoom ≤ length out
-    → (endOfInput b t out .bench .made ≡ b .made + length (endPrints b t))
-    × (endOfInput b t out .out ≡ take (b .made) out ++ (endPrints b t ++ drop (b .made + length (endPrints b t)) out))
+pub end-whole : (b : Bench) (t : List Session) (w : List (List ℕ)) (out : List ℕ) → b .made + lineRoom ≤ length out
+    → (endOfInput b t w out .bench .made ≡ b .made + length (endPrints b t w))
+    × (endOfInput b t w out .out ≡ take (b .made) out ++ (endPrints b t w ++ drop (b .made + length (endPrints b t w)) out))
 unfolding lineRoom placeRoom leastReply
-end-whole b t out h =
-    let m = end-most b t in
-    adds-whole _ _ _ _ _ (end-adds b t out (omega arith)) (omega arith)
+end-whole b t w out h =
+    let m = end-most b t w in
+    adds-whole _ _ _ _ _ (end-adds b t w out (omega arith)) (omega arith)

@@ -1,11 +1,12 @@
-// The bench's run: what one line of input does to the unit and what is printed for it. The unit's records are lent, and the firmware's own
-// calls work on them where they lie.
+// The bench's run: what one line of input does to the unit and what is printed for it. The unit's records and its store of kept replies are
+// lent, and the firmware's own calls work on them where they lie.
 use bench_text::Line;
 use bench_unit::Bench;
 use call_down::Written;
 use call_own::Answer;
 use call_user::Handed;
 use unit_session::Session;
+use unit_store::Kept;
 use unit_tunnel::Unit;
 use wire_user::Header;
 ghost use mathlib.Core.Bool.{not, _&&_};
@@ -13,13 +14,12 @@ ghost use mathlib.Core.Path.{_≡_};
 ghost use lib.Dec.{eqb};
 ghost use lib.ListN.{drop, take};
 ghost use Rattle.call_own.specs.Outcome.{back};
-ghost use Rattle.call_own.specs.Calls.{tickOf, closeOf};
-ghost use Rattle.call_control.specs.Control.{controlTaken};
 ghost use Rattle.call_user.specs.Parcel.{parcel};
 ghost use Rattle.call_down.specs.Down.{output};
+ghost use Rattle.call_store.specs.Stored.{stored, tickStored, closeStored, controlStored};
 ghost use Rattle.bench_unit.specs.State.{shown, ran, lentReply, plans, unitShown};
 ghost use Rattle.bench_run.specs.Run.{sentShown, oneSent, hasDue, allSent, thenSent, handedShown, userRun, downShown, downRun};
-ghost use Rattle.bench_run.specs.Taken.{askOf, runLine, leavePlan, isPoint, pointLine, earlyLine, lineTaken};
+ghost use Rattle.bench_run.specs.Taken.{callOf, runLine, leavePlan, isPoint, pointLine, earlyLine, lineTaken};
 
 // One datagram that is due, sent and printed; whether there was one.
 struct Sent {
@@ -57,12 +57,12 @@ fn show_sent(b: Bench, a: Answer, reply: &[u8], out: &mut [u8]) -> Sent
     }
 }
 
-fn send_one(b: Bench, recs: &mut [Session], out: &mut [u8]) -> Sent
-    ensures { λ r. ⌜ (r .go ≡ hasDue b (now (recs .entry))) × (ran (r .bench) (now (recs .exit)) (now (out .exit)) ≡ oneSent b (now (recs .entry)) (now (out .entry))) ⌝ }
+fn send_one(b: Bench, recs: &mut [Session], store: &[[u8; Kept::OCTETS]], out: &mut [u8]) -> Sent
+    ensures { λ r. ⌜ (r .go ≡ hasDue b (now (recs .entry)) (now (store .entry))) × (ran (r .bench) (now (recs .exit)) (now (store .entry)) (now (out .exit)) ≡ oneSent b (now (recs .entry)) (now (store .entry)) (now (out .entry))) ⌝ }
 {
     let mut reply = [0; Answer::LEAST_REPLY];
     let node = bench_unit::node_of(b);
-    let a = lent_own::grugavorn_send(node, recs, &mut reply);
+    let a = lent_own::grugavorn_send(node, recs, store, &mut reply);
     show_sent(b, a, &reply, out)
 }
 
@@ -70,13 +70,13 @@ fn send_one(b: Bench, recs: &mut [Session], out: &mut [u8]) -> Sent
 const SENDS: usize = Unit::PLACES + 1;
 
 // All that is due.
-fn send_all(b: Bench, recs: &mut [Session], out: &mut [u8]) -> Bench
-    ensures { λ r. ⌜ ran r (now (recs .exit)) (now (out .exit)) ≡ allSent b (now (recs .entry)) (now (out .entry)) ⌝ }
+fn send_all(b: Bench, recs: &mut [Session], store: &[[u8; Kept::OCTETS]], out: &mut [u8]) -> Bench
+    ensures { λ r. ⌜ ran r (now (recs .exit)) (now (store .entry)) (now (out .exit)) ≡ allSent b (now (recs .entry)) (now (store .entry)) (now (out .entry)) ⌝ }
 {
     let mut y = b;
     let mut i: usize = 0;
     while i < SENDS {
-        let s = send_one(y, recs, out);
+        let s = send_one(y, recs, store, out);
         y = bench_of(s);
         let last = is_last(s);
         if last {
@@ -87,13 +87,20 @@ fn send_all(b: Bench, recs: &mut [Session], out: &mut [u8]) -> Bench
     y
 }
 
-fn run_control(b: Bench, recs: &mut [Session], octets: &[u8], size: usize, out: &mut [u8]) -> Bench
-    ensures { λ r. ⌜ ran r (now (recs .exit)) (now (out .exit)) ≡ unitShown (controlTaken (b .node) (now (recs .entry)) (take size (now (octets .entry))) lentReply) b (now (out .entry)) ⌝ }
+fn run_control(
+    b: Bench,
+    recs: &mut [Session],
+    store: &mut [[u8; Kept::OCTETS]],
+    octets: &[u8],
+    size: usize,
+    out: &mut [u8],
+) -> Bench
+    ensures { λ r. ⌜ ran r (now (recs .exit)) (now (store .exit)) (now (out .exit)) ≡ unitShown (controlStored (b .node) (now (recs .entry)) (now (store .entry)) (take size (now (octets .entry))) lentReply) b (now (out .entry)) ⌝ }
 {
     let d = bench_unit::front(octets, size);
     let mut reply = [0; Answer::LEAST_REPLY];
     let node = bench_unit::node_of(b);
-    let a = lent_control::grugavorn_control(node, recs, d, &mut reply);
+    let a = lent_control::grugavorn_control(node, recs, store, d, &mut reply);
     bench_unit::show_answered(b, a, &reply, out)
 }
 
@@ -121,13 +128,20 @@ fn show_handed(b: Bench, h: Handed, d: &[u8], reply: &[u8], out: &mut [u8]) -> B
     bench_unit::with_made(b, made)
 }
 
-fn run_user(b: Bench, recs: &mut [Session], octets: &[u8], size: usize, out: &mut [u8]) -> Bench
-    ensures { λ r. ⌜ ran r (now (recs .exit)) (now (out .exit)) ≡ userRun (take size (now (octets .entry))) b (now (recs .entry)) (now (out .entry)) ⌝ }
+fn run_user(
+    b: Bench,
+    recs: &mut [Session],
+    store: &[[u8; Kept::OCTETS]],
+    octets: &[u8],
+    size: usize,
+    out: &mut [u8],
+) -> Bench
+    ensures { λ r. ⌜ ran r (now (recs .exit)) (now (store .entry)) (now (out .exit)) ≡ userRun (take size (now (octets .entry))) b (now (recs .entry)) (now (store .entry)) (now (out .entry)) ⌝ }
 {
     let d = bench_unit::front(octets, size);
     let mut reply = [0; Answer::LEAST_REPLY];
     let node = bench_unit::node_of(b);
-    let h = lent_user::grugavorn_user(node, recs, d, &mut reply);
+    let h = lent_user::grugavorn_user(node, recs, store, d, &mut reply);
     show_handed(b, h, d, &reply, out)
 }
 
@@ -148,42 +162,60 @@ fn show_down(b: Bench, w: Written, buffer: &[u8], out: &mut [u8]) -> Bench
     bench_unit::with_made(b, made)
 }
 
-fn run_down(b: Bench, recs: &mut [Session], octets: &[u8], size: usize, out: &mut [u8]) -> Bench
-    ensures { λ r. ⌜ ran r (now (recs .exit)) (now (out .exit)) ≡ downRun (take size (now (octets .entry))) b (now (recs .entry)) (now (out .entry)) ⌝ }
+fn run_down(
+    b: Bench,
+    recs: &mut [Session],
+    store: &[[u8; Kept::OCTETS]],
+    octets: &[u8],
+    size: usize,
+    out: &mut [u8],
+) -> Bench
+    ensures { λ r. ⌜ ran r (now (recs .exit)) (now (store .entry)) (now (out .exit)) ≡ downRun (take size (now (octets .entry))) b (now (recs .entry)) (now (store .entry)) (now (out .entry)) ⌝ }
 {
     let packet = bench_unit::front(octets, size);
     let mut buffer = [0; GPDU];
     let node = bench_unit::node_of(b);
-    let w = lent_down::grugavorn_down(node, recs, packet, &mut buffer);
+    let w = lent_down::grugavorn_down(node, recs, store, packet, &mut buffer);
     show_down(b, w, &buffer, out)
 }
 
-fn run_tick(b: Bench, recs: &mut [Session], out: &mut [u8]) -> Bench
-    ensures { λ r. ⌜ ran r (now (recs .exit)) (now (out .exit)) ≡ thenSent (unitShown (tickOf (b .node) (now (recs .entry))) b (now (out .entry))) ⌝ }
+fn run_tick(
+    b: Bench,
+    recs: &mut [Session],
+    store: &mut [[u8; Kept::OCTETS]],
+    out: &mut [u8],
+) -> Bench
+    ensures { λ r. ⌜ ran r (now (recs .exit)) (now (store .exit)) (now (out .exit)) ≡ thenSent (unitShown (tickStored (b .node) (now (recs .entry)) (now (store .entry))) b (now (out .entry))) ⌝ }
 {
     let node = bench_unit::node_of(b);
-    let a = lent_own::grugavorn_tick(node, recs);
+    let a = lent_own::grugavorn_tick(node, recs, store);
     let next = bench_unit::answered_bare(b, a, out);
-    send_all(next, recs, out)
+    send_all(next, recs, store, out)
 }
 
-fn run_close(b: Bench, recs: &mut [Session], place: usize, out: &mut [u8]) -> Bench
-    ensures { λ r. ⌜ ran r (now (recs .exit)) (now (out .exit)) ≡ thenSent (unitShown (closeOf (b .node) (now (recs .entry)) place) b (now (out .entry))) ⌝ }
+fn run_close(
+    b: Bench,
+    recs: &mut [Session],
+    store: &[[u8; Kept::OCTETS]],
+    place: usize,
+    out: &mut [u8],
+) -> Bench
+    ensures { λ r. ⌜ ran r (now (recs .exit)) (now (store .entry)) (now (out .exit)) ≡ thenSent (unitShown (stored (closeStored (b .node) (now (recs .entry)) (now (store .entry)) place) (now (store .entry))) b (now (out .entry))) ⌝ }
 {
     let node = bench_unit::node_of(b);
-    let a = lent_own::grugavorn_close(node, recs, place);
+    let a = lent_own::grugavorn_close(node, recs, store, place);
     let next = bench_unit::answered_bare(b, a, out);
-    send_all(next, recs, out)
+    send_all(next, recs, store, out)
 }
 
 // What a line asks of the unit, in numbers: which call, of how many octets a datagram or a packet, of which place.
-struct Ask {
+struct Call {
     kind: u8,
     size: usize,
     place: usize,
 }
 
-impl Ask {
+impl Call {
     pub const NONE: u8 = 0;
 
     pub const CONTROL: u8 = 1;
@@ -197,79 +229,93 @@ impl Ask {
     pub const CLOSE: u8 = 5;
 }
 
-fn asking(kind: u8, size: usize, place: usize) -> Ask
+fn calling(kind: u8, size: usize, place: usize) -> Call
     ensures { λ r. ⌜ r ≡ record { kind = kind; size = size; place = place } ⌝ }
 {
-    Ask { kind, size, place }
+    Call { kind, size, place }
 }
 
-fn ask_of(line: Line) -> Ask
-    ensures { λ r. ⌜ r ≡ askOf line ⌝ }
+fn call_of(line: Line) -> Call
+    ensures { λ r. ⌜ r ≡ callOf line ⌝ }
 {
     match line {
-        Line::Control { size } => asking(Ask::CONTROL, size, 0),
-        Line::User { size } => asking(Ask::USER, size, 0),
-        Line::Down { size } => asking(Ask::DOWN, size, 0),
-        Line::Tick => asking(Ask::TICK, 0, 0),
-        Line::Close { place } => asking(Ask::CLOSE, 0, place as usize),
-        _ => asking(Ask::NONE, 0, 0),
+        Line::Control { size } => calling(Call::CONTROL, size, 0),
+        Line::User { size } => calling(Call::USER, size, 0),
+        Line::Down { size } => calling(Call::DOWN, size, 0),
+        Line::Tick => calling(Call::TICK, 0, 0),
+        Line::Close { place } => calling(Call::CLOSE, 0, place as usize),
+        _ => calling(Call::NONE, 0, 0),
     }
 }
 
-fn kind_of(a: Ask) -> u8
+fn kind_of(a: Call) -> u8
     ensures { λ r. ⌜ r ≡ a .kind ⌝ }
 {
     a.kind
 }
 
-fn size_of(a: Ask) -> usize
+fn size_of(a: Call) -> usize
     ensures { λ r. ⌜ r ≡ a .size ⌝ }
 {
     a.size
 }
 
-fn place_of(a: Ask) -> usize
+fn place_of(a: Call) -> usize
     ensures { λ r. ⌜ r ≡ a .place ⌝ }
 {
     a.place
 }
 
 // A line once the plan is taken.
-fn run_line(b: Bench, recs: &mut [Session], line: Line, octets: &[u8], out: &mut [u8]) -> Bench
-    ensures { λ r. ⌜ ran r (now (recs .exit)) (now (out .exit)) ≡ runLine line (now (octets .entry)) b (now (recs .entry)) (now (out .entry)) ⌝ }
+fn run_line(
+    b: Bench,
+    recs: &mut [Session],
+    store: &mut [[u8; Kept::OCTETS]],
+    line: Line,
+    octets: &[u8],
+    out: &mut [u8],
+) -> Bench
+    ensures { λ r. ⌜ ran r (now (recs .exit)) (now (store .exit)) (now (out .exit)) ≡ runLine line (now (octets .entry)) b (now (recs .entry)) (now (store .entry)) (now (out .entry)) ⌝ }
 {
-    let a = ask_of(line);
+    let a = call_of(line);
     let kind = kind_of(a);
     let size = size_of(a);
     let place = place_of(a);
-    if kind == Ask::CONTROL {
-        return run_control(b, recs, octets, size, out);
+    if kind == Call::CONTROL {
+        return run_control(b, recs, store, octets, size, out);
     }
-    if kind == Ask::USER {
-        return run_user(b, recs, octets, size, out);
+    if kind == Call::USER {
+        return run_user(b, recs, store, octets, size, out);
     }
-    if kind == Ask::DOWN {
-        return run_down(b, recs, octets, size, out);
+    if kind == Call::DOWN {
+        return run_down(b, recs, store, octets, size, out);
     }
-    if kind == Ask::TICK {
-        return run_tick(b, recs, out);
+    if kind == Call::TICK {
+        return run_tick(b, recs, store, out);
     }
-    if kind == Ask::CLOSE {
-        return run_close(b, recs, place, out);
+    if kind == Call::CLOSE {
+        return run_close(b, recs, store, place, out);
     }
     bench_unit::end_bad(b, out)
 }
 
 // Another line than one of an access point takes the plan first.
-fn leave_plan(b: Bench, recs: &mut [Session], line: Line, octets: &[u8], out: &mut [u8]) -> Bench
-    ensures { λ r. ⌜ ran r (now (recs .exit)) (now (out .exit)) ≡ leavePlan line (now (octets .entry)) b (now (recs .entry)) (now (out .entry)) ⌝ }
+fn leave_plan(
+    b: Bench,
+    recs: &mut [Session],
+    store: &mut [[u8; Kept::OCTETS]],
+    line: Line,
+    octets: &[u8],
+    out: &mut [u8],
+) -> Bench
+    ensures { λ r. ⌜ ran r (now (recs .exit)) (now (store .exit)) (now (out .exit)) ≡ leavePlan line (now (octets .entry)) b (now (recs .entry)) (now (store .entry)) (now (out .entry)) ⌝ }
 {
-    let next = bench_unit::take_plan(b, recs, out);
+    let next = bench_unit::take_plan(b, recs, store, out);
     let phase = bench_unit::phase_of(next);
     if phase == Bench::OVER {
         return next;
     }
-    run_line(next, recs, line, octets, out)
+    run_line(next, recs, store, line, octets, out)
 }
 
 // Whether it is a line of an access point, a good one or a bad one.
@@ -323,19 +369,25 @@ fn early_line(b: Bench, line: Line, octets: &[u8], out: &mut [u8]) -> Bench
 }
 
 // A line of input, without its line end.
-pub fn take_line(b: Bench, recs: &mut [Session], text: &[u8], out: &mut [u8]) -> Bench
-    ensures { λ r. ⌜ ran r (now (recs .exit)) (now (out .exit)) ≡ lineTaken (now (text .entry)) b (now (recs .entry)) (now (out .entry)) ⌝ }
+pub fn take_line(
+    b: Bench,
+    recs: &mut [Session],
+    store: &mut [[u8; Kept::OCTETS]],
+    text: &[u8],
+    out: &mut [u8],
+) -> Bench
+    ensures { λ r. ⌜ ran r (now (recs .exit)) (now (store .exit)) (now (out .exit)) ≡ lineTaken (now (text .entry)) b (now (recs .entry)) (now (store .entry)) (now (out .entry)) ⌝ }
 {
     let mut octets = [0; 2048];
     let line = bench_text::read_line(text, &mut octets);
     let next = bench_unit::with_line(b);
     let phase = bench_unit::phase_of(b);
     if phase == Bench::RUNS {
-        return run_line(next, recs, line, &octets, out);
+        return run_line(next, recs, store, line, &octets, out);
     }
     let leaves = leaves_plan(b, line);
     if leaves {
-        return leave_plan(next, recs, line, &octets, out);
+        return leave_plan(next, recs, store, line, &octets, out);
     }
     early_line(b, line, &octets, out)
 }

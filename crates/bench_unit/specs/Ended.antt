@@ -19,7 +19,7 @@ use Rattle.unit_table.specs.Change.{nobody}
 use Rattle.unit_table.specs.Room.{sessions}
 use Rattle.call_own.specs.declared.Answer.{Answer}
 use Rattle.call_own.specs.Outcome.{outcome, Back, back, leastReply}
-use Rattle.call_line.specs.Line.{lineOf}
+use Rattle.call_store.specs.Stored.{lineStored}
 use Rattle.bench_text.specs.Prints.{liveText}
 use Rattle.bench_unit.specs.declared.Bench.{Bench}
 use Rattle.bench_unit.specs.State.{Shown, shown, Ran, ran, beside, plans, runs, over, lentReply, counted, withLine, withMade, printed, endBad}
@@ -36,33 +36,35 @@ liveShown n b out = printed (liveText n) (λ made. withMade made b) (b .made) ou
 unfoldable pub lineShown : Back → Bench → List ℕ → Shown
 lineShown x b out = printed (take (x .answer .size) (x .reply) ++ (10 ∷ [])) (λ made. withMade made b) (b .made) out
 
-unfoldable pub placePrinted : List Session → ℕ → Bench → List ℕ → Shown
-placePrinted t place b out =
-    pick (eqb (getD t place nobody .usage) 0) (shown b out)
-    (lineShown (back (lineOf (b .node) t place lentReply .answer) (lineOf (b .node) t place lentReply .reply)) b out)
+unfoldable pub linePrinted : List Session → List (List ℕ) → ℕ → Bench → List ℕ → Shown
+linePrinted t w place b out = lineShown (back (lineStored (b .node) t w place lentReply .answer) (lineStored (b .node) t w place lentReply .reply)) b out
+
+unfoldable pub placePrinted : List Session → List (List ℕ) → ℕ → Bench → List ℕ → Shown
+placePrinted t w place b out = pick (eqb (getD t place nobody .usage) 0) (shown b out) (linePrinted t w place b out)
 
 -- the first so many places
-unfoldable pub placesTo : List Session → ℕ → Shown → Shown
-placesTo t zero x = x
-placesTo t (suc k) x = placePrinted t k (placesTo t k x .bench) (placesTo t k x .out)
+unfoldable pub placesTo : List Session → List (List ℕ) → ℕ → Shown → Shown
+placesTo t w zero x = x
+placesTo t w (suc k) x = placePrinted t w k (placesTo t w k x .bench) (placesTo t w k x .out)
 
-unfoldable pub placesPrinted : List Session → Bench → List ℕ → Shown
-placesPrinted t b out = placesTo t places (liveShown (sessions (take places t)) b out)
+unfoldable pub placesPrinted : List Session → List (List ℕ) → Bench → List ℕ → Shown
+placesPrinted t w b out = placesTo t w places (liveShown (sessions (take places t)) b out)
 
 -- ---- the end of the input: without any line it is a bad first line
-unfoldable pub endPlan : Bench → List Session → List ℕ → Ran
-endPlan b t out =
-    pick (eqb (planTaken b t out .bench .phase) over) (planTaken b t out)
-    (beside (planTaken b t out .table) (placesPrinted (planTaken b t out .table) (planTaken b t out .bench) (planTaken b t out .out)))
+unfoldable pub endPlan : Bench → List Session → List (List ℕ) → List ℕ → Ran
+endPlan b t w out =
+    pick (eqb (planTaken b t w out .bench .phase) over) (planTaken b t w out)
+    (beside (planTaken b t w out .table) (planTaken b t w out .store)
+    (placesPrinted (planTaken b t w out .table) (planTaken b t w out .store) (planTaken b t w out .bench) (planTaken b t w out .out)))
 
 unfoldable pub endFirst : Bench → List ℕ → Shown
 endFirst b out = endBad (withLine b) out
 
-unfoldable pub endOfInput : Bench → List Session → List ℕ → Ran
-endOfInput b t out =
-    pick (eqb (b .phase) over) (ran b t out)
-    (pick (eqb (b .phase) runs) (beside t (placesPrinted t b out))
-    (pick (eqb (b .phase) plans) (endPlan b t out) (beside t (endFirst b out))))
+unfoldable pub endOfInput : Bench → List Session → List (List ℕ) → List ℕ → Ran
+endOfInput b t w out =
+    pick (eqb (b .phase) over) (ran b t w out)
+    (pick (eqb (b .phase) runs) (beside t w (placesPrinted t w b out))
+    (pick (eqb (b .phase) plans) (endPlan b t w out) (beside t w (endFirst b out))))
 
 -- ---- laws of the count: a place more
 sum-next : {A : Type 0} (f : A → ℕ) (l : List A) (i : ℕ) (d : A) → f d ≡ 0 → sumOf f (take (suc i) l) ≡ sumOf f (take i l) + f (getD l i d)
@@ -101,57 +103,64 @@ count-next t i n m s h e f g =
 pub count-end : (t : List Session) (i n : ℕ) → n ≡ sessions (take i t) → i ≡ places → n ≡ sessions (take places t)
 count-end t i n e f = e ∙ rw f
 
--- ---- a place: never used, used
-module _ (t : List Session) (place : ℕ) (b : Bench) (out : List ℕ) (s : Session) (e : s ≡ getD t place (blankAt 0)) where
-  pub place-unused : (v : Bool) → v ≡ eqb (s .usage) 0 → v ≡ true → shown b out ≡ placePrinted t place b out
+-- ---- a place: its line; never used, used
+pub line-printed : (t : List Session) (w : List (List ℕ)) (place : ℕ) (b r : Bench) (out o text : List ℕ) (node : Node) (a : Answer) → node ≡ b .node
+    → outcome a t text ≡ lineStored node t w place (replicate leastReply 0) → shown r o ≡ lineShown (back a text) b out
+    → shown r o ≡ linePrinted t w place b out
+unfolding linePrinted lentReply
+line-printed t w place b r out o text node a e f g = rw (← rw e at f) g
+
+module _ (t : List Session) (w : List (List ℕ)) (place : ℕ) (b : Bench) (out : List ℕ) (s : Session) (e : s ≡ getD t place (blankAt 0)) where
+  pub place-unused : (v : Bool) → v ≡ eqb (s .usage) 0 → v ≡ true → shown b out ≡ placePrinted t w place b out
   unfolding placePrinted
   place-unused v f h = rw (← e, ← f, h)
 
-  pub place-used : (v : Bool) (node : Node) (a : Answer) (text o : List ℕ) (r : Bench) → v ≡ eqb (s .usage) 0 → v ≡ false → node ≡ b .node
-      → outcome a t text ≡ lineOf node t place (replicate leastReply 0) → shown r o ≡ lineShown (back a text) b out → shown r o ≡ placePrinted t place b out
-  unfolding placePrinted lentReply
-  place-used v node a text o r f h g k q = rw (← e, ← f, h, ← rw g at k) q
+  pub place-used : (v : Bool) (o : List ℕ) (r : Bench) → v ≡ eqb (s .usage) 0 → v ≡ false → shown r o ≡ linePrinted t w place b out
+      → shown r o ≡ placePrinted t w place b out
+  unfolding placePrinted
+  place-used v o r f h g = rw (← e, ← f, h) g
 
 -- ---- all places
-pub places-none : (t : List Session) (b r : Bench) (out o : List ℕ) (n : ℕ) → n ≡ sessions (take places t) → shown r o ≡ liveShown n b out
-    → shown r o ≡ placesTo t 0 (liveShown (sessions (take places t)) b out)
-unfolding placesTo
-places-none t b r out o n e f = rw (← e) f
+module _ (t : List Session) (w : List (List ℕ)) where
+  pub places-none : (b r : Bench) (out o : List ℕ) (n : ℕ) → n ≡ sessions (take places t) → shown r o ≡ liveShown n b out
+      → shown r o ≡ placesTo t w 0 (liveShown (sessions (take places t)) b out)
+  unfolding placesTo
+  places-none b r out o n e f = rw (← e) f
 
-pub places-next : (t : List Session) (i : ℕ) (x : Shown) (b c : Bench) (out o : List ℕ) → shown b out ≡ placesTo t i x → shown c o ≡ placePrinted t i b out
-    → shown c o ≡ placesTo t (i + 1) x
-unfolding placesTo
-places-next t i x b c out o e f = let z : i + 1 ≡ suc i = omega arith in f ∙ rw (z, ← e)
+  pub places-next : (i : ℕ) (x : Shown) (b c : Bench) (out o : List ℕ) → shown b out ≡ placesTo t w i x → shown c o ≡ placePrinted t w i b out
+      → shown c o ≡ placesTo t w (i + 1) x
+  unfolding placesTo
+  places-next i x b c out o e f = let z : i + 1 ≡ suc i = omega arith in f ∙ rw (z, ← e)
 
-pub places-end : (t : List Session) (i : ℕ) (b c : Bench) (out o : List ℕ) → shown c o ≡ placesTo t i (liveShown (sessions (take places t)) b out) → i ≡ places
-    → shown c o ≡ placesPrinted t b out
-unfolding placesPrinted
-places-end t i b c out o e f = e ∙ rw f
+  pub places-end : (i : ℕ) (b c : Bench) (out o : List ℕ) → shown c o ≡ placesTo t w i (liveShown (sessions (take places t)) b out) → i ≡ places
+      → shown c o ≡ placesPrinted t w b out
+  unfolding placesPrinted
+  places-end i b c out o e f = e ∙ rw f
 
 -- ---- the plan is taken at the end
-module _ (b c r : Bench) (t t′ : List Session) (out p o : List ℕ) (phase : ℕ) (e : ran c t′ p ≡ planTaken b t out) (f : phase ≡ c .phase) where
-  pub end-over : eqb phase 3 ≡ true → ran c t′ p ≡ endPlan b t out
+module _ (b c r : Bench) (t t′ : List Session) (w w′ : List (List ℕ)) (out p o : List ℕ) (phase : ℕ) (e : ran c t′ w′ p ≡ planTaken b t w out) (f : phase ≡ c .phase) where
+  pub end-over : eqb phase 3 ≡ true → ran c t′ w′ p ≡ endPlan b t w out
   unfolding endPlan over
   end-over h = rw (← e, rw f at h)
 
-  pub end-places : eqb phase 3 ≡ false → shown r o ≡ placesPrinted t′ c p → ran r t′ o ≡ endPlan b t out
+  pub end-places : eqb phase 3 ≡ false → shown r o ≡ placesPrinted t′ w′ c p → ran r t′ w′ o ≡ endPlan b t w out
   unfolding endPlan over
-  end-places h g = rw (← e, rw f at h) (ap (beside t′) g)
+  end-places h g = rw (← e, rw f at h) (ap (beside t′ w′) g)
 
 -- ---- the end, by where the run stands
-module _ (b r : Bench) (t t′ : List Session) (out o : List ℕ) (phase : ℕ) (e : phase ≡ b .phase) where
-  pub ended-over : eqb phase 3 ≡ true → ran b t out ≡ endOfInput b t out
+module _ (b r : Bench) (t t′ : List Session) (w w′ : List (List ℕ)) (out o : List ℕ) (phase : ℕ) (e : phase ≡ b .phase) where
+  pub ended-over : eqb phase 3 ≡ true → ran b t w out ≡ endOfInput b t w out
   unfolding endOfInput over
   ended-over h = rw (rw e at h)
 
-  pub ended-runs : eqb phase 3 ≡ false → eqb phase 2 ≡ true → shown r o ≡ placesPrinted t b out → ran r t o ≡ endOfInput b t out
+  pub ended-runs : eqb phase 3 ≡ false → eqb phase 2 ≡ true → shown r o ≡ placesPrinted t w b out → ran r t w o ≡ endOfInput b t w out
   unfolding endOfInput over runs
-  ended-runs h i g = rw (rw e at h, rw e at i) (ap (beside t) g)
+  ended-runs h i g = rw (rw e at h, rw e at i) (ap (beside t w) g)
 
-  pub ended-plan : eqb phase 3 ≡ false → eqb phase 2 ≡ false → eqb phase 1 ≡ true → ran r t′ o ≡ endPlan b t out → ran r t′ o ≡ endOfInput b t out
+  pub ended-plan : eqb phase 3 ≡ false → eqb phase 2 ≡ false → eqb phase 1 ≡ true → ran r t′ w′ o ≡ endPlan b t w out → ran r t′ w′ o ≡ endOfInput b t w out
   unfolding endOfInput over runs plans
   ended-plan h i j g = rw (rw e at h, rw e at i, rw e at j) g
 
-  pub ended-first : eqb phase 3 ≡ false → eqb phase 2 ≡ false → eqb phase 1 ≡ false → shown r o ≡ endFirst b out → ran r t o ≡ endOfInput b t out
+  pub ended-first : eqb phase 3 ≡ false → eqb phase 2 ≡ false → eqb phase 1 ≡ false → shown r o ≡ endFirst b out → ran r t w o ≡ endOfInput b t w out
   unfolding endOfInput over runs plans
-  ended-first h i j g = rw (rw e at h, rw e at i, rw e at j) (ap (beside t) g)
+  ended-first h i j g = rw (rw e at h, rw e at i, rw e at j) (ap (beside t w) g)

@@ -15,7 +15,7 @@ use Rattle.unit_table.specs.declared.Node.{Node}
 use Rattle.unit_table.specs.Own.{freshNode}
 use Rattle.call_own.specs.declared.Answer.{Answer}
 use Rattle.call_own.specs.Outcome.{outcome, back}
-use Rattle.call_own.specs.Calls.{freshOf}
+use Rattle.call_store.specs.Stored.{stored, freshStored}
 use Rattle.bench_text.specs.declared.Line.{Line}
 use Rattle.bench_text.specs.declared.Line.the-variants as L
 use Rattle.bench_unit.specs.declared.Bench.{Bench}
@@ -83,13 +83,15 @@ unfoldable pub planShown : Answer → Bench → List ℕ → Shown
 planShown a b out =
     pick (eqb (a .number) 0) (shown (keptIn (a .node) (b .made) (phased runs b)) out) (answeredShown (back a []) (phased over b) out)
 
-unfoldable pub planTaken : Bench → List Session → List ℕ → Ran
-planTaken b t out = beside (freshOf (b .node .plan) t .table) (planShown (freshOf (b .node .plan) t .answer) b out)
+unfoldable pub planTaken : Bench → List Session → List (List ℕ) → List ℕ → Ran
+planTaken b t w out =
+    beside (freshStored (b .node .plan) t w .call .table) (freshStored (b .node .plan) t w .store)
+    (planShown (freshStored (b .node .plan) t w .call .answer) b out)
 
-pub plan-taken : (b r : Bench) (t t′ : List Session) (out o : List ℕ) (p : Plan) (a : Answer) → p ≡ b .node .plan → outcome a t′ [] ≡ freshOf p t
-    → shown r o ≡ planShown a b out → ran r t′ o ≡ planTaken b t out
+pub plan-taken : (b r : Bench) (t t′ : List Session) (w w′ : List (List ℕ)) (out o : List ℕ) (p : Plan) (a : Answer) → p ≡ b .node .plan
+    → stored (outcome a t′ []) w′ ≡ freshStored p t w → shown r o ≡ planShown a b out → ran r t′ w′ o ≡ planTaken b t w out
 unfolding planTaken
-plan-taken b r t t′ out o p a e f g = rw (← rw e at f) (ap (beside t′) g)
+plan-taken b r t t′ w w′ out o p a e f g = rw (← rw e at f) (ap (beside t′ w′) g)
 
 -- the first line has to be N
 unfoldable pub startLine : Line → Bench → List ℕ → Shown

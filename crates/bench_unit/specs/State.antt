@@ -1,5 +1,5 @@
 -- Where the bench's run stands, and what is printed for what the unit answers: number and reply in hex, or -. A bad line prints E and ends.
--- The unit's records stand beside the run.
+-- The unit's records and its store of kept replies stand beside the run.
 -- Assumes nothing.
 use Prim.Native.Nat.{ℕ, _+_}
 use mathlib.Core.List.{List}
@@ -12,8 +12,9 @@ use Rattle.unit_plan.specs.Limits.{noPlan}
 use Rattle.unit_session.specs.declared.Session.{Session}
 use Rattle.unit_table.specs.declared.Node.{Node}
 use Rattle.unit_table.specs.Own.{freshNode}
-use Rattle.call_own.specs.Outcome.{Outcome, outcome, Back, back, leastReply}
+use Rattle.call_own.specs.Outcome.{outcome, Back, back, leastReply}
 use Rattle.call_own.specs.declared.Answer.{Answer}
+use Rattle.call_store.specs.Stored.{Stored, stored}
 use Rattle.bench_text.specs.Prints.{answerText, badText}
 use Rattle.bench_unit.specs.declared.Bench.{Bench}
 
@@ -25,17 +26,18 @@ pub record Shown : Type 0 where
 abbrev pub shown : Bench → List ℕ → Shown
 shown b out = record { bench = b; out = out }
 
--- with the unit's records
+-- with the unit's records and the store
 pub record Ran : Type 0 where
   pub bench : Bench
   pub table : List Session
+  pub store : List (List ℕ)
   pub out : List ℕ
 
-abbrev pub ran : Bench → List Session → List ℕ → Ran
-ran b t out = record { bench = b; table = t; out = out }
+abbrev pub ran : Bench → List Session → List (List ℕ) → List ℕ → Ran
+ran b t w out = record { bench = b; table = t; store = w; out = out }
 
-abbrev pub beside : List Session → Shown → Ran
-beside t x = ran (x .bench) t (x .out)
+abbrev pub beside : List Session → List (List ℕ) → Shown → Ran
+beside t w x = ran (x .bench) t w (x .out)
 
 -- phases: nothing read, the lines of the plan, the plan taken, ended
 unfoldable pub firstPhase : ℕ
@@ -90,14 +92,14 @@ unfoldable pub answeredShown : Back → Bench → List ℕ → Shown
 answeredShown x b out =
     printed (answerText (x .answer .number) (take (x .answer .size) (x .reply))) (λ made. keptIn (x .answer .node) made b) (b .made) out
 
--- what a call came to: that printed, and the records as it left them
-unfoldable pub unitShown : Outcome → Bench → List ℕ → Ran
-unitShown x b out = beside (x .table) (answeredShown (back (x .answer) (x .reply)) b out)
+-- what a call came to: that printed, the records and the store as it left them
+unfoldable pub unitShown : Stored → Bench → List ℕ → Ran
+unitShown x b out = beside (x .call .table) (x .store) (answeredShown (back (x .call .answer) (x .call .reply)) b out)
 
-pub unit-shown : (x : Outcome) (a : Answer) (t : List Session) (reply : List ℕ) (b r : Bench) (out o : List ℕ)
-    → outcome a t reply ≡ x → shown r o ≡ answeredShown (back a reply) b out → ran r t o ≡ unitShown x b out
+pub unit-shown : (x : Stored) (a : Answer) (t : List Session) (w : List (List ℕ)) (reply : List ℕ) (b r : Bench) (out o : List ℕ)
+    → stored (outcome a t reply) w ≡ x → shown r o ≡ answeredShown (back a reply) b out → ran r t w o ≡ unitShown x b out
 unfolding unitShown
-unit-shown x a t reply b r out o e f = rw (← e) (ap (beside t) f)
+unit-shown x a t w reply b r out o e f = rw (← e) (ap (beside t w) f)
 
 -- ---- laws of the printing
 pub printed-by : (text : List ℕ) (next : ℕ → Bench) (made r : ℕ) (out o : List ℕ) → written r o ≡ laid made text out → shown (next r) o ≡ printed text next made out

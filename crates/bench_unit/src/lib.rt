@@ -1,11 +1,12 @@
 // The two ends of the bench's run: where a run stands, what is printed for an answer, the lines of the plan; and at the end of the input the
-// live count and a line for each place that was ever used. The unit's records are lent, and the calls work on them where they lie. Output
-// goes into a lent buffer from a place on; the programs write it out.
+// live count and a line for each place that was ever used. The unit's records and its store of kept replies are lent, and the calls work on
+// them where they lie. Output goes into a lent buffer from a place on; the programs write it out.
 use bench_text::Line;
 use call_own::Answer;
 use unit_plan::AccessPoint;
 use unit_plan::Plan;
 use unit_session::Session;
+use unit_store::Kept;
 use unit_table::Node;
 use unit_tunnel::Unit;
 ghost use mathlib.Core.List.{[]};
@@ -16,7 +17,7 @@ ghost use Rattle.unit_tunnel.specs.Numbering.{places};
 ghost use Rattle.unit_table.specs.Room.{sessions};
 ghost use Rattle.call_own.specs.Outcome.{back};
 ghost use Rattle.bench_unit.specs.State.{shown, ran, benchStart, counted, withLine, withMade, endBad, keptIn, answeredShown};
-ghost use Rattle.bench_unit.specs.Ended.{oneMoreOf, liveShown, lineShown, placePrinted, placesPrinted, endPlan, endFirst, endOfInput};
+ghost use Rattle.bench_unit.specs.Ended.{oneMoreOf, liveShown, lineShown, linePrinted, placePrinted, placesPrinted, endPlan, endFirst, endOfInput};
 ghost use Rattle.bench_unit.specs.Plans.{firstLine, pointFrom, withPoint, oneMore, planShown, planTaken, startLine};
 
 // How far the run is, how many lines were taken, how much of the output buffer is in use, and what goes with the unit's records. Before the
@@ -224,11 +225,16 @@ fn plan_shown(mut b: Bench, a: Answer, out: &mut [u8]) -> Bench
 }
 
 // The plan is taken.
-pub fn take_plan(b: Bench, recs: &mut [Session], out: &mut [u8]) -> Bench
-    ensures { λ r. ⌜ ran r (now (recs .exit)) (now (out .exit)) ≡ planTaken b (now (recs .entry)) (now (out .entry)) ⌝ }
+pub fn take_plan(
+    b: Bench,
+    recs: &mut [Session],
+    store: &mut [[u8; Kept::OCTETS]],
+    out: &mut [u8],
+) -> Bench
+    ensures { λ r. ⌜ ran r (now (recs .exit)) (now (store .exit)) (now (out .exit)) ≡ planTaken b (now (recs .entry)) (now (store .entry)) (now (out .entry)) ⌝ }
 {
     let plan = plan_of(b);
-    let a = lent_fresh::grugavorn_fresh(plan, recs);
+    let a = lent_fresh::grugavorn_fresh(plan, recs, store);
     plan_shown(b, a, out)
 }
 
@@ -297,45 +303,69 @@ fn put_line(b: Bench, a: Answer, text: &[u8], out: &mut [u8]) -> Bench
     with_made(b, made)
 }
 
-// The line of a place that was ever used.
-fn print_place(b: Bench, recs: &[Session], place: usize, out: &mut [u8]) -> Bench
-    ensures { λ r. ⌜ shown r (now (out .exit)) ≡ placePrinted (now (recs .entry)) place b (now (out .entry)) ⌝ }
+// The line of a place.
+fn print_line(
+    b: Bench,
+    recs: &[Session],
+    store: &[[u8; Kept::OCTETS]],
+    place: usize,
+    out: &mut [u8],
+) -> Bench
+    ensures { λ r. ⌜ shown r (now (out .exit)) ≡ linePrinted (now (recs .entry)) (now (store .entry)) place b (now (out .entry)) ⌝ }
+{
+    let mut text = [0; Answer::LEAST_REPLY];
+    let node = node_of(b);
+    let a = lent_line::grugavorn_line(node, recs, store, place, &mut text);
+    put_line(b, a, &text, out)
+}
+
+// The same of a place that was ever used.
+fn print_place(
+    b: Bench,
+    recs: &[Session],
+    store: &[[u8; Kept::OCTETS]],
+    place: usize,
+    out: &mut [u8],
+) -> Bench
+    ensures { λ r. ⌜ shown r (now (out .exit)) ≡ placePrinted (now (recs .entry)) (now (store .entry)) place b (now (out .entry)) ⌝ }
 {
     let s = lent_records::read(recs, place);
     let never = never_used(s);
     if never {
         return b;
     }
-    let mut text = [0; Answer::LEAST_REPLY];
-    let node = node_of(b);
-    let a = lent_line::grugavorn_line(node, recs, place, &mut text);
-    put_line(b, a, &text, out)
+    print_line(b, recs, store, place, out)
 }
 
 // The live count, then a line for each place that was ever used.
-fn print_places(b: Bench, recs: &[Session], out: &mut [u8]) -> Bench
-    ensures { λ r. ⌜ shown r (now (out .exit)) ≡ placesPrinted (now (recs .entry)) b (now (out .entry)) ⌝ }
+fn print_places(b: Bench, recs: &[Session], store: &[[u8; Kept::OCTETS]], out: &mut [u8]) -> Bench
+    ensures { λ r. ⌜ shown r (now (out .exit)) ≡ placesPrinted (now (recs .entry)) (now (store .entry)) b (now (out .entry)) ⌝ }
 {
     let n = sessions(recs);
     let mut y = put_live(b, n, out);
     let mut i: usize = 0;
     while i < Unit::PLACES {
-        y = print_place(y, recs, i, out);
+        y = print_place(y, recs, store, i, out);
         i += 1;
     }
     y
 }
 
 // At the end of a plan that is not taken yet it is taken.
-fn end_plan(b: Bench, recs: &mut [Session], out: &mut [u8]) -> Bench
-    ensures { λ r. ⌜ ran r (now (recs .exit)) (now (out .exit)) ≡ endPlan b (now (recs .entry)) (now (out .entry)) ⌝ }
+fn end_plan(
+    b: Bench,
+    recs: &mut [Session],
+    store: &mut [[u8; Kept::OCTETS]],
+    out: &mut [u8],
+) -> Bench
+    ensures { λ r. ⌜ ran r (now (recs .exit)) (now (store .exit)) (now (out .exit)) ≡ endPlan b (now (recs .entry)) (now (store .entry)) (now (out .entry)) ⌝ }
 {
-    let next = take_plan(b, recs, out);
+    let next = take_plan(b, recs, store, out);
     let phase = phase_of(next);
     if phase == Bench::OVER {
         return next;
     }
-    print_places(next, recs, out)
+    print_places(next, recs, store, out)
 }
 
 // Without any line it is a bad first line.
@@ -347,18 +377,23 @@ fn end_first(b: Bench, out: &mut [u8]) -> Bench
 }
 
 // The end of the input.
-pub fn end_of_input(b: Bench, recs: &mut [Session], out: &mut [u8]) -> Bench
-    ensures { λ r. ⌜ ran r (now (recs .exit)) (now (out .exit)) ≡ endOfInput b (now (recs .entry)) (now (out .entry)) ⌝ }
+pub fn end_of_input(
+    b: Bench,
+    recs: &mut [Session],
+    store: &mut [[u8; Kept::OCTETS]],
+    out: &mut [u8],
+) -> Bench
+    ensures { λ r. ⌜ ran r (now (recs .exit)) (now (store .exit)) (now (out .exit)) ≡ endOfInput b (now (recs .entry)) (now (store .entry)) (now (out .entry)) ⌝ }
 {
     let phase = phase_of(b);
     if phase == Bench::OVER {
         return b;
     }
     if phase == Bench::RUNS {
-        return print_places(b, recs, out);
+        return print_places(b, recs, store, out);
     }
     if phase == Bench::PLAN {
-        return end_plan(b, recs, out);
+        return end_plan(b, recs, store, out);
     }
     end_first(b, out)
 }

@@ -2,6 +2,7 @@
 -- and any table. The order of refusals is 1, 2, then what the datagram asks for.
 -- Assumes nothing.
 use Prim.Native.Nat.{ℕ}
+use mathlib.Core.Bool.{Bool, false}
 use mathlib.Core.List.{List}
 use lib.ListN.{length}
 use lib.Dec.{ltb}
@@ -16,7 +17,7 @@ use Rattle.call_asked.specs.declared.Asked.{Asked}
 use Rattle.call_asked.specs.declared.Asked.the-variants as A
 use Rattle.call_asked.specs.Asked.{askedOf}
 use Rattle.call_own.specs.Outcome.{Outcome, leastReply, noReply, replied, onOwner}
-use Rattle.call_control.specs.Echoes.{echoTaken, echoReplyTaken}
+use Rattle.call_control.specs.Echoes.{restartsBy, echoTaken, echoReplyTaken}
 use Rattle.call_control.specs.Amends.{causeTaken, sessionOn}
 use Rattle.call_control.specs.Creates.{createTaken}
 
@@ -30,8 +31,22 @@ askedTaken node t (A.Create c seq) reply = createTaken c seq node t reply
 askedTaken node t (A.Refused w to seq) reply = causeTaken createReplyType to seq w node t reply
 askedTaken node t (A.Session teid seq x) reply = onOwner node t (teid .0) (sessionOn x seq) reply
 
-unfoldable pub controlTaken : Node → List Session → List ℕ → List ℕ → Outcome
-controlTaken node t d reply =
+-- whether it says that the exchange restarted
+unfoldable pub restartsIn : Asked → Node → Bool
+restartsIn (A.Silent number) node = false
+restartsIn A.Version node = false
+restartsIn (A.Echo recovery seq) node = restartsBy recovery node
+restartsIn (A.EchoReply recovery) node = restartsBy recovery node
+restartsIn (A.Create c seq) node = restartsBy (c .recovery) node
+restartsIn (A.Refused w to seq) node = false
+restartsIn (A.Session teid seq x) node = false
+
+-- in document 01's order: 1, 2, then what is asked for
+abbrev pub controlAsked : Node → List Session → Asked → List ℕ → Outcome
+controlAsked node t a reply =
     pick (ltb (length reply) leastReply) (noReply replyShort node t reply)
-    (pick (keepsRules node t) (askedTaken node t (askedOf node d) reply)
+    (pick (keepsRules node t) (askedTaken node t a reply)
     (noReply rulesBroken node t reply))
+
+unfoldable pub controlTaken : Node → List Session → List ℕ → List ℕ → Outcome
+controlTaken node t d reply = controlAsked node t (askedOf node d) reply

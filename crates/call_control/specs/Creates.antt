@@ -29,7 +29,7 @@ use Rattle.wire_fields.specs.Refusal.{bareRefusal, noRoomCause}
 use Rattle.wire_messages.specs.Types.{createReplyType}
 use Rattle.wire_requests.specs.declared.Create as C
 use Rattle.call_own.specs.declared.Span.{Span}
-use Rattle.call_own.specs.Outcome.{State, Outcome, noPlaces, allPlaces, onePlace, twoPlaces, changing, noReply, replied}
+use Rattle.call_own.specs.Outcome.{Held, Outcome, noPlaces, allPlaces, onePlace, twoPlaces, changing, noReply, replied}
 use Rattle.call_control.specs.Amends.{causeTaken}
 use Rattle.call_control.specs.Echoes.{restartsBy, heardBy}
 
@@ -84,7 +84,7 @@ settledAt (F.At i) c seq node t node₀ t₀ reply =
     (shared c seq node (changedAt freed i t) node₀ t₀ reply)
 
 -- after Recovery
-unfoldable pub heardCreate : C.Create → ℕ → State → Node → List Session → List ℕ → Outcome
+unfoldable pub heardCreate : C.Create → ℕ → Held → Node → List Session → List ℕ → Outcome
 heardCreate c seq a node₀ t₀ reply = settledAt (foundIn (hasId (c .imsi) (c .ebi)) (a .table)) c seq (a .node) (a .table) node₀ t₀ reply
 
 -- ---- the places that it may change

@@ -21,18 +21,18 @@ use Rattle.wire_messages.specs.Messages.{echoOf}
 use Rattle.wire_fields.specs.declared.Recovery.{Recovery}
 use Rattle.wire_fields.specs.declared.Recovery.the-variants as R
 use Rattle.call_own.specs.declared.Span.{Span}
-use Rattle.call_own.specs.Outcome.{State, Outcome, noPlaces, allPlaces, changing, noReply, replied}
+use Rattle.call_own.specs.Outcome.{Held, Outcome, noPlaces, allPlaces, changing, noReply, replied}
 use Rattle.call_own.specs.Calls.{timed}
 
 -- what a Recovery value does by what it says. The first one and the same are stored; after a restart all sessions are freed and it is
 -- stored; a late one is thrown away
-unfoldable pub doneFor : Judged → ℕ → Node → List Session → State
+unfoldable pub doneFor : Judged → ℕ → Node → List Session → Held
 doneFor J.Same value node t = record { node = hearing value node; table = t }
 doneFor J.Restarted value node t = record { node = hearing value node; table = map freed t }
 doneFor J.Late value node t = record { node = node; table = t }
 
 -- where none came nothing is done
-unfoldable pub heardBy : Recovery → Node → List Session → State
+unfoldable pub heardBy : Recovery → Node → List Session → Held
 heardBy R.None node t = record { node = node; table = t }
 heardBy (R.Value value) node t = doneFor (judgedBy node value) value node t
 
@@ -52,7 +52,7 @@ echoTaken node t seq recovery reply =
     (replied taken (heardBy recovery node t .node) (heardBy recovery node t .table) (echoOf echoReplyType seq (node .plan .recovery)) reply)
 
 -- the echo's answer (2), awaited and readable, ends the echo; Recovery is looked at
-unfoldable pub echoEnded : State → State
+unfoldable pub echoEnded : Held → Held
 echoEnded s = record {
   node = timed (rested (s .node .plan .interval) (s .node .echo)) (s .node .next) (s .node);
   table = s .table;
@@ -166,7 +166,7 @@ module _ (node : Node) (t : List Session) (e : keepsRules node t ≡ true) where
   echo-keeps seq r reply = heard-keeps r
 
 -- an echo that ends leaves a table that keeps its rules
-pub ended-keeps : (a : State) → keepsRules (a .node) (a .table) ≡ true → keepsRules (echoEnded a .node) (echoEnded a .table) ≡ true
+pub ended-keeps : (a : Held) → keepsRules (a .node) (a .table) ≡ true → keepsRules (echoEnded a .node) (echoEnded a .table) ≡ true
 unfolding echoEnded timed
 ended-keeps a e =
     rules-to (timed (rested (a .node .plan .interval) (a .node .echo)) (a .node .next) (a .node)) (a .table)

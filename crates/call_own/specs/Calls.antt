@@ -26,7 +26,7 @@ use Rattle.wire_messages.specs.Types.{echoType}
 use Rattle.wire_messages.specs.Messages.{echoOf, deleteBearer}
 use Rattle.call_own.specs.declared.Answer.{Answer}
 use Rattle.call_own.specs.declared.Span.{Span}
-use Rattle.call_own.specs.Outcome.{Outcome, outcome, leastReply, State, noPlaces, allPlaces, onePlace, bare, spanning, changing, noReply, replied, Done, bareOn, onSession}
+use Rattle.call_own.specs.Outcome.{Outcome, outcome, leastReply, Held, noPlaces, allPlaces, onePlace, bare, spanning, changing, noReply, replied, Done, bareOn, onSession}
 
 -- the node with another echo and next number
 unfoldable pub timed : OwnRequest → ℕ → Node → Node
@@ -38,13 +38,13 @@ unfoldable pub freshAnswer : Plan → Answer
 freshAnswer p = spanning allPlaces (pick (accepted p) (bare taken (freshNode p)) (bare planBreaks (freshNode noPlan)))
 
 -- records are zero, use included, either way
-unfoldable pub freshState : Plan → State
-freshState p = record { node = freshAnswer p .node; table = replicate places nobody }
+unfoldable pub freshHeld : Plan → Held
+freshHeld p = record { node = freshAnswer p .node; table = replicate places nobody }
 
 -- another count of records keeps them, with the state that a refused plan leaves
 unfoldable pub freshOf : Plan → List Session → Outcome
 freshOf p t =
-    pick (eqb (length t) places) (outcome (freshAnswer p) (freshState p .table) [])
+    pick (eqb (length t) places) (outcome (freshAnswer p) (freshHeld p .table) [])
     (noReply rulesBroken (freshNode noPlan) t [])
 
 -- what is answered by value, from the count of records

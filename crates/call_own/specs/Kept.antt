@@ -24,15 +24,15 @@ use Rattle.unit_table.specs.Number.{after, after-range, awaited, takenNumber, t
 use Rattle.unit_table.specs.Own.{rested, freshNode, duePlace, echoTicked, allTicked, rules-fresh, rules-tick, rules-next, rules-echo-sent, rules-sent}
 use Rattle.call_own.specs.OnSession.{on-keeps, fits-closed}
 use Rattle.call_own.specs.Outcome.{outcome, leastReply, noReply}
-use Rattle.call_own.specs.Calls.{freshOf, timed, freshAnswer, freshState, tickOf, closeOn, closeOf, stepped, echoSent, placeSent, dueSent, sendOf}
+use Rattle.call_own.specs.Calls.{freshOf, timed, freshAnswer, freshHeld, tickOf, closeOn, closeOf, stepped, echoSent, placeSent, dueSent, sendOf}
 
 -- from an accepted plan a table starts that keeps its rules
-pub fresh-keeps : (p : Plan) → accepted p ≡ true → keepsRules (freshState p .node) (freshState p .table) ≡ true
-unfolding freshState freshAnswer freshNode places
+pub fresh-keeps : (p : Plan) → accepted p ≡ true → keepsRules (freshHeld p .node) (freshHeld p .table) ≡ true
+unfolding freshHeld freshAnswer freshNode places
 fresh-keeps p e = rw e (rules-to (freshNode p) (replicate places nobody) (rules-fresh p e))
 
 -- on as many records as there are places, whatever they hold, fresh leaves this state
-pub fresh-leaves : (p : Plan) (t : List Session) → length t ≡ places → freshOf p t ≡ outcome (freshAnswer p) (freshState p .table) []
+pub fresh-leaves : (p : Plan) (t : List Session) → length t ≡ places → freshOf p t ≡ outcome (freshAnswer p) (freshHeld p .table) []
 unfolding freshOf
 fresh-leaves p t n = rw (eq-eqb (length t) places n)
 

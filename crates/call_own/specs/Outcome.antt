@@ -21,8 +21,8 @@ use Rattle.call_own.specs.declared.Span.{Span}
 unfoldable pub leastReply : ℕ
 leastReply = 128
 
--- what the caller holds between two calls: the records, and what goes with them
-pub record State : Type 0 where
+-- the records, and what goes with them
+pub record Held : Type 0 where
   pub node : Node
   pub table : List Session
 

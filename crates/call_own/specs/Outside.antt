@@ -25,7 +25,7 @@ use Rattle.unit_table.specs.Number.{takenNumber}
 use Rattle.unit_table.specs.Own.{allTicked, duePlace}
 use Rattle.call_own.specs.declared.Span.{Span}
 use Rattle.call_own.specs.Outcome.{Outcome, leastReply, noReply, allPlaces, onePlace, between, twoPlaces, sessionPlace, Done, bareOn, onSession}
-use Rattle.call_own.specs.Calls.{freshAnswer, freshState, freshOf, quiet, tickPlaces, tickOf, closeOn, closeOf, echoSent, placeSent, dueSent, sendOf}
+use Rattle.call_own.specs.Calls.{freshAnswer, freshHeld, freshOf, quiet, tickPlaces, tickOf, closeOn, closeOf, echoSent, placeSent, dueSent, sendOf}
 
 -- a place that may have changed
 unfoldable pub isWithin : ℕ → Span → Bool
@@ -110,7 +110,7 @@ all-still b n (s ∷ l) ok q =
 
 -- ---- the calls
 pub fresh-others : (p : Plan) (t : List Session) → OthersStay (freshOf p t) t
-unfolding OthersStay freshOf freshAnswer freshState noReply
+unfolding OthersStay freshOf freshAnswer freshHeld noReply
 fresh-others p t k = split (eqb (length t) places)
     (λ e. rw e (λ n. let h = out-all k n in
     let z = eqb-true (length t) places e in

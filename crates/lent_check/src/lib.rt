@@ -1,8 +1,9 @@
-// The check of the caller's lent records: they are read where they lie, one number of each, and nothing is copied but these numbers.
+// The check of the caller's lent records and of the lent store: they are read where they lie, one number of each, and nothing is copied but these numbers.
 use step_check::Checked;
 use step_check::Findings;
 use unit_session::Bounds;
 use unit_session::Session;
+use unit_store::Kept;
 use unit_table::Node;
 use unit_tunnel::Unit;
 ghost use mathlib.Core.Bool.{true};
@@ -11,6 +12,7 @@ ghost use lib.ListN.{getD, replicate};
 ghost use Rattle.unit_tunnel.specs.Numbering.{places};
 ghost use Rattle.unit_session.specs.Session.{blankAt};
 ghost use Rattle.unit_table.specs.Rules.{keepsRules};
+ghost use Rattle.call_store.specs.Stored.{keeps};
 ghost use Rattle.step_keys.specs.Survey.{waitOf};
 ghost use Rattle.step_check.specs.Digest.{digestOf};
 ghost use Rattle.step_check.specs.Summary.{standsOf};
@@ -125,4 +127,15 @@ pub fn keeps_rules(node: Node, recs: &[Session]) -> bool
 {
     let how = stands(node, recs);
     step_check::stands_by(how)
+}
+
+// Whether the records and the store keep every rule.
+pub fn keeps(node: Node, recs: &[Session], store: &[[u8; Kept::OCTETS]]) -> bool
+    ensures { λ r. ⌜ r ≡ keeps node (now (recs .entry)) (now (store .entry)) ⌝ }
+{
+    let sound = unit_store::store_ok(store);
+    if sound {
+        return keeps_rules(node, recs);
+    }
+    false
 }

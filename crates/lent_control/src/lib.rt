@@ -1,26 +1,29 @@
-// The control call, as firmware makes it: the caller lends its records, the node goes in and comes back by value. The datagram is read once, and what
-// it asks for is done on the two records that it can concern, where they lie.
+// The control call, as firmware makes it: the caller lends its records and the store, the node goes in and comes back by value. What the datagram asks
+// for is done on the two records that it can concern, where they lie, unless the store has the reply.
 use call_asked::Asked;
 use call_own::Answer;
+use call_store::Ask;
 use step_control::Basis;
 use step_control::Concerned;
 use step_control::Taken;
 use unit_session::Session;
+use unit_store::Kept;
 use unit_table::Node;
 ghost use mathlib.Core.Path.{_≡_};
 ghost use Rattle.call_own.specs.Outcome.{outcome};
-ghost use Rattle.call_control.specs.Control.{controlTaken};
+ghost use Rattle.call_store.specs.Stored.{stored, controlStored};
+ghost use Rattle.call_store.specs.Steps.{settled, settledOf};
 ghost use Rattle.step_control.specs.Step.{concernedPut};
-ghost use Rattle.lent_control.specs.Lent.{takenAnswer, basisLent, concernedLent, freeLent, twoPut, settledLent};
+ghost use Rattle.lent_control.specs.Lent.{takenAnswer, basisLent, concernedLent, freeLent, twoPut};
 
-fn taken_answer(node: Node, p: Concerned, o: Taken) -> Answer
-    ensures { λ r. ⌜ r ≡ takenAnswer node p o ⌝ }
+fn taken_answer(node: Node, p: Concerned, o: Taken, size: usize) -> Answer
+    ensures { λ r. ⌜ r ≡ takenAnswer node p o size ⌝ }
 {
     let span = step_control::changed_places(p, o);
     let after = step_control::node_after(node, o);
     Answer {
         number: o.number,
-        size: o.size,
+        size,
         node: after,
         span,
     }
@@ -77,26 +80,37 @@ fn put_concerned(recs: &mut [Session], p: Concerned, o: Taken)
     put_two(recs, p, o);
 }
 
-// What is asked: the records are checked and the two that are concerned found, what becomes of them and the reply is made, and they are put back.
-fn settled_lent(node: Node, recs: &mut [Session], asked: Asked, reply: &mut [u8]) -> Answer
-    ensures { λ r. ⌜ outcome r (now (recs .exit)) (now (reply .exit)) ≡ settledLent node (now (recs .entry)) asked (now (reply .entry)) ⌝ }
+// What becomes of the store, by what was found and answered; the length of the reply.
+fn settled_taken(
+    store: &mut [[u8; Kept::OCTETS]],
+    ask: Ask,
+    p: Concerned,
+    o: Taken,
+    reply: &mut [u8],
+) -> usize
+    ensures { λ r. ⌜ settled r (now (reply .exit)) (now (store .exit)) ≡ settledOf (now (store .entry)) ask (p .kept) (p .all) (o .number) (o .size) (now (reply .entry)) ⌝ }
 {
-    let p = concerned_lent(node, recs, asked, reply.len());
-    let o = step_control::taken_on(node, asked, p, reply);
-    put_concerned(recs, p, o);
-    taken_answer(node, p, o)
+    call_store::settled(store, ask, p.kept, p.all, o.number, o.size, reply)
 }
 
-// Take control datagram: it is read, and what it asks for is done.
+// Take control datagram: it is read, and what it asks of the store is found; what is left to ask of the records is done, and then what becomes of
+// the store.
 #[no_mangle]
 pub extern "C" fn grugavorn_control(
     node: Node,
     recs: &mut [Session],
+    store: &mut [[u8; Kept::OCTETS]],
     d: &[u8],
     reply: &mut [u8],
 ) -> Answer
-    ensures { λ r. ⌜ outcome r (now (recs .exit)) (now (reply .exit)) ≡ controlTaken node (now (recs .entry)) (now (d .entry)) (now (reply .entry)) ⌝ }
+    ensures { λ r. ⌜ stored (outcome r (now (recs .exit)) (now (reply .exit))) (now (store .exit)) ≡ controlStored node (now (recs .entry)) (now (store .entry)) (now (d .entry)) (now (reply .entry)) ⌝ }
 {
     let asked = call_asked::asked_of(node, d);
-    settled_lent(node, recs, asked, reply)
+    let ask = call_store::ask_of(store, d);
+    let wish = call_store::wish_of(store, ask, asked);
+    let p = concerned_lent(node, recs, wish, reply.len());
+    let o = step_control::taken_on(node, wish, p, reply);
+    put_concerned(recs, p, o);
+    let size = settled_taken(store, ask, p, o, reply);
+    taken_answer(node, p, o, size)
 }

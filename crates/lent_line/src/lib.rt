@@ -1,16 +1,18 @@
-// What is read of a place, as firmware asks for it: its line, the peer of its session, its address. The caller lends its records. A crate of its own,
+// What is read of a place, as firmware asks for it: its line, the peer of its session, its address. The caller lends its records and the store. A crate of its own,
 // so that the user call is compiled without it: what two calls share is not laid into either.
 use base_octets::Number;
 use call_own::Answer;
 use call_own::Span;
 use unit_session::Session;
+use unit_store::Kept;
 use unit_table::Node;
 use unit_tunnel::Unit;
 ghost use mathlib.Core.Path.{_≡_};
 ghost use lib.Dec.{ltb};
 ghost use Rattle.unit_tunnel.specs.Numbering.{places};
 ghost use Rattle.call_own.specs.Outcome.{outcome, back};
-ghost use Rattle.call_line.specs.Line.{lineBy, lineOf};
+ghost use Rattle.call_line.specs.Line.{lineBy};
+ghost use Rattle.call_store.specs.Stored.{lineStored};
 ghost use Rattle.call_line.specs.Where.{peerAt, addressAt};
 
 // The call on one record, once it is known whether the rules are kept.
@@ -41,12 +43,13 @@ pub fn line_by(kept: bool, node: Node, place: usize, s: Session, reply: &mut [u8
 pub extern "C" fn grugavorn_line(
     node: Node,
     recs: &[Session],
+    store: &[[u8; Kept::OCTETS]],
     place: usize,
     reply: &mut [u8],
 ) -> Answer
-    ensures { λ r. ⌜ outcome r (now (recs .entry)) (now (reply .exit)) ≡ lineOf node (now (recs .entry)) place (now (reply .entry)) ⌝ }
+    ensures { λ r. ⌜ outcome r (now (recs .entry)) (now (reply .exit)) ≡ lineStored node (now (recs .entry)) (now (store .entry)) place (now (reply .entry)) ⌝ }
 {
-    let kept = lent_check::keeps_rules(node, recs);
+    let kept = lent_check::keeps(node, recs, store);
     let s = lent_records::read(recs, place);
     line_by(kept, node, place, s, reply)
 }

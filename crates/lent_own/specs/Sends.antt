@@ -29,13 +29,15 @@ use Rattle.step_check.specs.declared.Checked.{Checked}
 use Rattle.step_check.specs.Digest.{digestOf, idle-in}
 use Rattle.step_check.specs.Findings.{dueIn}
 use Rattle.step_check.specs.Summary.{standsOf, standsBy, stands-kept}
+use Rattle.unit_store.specs.Store.{storeOk}
+use Rattle.call_store.specs.Stored.{brokenNumber, sendStored}
 use Rattle.lent_check.specs.Read.{readOf}
 use Rattle.lent_check.specs.Kept.{checkedOf, checked-idle, checked-due, checked-undue, checked-waits}
 use Rattle.call_own.specs.declared.Answer.{Answer}
 use Rattle.step_own.specs.declared.Sending.{Sending}
 use Rattle.step_own.specs.declared.Sending.the-variants.{Nothing, Echo, At}
 use Rattle.step_own.specs.Step.{kept-long}
-use Rattle.step_own.specs.Send.{takenAmong, awaitingIn, nextDue, placeOf, sentBy, echoAnswer, placeAnswer, sendAnswer}
+use Rattle.step_own.specs.Send.{takenAmong, awaitingIn, nextDue, dueWith, placeOf, sentBy, echoAnswer, placeAnswer, sendAnswer}
 
 -- ---- laws of what is seen of records that keep the rules
 module _ (node : Node) (l : List Session) (kept : keepsRules node l ≡ true) where
@@ -102,10 +104,10 @@ module _ (node : Node) (l zs : List Session) (reply after : List ℕ) (p : Sendi
       let g : after ≡ placeAnswer node k j s reply .reply = ap (λ (x : Back). x .reply) q in
       rw (f, g, e-z, e-t, e-s, e-i, e)
 
-  pub lent-send : (v : Checked) (awaiting : Bool) (waits : List ℕ) → v ≡ checkedOf node 0 l → awaiting ≡ awaitingIn v → waits ≡ readOf (λ z. waitOf (z .own)) awaiting l
+  sends-due : (v : Checked) (awaiting : Bool) (waits : List ℕ) → v ≡ checkedOf node 0 l → awaiting ≡ awaitingIn v → waits ≡ readOf (λ z. waitOf (z .own)) awaiting l
       → p ≡ nextDue (length reply) node v waits → outcome r zs after ≡ sendOf node l reply
   unfolding nextDue sendOf dueSent duePlace
-  lent-send v awaiting waits e-v e-l e-w e-p =
+  sends-due v awaiting waits e-v e-l e-w e-p =
       let w : waits ≡ readOf (λ z. waitOf (z .own)) (awaitingIn (checkedOf node 0 l)) l = e-w ∙ rw (e-l, e-v) in
       let q = rw e-v at e-p in
       split (ltb (length reply) leastReply)
@@ -121,3 +123,16 @@ module _ (node : Node) (l zs : List Session) (reply after : List ℕ) (p : Sendi
       (λ h. rw (b, m, f, n, h) (sends-place (firstOf isDue l) (takenNumber (node .next) (node .echo) l) (rw (b, y, f, k, d, h) at q)))
       (λ h. rw (b, m, f, n, h) (sends-nothing nothingDue (rw (b, y, f, d, h) at q)))))
       (λ m. rw (b, m) (sends-nothing rulesBroken (rw (b, stands-no node l m) at q))))
+
+  pub send-lent : (w : List (List ℕ)) (sound : Bool) (v : Checked) (awaiting : Bool) (waits : List ℕ) (due : Sending)
+      → sound ≡ storeOk w → v ≡ checkedOf node 0 l → awaiting ≡ awaitingIn v → waits ≡ readOf (λ z. waitOf (z .own)) awaiting l
+      → due ≡ nextDue (length reply) node v waits → p ≡ dueWith sound (length reply) due → outcome r zs after ≡ sendStored node l w reply
+  unfolding dueWith sendStored brokenNumber
+  send-lent w sound v awaiting waits due e-o e-v e-l e-w e-d e-p =
+      let q = rw e-o at e-p in
+      split (storeOk w)
+      (λ ok. rw ok (sends-due v awaiting waits e-v e-l e-w (rw ok at q ∙ e-d)))
+      (λ ok. let h = rw ok at q in
+      split (ltb (length reply) leastReply)
+      (λ b. rw (ok, b) (sends-nothing replyShort (rw b at h)))
+      (λ b. rw (ok, b) (sends-nothing rulesBroken (rw b at h))))

@@ -1,4 +1,4 @@
--- After any run: the table keeps its rules, so that neither 2 nor 11 comes; no access point is over its ceiling and S is at most places; and
+-- After any run: table and store keep their rules, so that neither 2 nor 11 comes; no access point is over its ceiling and S is at most places; and
 -- no two live sessions share a tunnel number, an address, or IMSI with EBI.
 -- Assumes nothing.
 use Prim.Native.Nat.{ℕ, _<_, _≤_}
@@ -22,10 +22,10 @@ use Rattle.unit_session.specs.Keep.{ok-usage}
 use Rattle.unit_table.specs.Rules.{liveOn, boundsOf, Rules, rules-of}
 use Rattle.unit_table.specs.Change.{nobody, record-ok}
 use Rattle.unit_table.specs.Find.{found-only}
+use Rattle.call_store.specs.Stored.{State}
 use Rattle.promise_demands.specs.Numbers.{among-other, tickNumbers, closeNumbers, sendNumbers, controlNumbers, lineNumbers, TickNumbers, CloseNumbers, SendNumbers, ControlNumbers, LineNumbers, tick-numbers, close-numbers, send-numbers, control-numbers, line-numbers}
 use Rattle.promise_demands.specs.UserNumbers.{userNumbers, UserNumbers, user-numbers, downNumbers, DownNumbers, down-numbers}
-use Rattle.call_own.specs.Outcome.{State}
-use Rattle.promise_demands.specs.Run.{Event, control, user, down, tick, send, close, line, answered, run, Kept, Start, Run}
+use Rattle.promise_demands.specs.Run.{Event, control, user, down, tick, send, close, line, answered, run, Kept, Start, Run, kept-table}
 use Rattle.promise_demands.specs.Stays.{run-start}
 
 -- the record of a place
@@ -41,7 +41,7 @@ under-plan : (q p : Plan) (echo : OwnRequest) (next : ℕ) (l : List Session) �
 under-plan q p echo next l e r = rw (← e) r
 
 pub start-rules : (p : Plan) (s : State) → Start p s → Rules p (s .node .echo) (s .node .next) (s .table)
-start-rules p s g = under-plan (s .node .plan) p (s .node .echo) (s .node .next) (s .table) (g .plan) (rules-of (s .node) (s .table) (g .rules))
+start-rules p s g = under-plan (s .node .plan) p (s .node .echo) (s .node .next) (s .table) (g .plan) (rules-of (s .node) (s .table) (kept-table s (g .rules)))
 
 -- ---- 2 and 11
 unfoldable pub RulesHold : Type 0
@@ -57,25 +57,25 @@ rules-hold = run-start
 kept-neither : (s : State) → Kept s → (e : Event) → (answered e s ≢ 2) × (answered e s ≢ 11)
 unfolding answered tickNumbers closeNumbers sendNumbers controlNumbers lineNumbers userNumbers downNumbers TickNumbers CloseNumbers SendNumbers ControlNumbers LineNumbers UserNumbers DownNumbers
 kept-neither s k (control d reply) =
-    let m = control-numbers (s .node) (s .table) d reply k in
+    let m = control-numbers (s .node) (s .table) (s .store) d reply k in
     (among-other (answered (control d reply) s) 2 controlNumbers m refl, among-other (answered (control d reply) s) 11 controlNumbers m refl)
 kept-neither s k (user d reply) =
-    let m = user-numbers (s .node) (s .table) d reply k in
+    let m = user-numbers (s .node) (s .table) (s .store) d reply k in
     (among-other (answered (user d reply) s) 2 userNumbers m refl, among-other (answered (user d reply) s) 11 userNumbers m refl)
 kept-neither s k (down packet out) =
-    let m = down-numbers (s .node) (s .table) packet out k in
+    let m = down-numbers (s .node) (s .table) (s .store) packet out k in
     (among-other (answered (down packet out) s) 2 downNumbers m refl, among-other (answered (down packet out) s) 11 downNumbers m refl)
 kept-neither s k tick =
-    let m = tick-numbers (s .node) (s .table) k in
+    let m = tick-numbers (s .node) (s .table) (s .store) k in
     (among-other (answered tick s) 2 tickNumbers m refl, among-other (answered tick s) 11 tickNumbers m refl)
 kept-neither s k (send reply) =
-    let m = send-numbers (s .node) (s .table) reply k in
+    let m = send-numbers (s .node) (s .table) (s .store) reply k in
     (among-other (answered (send reply) s) 2 sendNumbers m refl, among-other (answered (send reply) s) 11 sendNumbers m refl)
 kept-neither s k (close place) =
-    let m = close-numbers (s .node) (s .table) place k in
+    let m = close-numbers (s .node) (s .table) (s .store) place k in
     (among-other (answered (close place) s) 2 closeNumbers m refl, among-other (answered (close place) s) 11 closeNumbers m refl)
 kept-neither s k (line place reply) =
-    let m = line-numbers (s .node) (s .table) place reply k in
+    let m = line-numbers (s .node) (s .table) (s .store) place reply k in
     (among-other (answered (line place reply) s) 2 lineNumbers m refl, among-other (answered (line place reply) s) 11 lineNumbers m refl)
 
 pub neither-two-nor-eleven : NeitherTwoNorEleven

@@ -22,14 +22,16 @@ use Rattle.unit_table.specs.declared.Owner.the-variants as F
 use Rattle.unit_table.specs.Rules.{boundsOf, Rules, rules-of}
 use Rattle.unit_table.specs.Change.{record-ok}
 use Rattle.unit_table.specs.Find.{ownerOf, owner-is, held-yes}
-use Rattle.call_own.specs.Outcome.{State, leastReply}
+use Rattle.call_own.specs.Outcome.{leastReply}
 use Rattle.wire_user.specs.declared.Header.the-variants as H
 use Rattle.wire_user.specs.Header.{ours, extended, optional, typeTaken, userLengthOf, userTeidOf, refusalOf, userHeaderOf}
 use Rattle.wire_user.specs.Header.{teid-there, header-packet, size-optional, size-plain, optional-plain}
 use Rattle.wire_user.specs.Extensions.{Walk, extensionsOf, extent, beyond, ext-end, ext-next, firstMust}
 use Rattle.wire_user.specs.User.{userOf, user-plain, user-extended}
-use Rattle.call_user.specs.User.{Took, took, headerTaken, packetTaken, userTaken, user-read}
-use Rattle.promise_demands.specs.Run.{Kept}
+use Rattle.call_user.specs.User.{Took, took, headerTaken, packetTaken, user-read}
+use Rattle.call_store.specs.Stored.{State, userStored}
+use Rattle.call_store.specs.Laws.{user-sound}
+use Rattle.promise_demands.specs.Run.{Kept, kept-table, kept-store}
 use Rattle.promise_demands.specs.Bounds.{at}
 
 -- ---- extension headers
@@ -82,7 +84,7 @@ unfoldable pub AllCarried : Type 0
 AllCarried = (s : State) → Kept s → (i : ℕ) → i < places → isFree (at s i) ≡ false
     → (first : ℕ) (b : Between) (x reply : List ℕ) → ours first ≡ true → suits first b ≡ true → length (behind b x) < 65536 → leastReply ≤ length reply
     → Carried i x reply (packet first (userNumber (at s i .usage) i) (behind b x))
-    (userTaken (s .node) (s .table) (packet first (userNumber (at s i .usage) i) (behind b x)) reply)
+    (userStored (s .node) (s .table) (s .store) (packet first (userNumber (at s i .usage) i) (behind b x)) reply)
 
 -- ---- laws: a chain is passed over, whatever it holds
 past : (c : List ℕ) (t : ℕ) (r x : List ℕ) → drop (length c + 1) ((c ++ (t ∷ r)) ++ x) ≡ r ++ x
@@ -210,7 +212,7 @@ left-of first n (extensions a b c k) x =
 -- ---- whoever is live in a table that keeps its rules has a use, and is found by its number
 module _ (s : State) (k : Kept s) (i : ℕ) (h : i < places) (live : isFree (at s i) ≡ false) where
   rules : Rules (s .node .plan) (s .node .echo) (s .node .next) (s .table)
-  rules = rules-of (s .node) (s .table) k
+  rules = rules-of (s .node) (s .table) (kept-table s k)
 
   ok : recordOk (boundsOf (s .node .plan)) (at s i) ≡ true
   ok = record-ok (s .node .plan) (s .node .echo) (s .node .next) (s .table) rules i
@@ -235,12 +237,13 @@ module _ (s : State) (k : Kept s) (i : ℕ) (h : i < places) (live : isFree (at 
       (held-yes i (at s i .usage) (s .table) (omega arith) (rw (live, eq-eqb (at s i .usage) (at s i .usage) refl)))
 
   handed : (first : ℕ) (b : Between) (x reply : List ℕ) → ours first ≡ true → suits first b ≡ true → length (behind b x) < 65536 → leastReply ≤ length reply
-      → userTaken (s .node) (s .table) (packet first (userNumber (at s i .usage) i) (behind b x)) reply ≡ took 0 i 0 reply (front b)
+      → userStored (s .node) (s .table) (s .store) (packet first (userNumber (at s i .usage) i) (behind b x)) reply ≡ took 0 i 0 reply (front b)
   unfolding headerTaken packetTaken leastReply
   handed first b x reply g q l room =
       let n = userNumber (at s i .usage) i in
       let r = read-of first n b x l g q in
-      user-read (s .node) (s .table) (packet first n (behind b x)) reply room k (r .0)
+      user-sound (s .node) (s .table) (s .store) (kept-store s k) (packet first n (behind b x)) reply
+      ∙ user-read (s .node) (s .table) (packet first n (behind b x)) reply room (kept-table s k) (r .0)
       ∙ rw (packet-header first n (behind b x) l g small-number, live-owner, r .1)
 
 pub all-carried : AllCarried

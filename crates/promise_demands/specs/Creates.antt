@@ -33,7 +33,7 @@ use Rattle.wire_requests.specs.declared.Create as C
 use Rattle.wire_requests.specs.declared.Decoded.the-variants as D
 use Rattle.wire_requests.specs.declared.Request.the-variants as Q
 use Rattle.wire_requests.specs.Create.{createOf, create-sound}
-use Rattle.call_own.specs.Outcome.{State, Outcome, leastReply, changing}
+use Rattle.call_own.specs.Outcome.{Outcome, leastReply, changing, Held}
 use Rattle.wire_header.specs.Types.{kindBy}
 use Rattle.wire_messages.specs.Types.{createReplyType}
 use Rattle.call_asked.specs.Asked.{kindAsked, requestAsked, soundAsked, askedOf}
@@ -41,12 +41,14 @@ use Rattle.call_control.specs.Echoes.{restartsBy, heardBy, heard-either, heard-
 use Rattle.call_control.specs.Amends.{causeTaken}
 use Rattle.call_control.specs.Creates.{openingOf, acceptedTaken, noRoom, openedAt, shared, isRepeat, settledAt, heardCreate, createPlaces, createTaken}
 use Rattle.call_control.specs.Control.{askedTaken, controlTaken}
-use Rattle.promise_demands.specs.Run.{control, Kept}
+use Rattle.call_store.specs.Stored.{State, asksStore, controlStored}
+use Rattle.call_store.specs.Laws.{control-unasked}
+use Rattle.promise_demands.specs.Run.{control, Kept, kept-table, kept-store}
 use Rattle.promise_demands.specs.Bounds.{u}
 
 -- ---- what is asked
 -- Recovery is read first: the records and what goes with them after it
-abbrev pub heard : C.Create → State → State
+abbrev pub heard : C.Create → State → Held
 heard c s = heardBy (c .recovery) (s .node) (s .table)
 
 -- the session that a Create repeats: live, with this IMSI, EBI, access point and creating sequence number
@@ -107,6 +109,16 @@ settled-shared c seq node t node₀ t₀ reply (F.At i) e n =
     let q = every-in (λ x. not (repeats c seq x)) t i nobody n (g .0) in
     rw (not-repeat c seq (getD t i nobody) q (g .1 .1), ← g .1 .0)
 
+-- ---- a Create does not ask the store, so that it comes to what it comes to without one
+pub create-asks-not : (p : Plan) (d : List ℕ) (c : C.Create) → SoundCreate p d c → asksStore d ≡ false
+unfolding asksStore headerOf
+create-asks-not p d c n = rw (n .header, n .kind)
+
+pub create-stored : (p : Plan) (s : State) → Kept s → (d : List ℕ) (c : C.Create) → SoundCreate p d c → (reply : List ℕ)
+    → controlStored (s .node) (s .table) (s .store) d reply .call ≡ controlTaken (s .node) (s .table) d reply
+create-stored p s kept d c n reply =
+    control-unasked (s .node) (s .table) (s .store) d reply (kept-store s kept) (create-asks-not p d c n)
+
 module _ (p : Plan) (s : State) (kept : Kept s) (plan : s .node .plan ≡ p) (d : List ℕ) (c : C.Create) (n : NewCreate p s d c) (reply : List ℕ) (room : leastReply ≤ length reply) where
   abbrev seq : ℕ
   seq = headerOf d .sequence
@@ -118,7 +130,7 @@ module _ (p : Plan) (s : State) (kept : Kept s) (plan : s .node .plan ≡ p) (d 
       ≡ changing (createPlaces c seq (s .node) (s .table)) (shared c seq (heard c s .node) (tableAsked c s) (s .node) (s .table) reply)
   unfolding controlTaken askedTaken askedOf kindAsked kindBy requestAsked soundAsked createTaken heardCreate leastReply tableAsked
   comes-to =
-      rw (le-ltb (length reply) leastReply room, kept, n .sound .header, n .sound .kind, decoded)
+      rw (le-ltb (length reply) leastReply room, kept-table s kept, n .sound .header, n .sound .kind, decoded)
       (ap (changing (createPlaces c seq (s .node) (s .table)))
       (settled-shared c seq (heard c s .node) (heard c s .table) (s .node) (s .table) reply (foundIn (hasId (c .imsi) (c .ebi)) (heard c s .table)) refl (n .new)))
 
@@ -129,7 +141,7 @@ module _ (p : Plan) (s : State) (kept : Kept s) (plan : s .node .plan ≡ p) (d 
   unfolding tableAsked replaced
   asked-rules =
       rules-freed (heard c s .node .plan) (heard c s .node .echo) (heard c s .node .next) (heard c s .table)
-      (rules-of (heard c s .node) (heard c s .table) (heard-keeps (s .node) (s .table) kept (c .recovery))) (firstOf (hasId (c .imsi) (c .ebi)) (heard c s .table))
+      (rules-of (heard c s .node) (heard c s .table) (heard-keeps (s .node) (s .table) (kept-table s kept) (c .recovery))) (firstOf (hasId (c .imsi) (c .ebi)) (heard c s .table))
 
   place-there : admits (heard c s .node .plan) (live (tableAsked c s)) (c .point) ≡ true → foundIn isFree (tableAsked c s) ≡ F.At (freePlace (tableAsked c s))
   unfolding foundIn freePlace
@@ -142,17 +154,19 @@ module _ (p : Plan) (s : State) (kept : Kept s) (plan : s .node .plan ≡ p) (d 
       let f : admits (heard c s .node .plan) (live (tableAsked c s)) (c .point) ≡ true = rw asked-plan e in
       place-free (heard c s .node .plan) (heard c s .node .echo) (heard c s .node .next) (tableAsked c s) asked-rules (c .point) f
 
-  pub create-accepted : admits p (askedU c s) (c .point) ≡ true → controlTaken (s .node) (s .table) d reply ≡ acceptedOf seq c s reply
+  pub create-accepted : admits p (askedU c s) (c .point) ≡ true
+      → controlStored (s .node) (s .table) (s .store) d reply .call ≡ acceptedOf seq c s reply
   unfolding shared openedAt acceptedOf
   create-accepted e =
       let f : admits (heard c s .node .plan) (live (tableAsked c s)) (c .point) ≡ true = rw asked-plan e in
-      comes-to ∙ rw (f, place-there f)
+      create-stored p s kept d c (n .sound) reply ∙ comes-to ∙ rw (f, place-there f)
 
-  pub create-refused : admits p (askedU c s) (c .point) ≡ false → controlTaken (s .node) (s .table) d reply ≡ refusedOf seq c s reply
+  pub create-refused : admits p (askedU c s) (c .point) ≡ false
+      → controlStored (s .node) (s .table) (s .store) d reply .call ≡ refusedOf seq c s reply
   unfolding shared refusedOf
   create-refused e =
       let f : admits (heard c s .node .plan) (live (tableAsked c s)) (c .point) ≡ false = rw asked-plan e in
-      comes-to ∙ rw f
+      create-stored p s kept d c (n .sound) reply ∙ comes-to ∙ rw f
 
   -- the access point that it asks for is one of the plan's
   pub create-point : c .point < parties p

@@ -15,6 +15,7 @@ use Rattle.promise_demands.specs.Sent.{SentIsFound, sent-is-found}
 use Rattle.promise_demands.specs.Wellformed.{GoodIsRead, good-is-read}
 use Rattle.promise_demands.specs.Encoded.{EncodedIsRead, encoded-is-read}
 use Rattle.promise_demands.specs.Datagrams.{DatagramsTaken, datagrams-taken}
+use Rattle.promise_demands.specs.Again.{AskedAgain, JudgedAnew, asked-again, judged-anew}
 use Rattle.promise_demands.specs.Repeats.{RepeatsAnswered, AgainTheSame, repeats-answered, again-the-same}
 use Rattle.promise_demands.specs.Resends.{ResendsWhole, resends-whole}
 use Rattle.promise_demands.specs.Echoing.{EchoWhole, echo-whole}
@@ -69,6 +70,8 @@ pub record Demand2 : Type 0 where
   pub apart : NoneShared
   pub repeats : RepeatsAnswered
   pub again : AgainTheSame
+  pub asked : AskedAgain
+  pub anew : JudgedAnew
   pub ticks : EveryTickCounts
   pub resends : ResendsWhole
   pub echoes : EchoWhole
@@ -129,6 +132,8 @@ demand-2 = record {
   apart = none-shared;
   repeats = repeats-answered;
   again = again-the-same;
+  asked = asked-again;
+  anew = judged-anew;
   ticks = every-tick-counts;
   resends = resends-whole;
   echoes = echo-whole;

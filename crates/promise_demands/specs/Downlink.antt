@@ -26,9 +26,10 @@ use Rattle.unit_table.specs.declared.Owner.{Owner}
 use Rattle.unit_table.specs.declared.Owner.the-variants as F
 use Rattle.unit_table.specs.Rules.{rules-of}
 use Rattle.unit_table.specs.Find.{dwells, addresseeOf, addressee-is, first-is}
-use Rattle.call_own.specs.Outcome.{State}
 use Rattle.call_down.specs.Down.{Output, unwritten, writtenTo, downTo, downTaken, down-unfit, down-whole, down-short, down-fits}
-use Rattle.promise_demands.specs.Run.{Event, run, Kept, Run}
+use Rattle.call_store.specs.Stored.{State, downStored}
+use Rattle.call_store.specs.Laws.{down-sound}
+use Rattle.promise_demands.specs.Run.{Event, run, Kept, Run, kept-table, kept-store}
 use Rattle.promise_demands.specs.Stays.{run-start}
 use Rattle.promise_demands.specs.Bounds.{at}
 use Rattle.promise_demands.specs.Carried.{none, suits, behind, packet-number, read-of, left-of}
@@ -36,7 +37,7 @@ use Rattle.promise_demands.specs.Carried as carried
 
 -- what comes back for a packet
 abbrev pub lowered : State → List ℕ → List ℕ → Output
-lowered s packet out = downTaken (s .node) (s .table) packet out
+lowered s packet out = downStored (s .node) (s .table) (s .store) packet out
 
 -- ---- read back by the header rules alone: a G-PDU that is not refused, with this number (a number has 32 bits), and what lies past its header is
 -- the packet, octet by octet
@@ -122,7 +123,10 @@ gpdu-back teid packet small =
 -- ---- on a table that keeps its rules
 module _ (s : State) (k : Kept s) where
   sized : length (s .table) ≡ places
-  sized = rules-of (s .node) (s .table) k .size
+  sized = rules-of (s .node) (s .table) (kept-table s k) .size
+
+  sound : (packet out : List ℕ) → lowered s packet out ≡ downTaken (s .node) (s .table) packet out
+  sound packet out = down-sound (s .node) (s .table) (s .store) (kept-store s k) packet out
 
   -- the place that has the destination address says whose the packet is
   whose : (packet : List ℕ) (i : ℕ) → i < places → addressOf (s .node .plan .pool) i ≡ destinationOf packet
@@ -199,20 +203,20 @@ module _ (s : State) (k : Kept s) where
     all-grounds : Grounds s packet out (lowered s packet out)
     all-grounds =
         split (wholePacket packet)
-        (λ w. rw (down-whole (s .node) (s .table) packet out k w) (to-grounds w (addresseeOf (s .node .plan .pool) (destinationOf packet) (s .table)) refl))
-        (λ w. rw (down-unfit (s .node) (s .table) packet out k w)
+        (λ w. rw (sound packet out, down-whole (s .node) (s .table) packet out (kept-table s k) w) (to-grounds w (addresseeOf (s .node .plan .pool) (destinationOf packet) (s .table)) refl))
+        (λ w. rw (sound packet out, down-unfit (s .node) (s .table) packet out (kept-table s k) w)
         (record { written = λ z. absurd (omega arith); unfit = λ z. w; nobodys = λ z. absurd (omega arith); short = λ z. absurd (omega arith) }))
 
     all-written : (i : ℕ) → i < places → isFree (at s i) ≡ false → wholePacket packet ≡ true → addressOf (s .node .plan .pool) i ≡ destinationOf packet
         → length packet + 8 ≤ length out → lowered s packet out ≡ writtenTo i (at s i) packet out
     unfolding downTo
     all-written i h live w a room =
-        down-whole (s .node) (s .table) packet out k w ∙ rw (whose packet i h a, live) (down-fits i (at s i) packet out room)
+        sound packet out ∙ down-whole (s .node) (s .table) packet out (kept-table s k) w ∙ rw (whose packet i h a, live) (down-fits i (at s i) packet out room)
 
   whole-downlink : Downlink s
   whole-downlink = record {
     grounds = all-grounds;
-    refused = λ packet out. down-unfit (s .node) (s .table) packet out k;
+    refused = λ packet out w. sound packet out ∙ down-unfit (s .node) (s .table) packet out (kept-table s k) w;
     all = λ i h live packet out. all-written packet out i h live;
   }
 

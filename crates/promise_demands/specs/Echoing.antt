@@ -28,13 +28,15 @@ use Rattle.unit_table.specs.Number.{takenNumber}
 use Rattle.wire_messages.specs.Types.{echoType}
 use Rattle.wire_messages.specs.Messages.{echoOf}
 use Rattle.wire_fields.specs.declared.Recovery.{Recovery}
-use Rattle.call_own.specs.Outcome.{State, onSession, leastReply, noReply}
+use Rattle.call_own.specs.Outcome.{onSession, leastReply, noReply}
 use Rattle.call_own.specs.Calls.{timed, tickOf, closeOf, echoSent, placeSent, dueSent, sendOf}
 use Rattle.call_control.specs.Echoes.{heardBy, heard-plan, heard-rest, echoEnded, echoReplyTaken}
 use Rattle.call_asked.specs.declared.Asked.the-variants as A
 use Rattle.call_asked.specs.Asked.{askedOf}
 use Rattle.call_control.specs.Control.{askedTaken, controlTaken}
-use Rattle.promise_demands.specs.Run.{left, Event, control, user, down, tick, send, close, line, step, run, line-step, ofOctets, Start, start-accepted}
+use Rattle.call_store.specs.Stored.{State, sendStored}
+use Rattle.call_store.specs.Laws.{send-sound}
+use Rattle.promise_demands.specs.Run.{left, Event, control, user, down, tick, send, close, line, step, run, line-step, ofOctets, Start, start-accepted, kept-table, kept-store, send-is, tick-is, control-either, close-either}
 use Rattle.promise_demands.specs.Stays.{asked-part, step-start}
 use Rattle.promise_demands.specs.Bounds.{at}
 use Rattle.promise_demands.specs.InTime.{isTick, ticksIn}
@@ -56,8 +58,8 @@ underWay (e ∷ es) s = not (atRest (step e s .node .echo)) && underWay es (step
 -- what goes out is the Echo Request with the number that the echo has then
 unfoldable pub SendsEcho : State → List ℕ → Type 0
 SendsEcho s reply =
-    (sendOf (s .node) (s .table) reply .answer .number ≡ 0)
-    × (sendOf (s .node) (s .table) reply .reply ≡ overlay (echoOf echoType (step (send reply) s .node .echo .number) (s .node .plan .recovery)) reply)
+    (sendStored (s .node) (s .table) (s .store) reply .answer .number ≡ 0)
+    × (sendStored (s .node) (s .table) (s .store) reply .reply ≡ overlay (echoOf echoType (step (send reply) s .node .echo .number) (s .node .plan .recovery)) reply)
 
 -- under way still after the calls `later`, which left the state s
 pub record Echoes (p : Plan) (later : List Event) (s : State) : Type 0 where
@@ -106,7 +108,7 @@ module _ (p : Plan) where
   in-range : (s : State) → Start p s → InRange (p .interval) (p .resend) (p .sends) (s .node .echo)
   in-range s g =
       rw (← g .plan)
-      (range-of (s .node .plan .interval) (s .node .plan .resend) (s .node .plan .sends) (s .node .echo) (rules-of (s .node) (s .table) (g .rules) .echoes))
+      (range-of (s .node .plan .interval) (s .node .plan .resend) (s .node .plan .sends) (s .node .echo) (rules-of (s .node) (s .table) (kept-table s (g .rules)) .echoes))
 
   few : (s : State) → Start p s → s .node .echo .sends < 255
   unfolding mostSends
@@ -127,32 +129,44 @@ module _ (p : Plan) where
       by : (m : ℕ) → m ≡ p .interval → atRest (rested m (heardBy r (s .node) (s .table) .node .echo)) ≡ true
       by m e = rw e (rests s g (heardBy r (s .node) (s .table) .node .echo))
 
-  control-here : (s : State) → Start p s → (d reply : List ℕ) → atRest (step (control d reply) s .node .echo) ≡ false → step (control d reply) s .node .echo ≡ s .node .echo
-  unfolding step left controlTaken noReply
-  control-here s g d reply n =
+  taken-here : (s : State) → Start p s → (d reply : List ℕ) → atRest (controlTaken (s .node) (s .table) d reply .answer .node .echo) ≡ false
+      → controlTaken (s .node) (s .table) d reply .answer .node .echo ≡ s .node .echo
+  unfolding controlTaken noReply
+  taken-here s g d reply n =
+      let k = kept-table s (g .rules) in
       split (ltb (length reply) leastReply) (λ a. rw a)
-      (λ a. rw (a, g .rules)
+      (λ a. rw (a, k)
       (asked-part (λ x. x .echo) heard-echo (s .node) (s .table) (askedOf (s .node) d) reply
-      (λ r e. let b = rw (a, g .rules, e) at n in impossible (sym b ∙ reply-rests s g r reply))))
+      (λ r e. let b = rw (a, k, e) at n in impossible (sym b ∙ reply-rests s g r reply))))
+
+  control-here : (s : State) → Start p s → (d reply : List ℕ) → atRest (step (control d reply) s .node .echo) ≡ false → step (control d reply) s .node .echo ≡ s .node .echo
+  control-here s g d reply =
+      control-either (λ n t. atRest (n .echo) ≡ false → n .echo ≡ s .node .echo) s (λ n. refl) d reply (taken-here s g d reply)
 
   tick-here : (s : State) → Start p s → eqb (s .node .echo .timer) 0 ≡ false → atRest (step tick s .node .echo) ≡ false → step tick s .node .echo ≡ countedDown (s .node .echo)
-  unfolding step left tickOf noReply timed echoTicked
+  unfolding left tickOf noReply timed echoTicked
   tick-here s g z n =
+      let e = tick-is s (g .rules) in
+      let k = kept-table s (g .rules) in
       split (spent (s .node .plan .sends) (s .node .echo))
-      (λ q. let b = rw (g .rules, q) at n in impossible (sym b ∙ given-up))
-      (λ q. rw (g .rules, q))
+      (λ q. let b = rw (e, k, q) at n in impossible (sym b ∙ given-up))
+      (λ q. rw (e, k, q))
     where
       given-up : atRest (rested (s .node .plan .interval) (s .node .echo)) ≡ true
       given-up = rw (g .plan) (rests s g (s .node .echo))
 
   send-here : (s : State) → Start p s → (reply : List ℕ) → Spends (p .resend) 0 (s .node .echo) (step (send reply) s .node .echo)
-  unfolding step left sendOf dueSent echoSent placeSent noReply timed
+  unfolding left sendOf dueSent echoSent placeSent noReply timed
   send-here s g reply =
-      split (ltb (length reply) leastReply) (λ x. rw x same)
+      rw (send-is s (g .rules) reply)
+      (split (ltb (length reply) leastReply) (λ x. rw x same)
       (λ x. split (eqb (s .node .echo .timer) 0)
-      (λ z. rw (x, g .rules, z) (rw (g .plan) (sent-spends (p .resend) (takenNumber (s .node .next) (s .node .echo) (s .table)) (s .node .echo) (eqb-true (s .node .echo .timer) 0 z) (few s g))))
-      (λ z. split (ltb (duePlace (s .table)) (length (s .table))) (λ d. rw (x, g .rules, z, d) same) (λ d. rw (x, g .rules, z, d) same)))
+      (λ z. rw (x, k, z) (rw (g .plan) (sent-spends (p .resend) (takenNumber (s .node .next) (s .node .echo) (s .table)) (s .node .echo) (eqb-true (s .node .echo .timer) 0 z) (few s g))))
+      (λ z. split (ltb (duePlace (s .table)) (length (s .table))) (λ d. rw (x, k, z, d) same) (λ d. rw (x, k, z, d) same))))
     where
+      k : keepsRules (s .node) (s .table) ≡ true
+      k = kept-table s (g .rules)
+
       same : Spends (p .resend) 0 (s .node .echo) (s .node .echo)
       same = same-spends (p .resend) (s .node .echo) (s .node .echo) refl
 
@@ -164,9 +178,12 @@ module _ (p : Plan) where
   unfolding step
   down-here s packet out = refl
 
+  closed-echo : (s : State) → (i : ℕ) → closeOf (s .node) (s .table) i .answer .node .echo ≡ s .node .echo
+  unfolding closeOf onSession noReply
+  closed-echo s i = split (keepsRules (s .node) (s .table)) (λ e. rw e) (λ e. rw e)
+
   close-here : (s : State) → (i : ℕ) → step (close i) s .node .echo ≡ s .node .echo
-  unfolding step left closeOf onSession noReply
-  close-here s i = split (keepsRules (s .node) (s .table)) (λ e. rw e) (λ e. rw e)
+  close-here s i = close-either (λ n t. n .echo ≡ s .node .echo) s refl i (closed-echo s i)
 
   step-spends : (e : Event) (s : State) → Start p s → not (isTick e && eqb (s .node .echo .timer) 0) ≡ true → atRest (step e s .node .echo) ≡ false
       → Spends (p .resend) (boolByte (isTick e)) (s .node .echo) (step e s .node .echo)
@@ -223,7 +240,7 @@ module _ (p : Plan) where
         (λ x. let y = eqb-false (s .node .echo .sends) 0 x in in-range s (t .good) .timed (omega arith))
 
     last : eqb (s .node .echo .timer) 0 ≡ false → atRest (step tick s .node .echo) ≡ true → ticksIn later + 1 ≡ p .sends * p .resend
-    unfolding step left tickOf noReply timed echoTicked spent
+    unfolding left tickOf noReply timed echoTicked spent
     last z n = split (eqb (s .node .echo .timer) 1 && leb (p .sends) (s .node .echo .sends)) yes no
       where
         yes : (eqb (s .node .echo .timer) 1 && leb (p .sends) (s .node .echo .sends)) ≡ true → ticksIn later + 1 ≡ p .sends * p .resend
@@ -237,12 +254,13 @@ module _ (p : Plan) where
 
         no : (eqb (s .node .echo .timer) 1 && leb (p .sends) (s .node .echo .sends)) ≡ false → ticksIn later + 1 ≡ p .sends * p .resend
         no q =
-            let a = rw (t .good .rules, t .good .plan, q) at n in
+            let a = rw (tick-is s (t .good .rules), kept-table s (t .good .rules), t .good .plan, q) at n in
             impossible (sym (still (s .node .echo) (t .busy) z) ∙ a)
 
     octets : (reply : List ℕ) → leastReply ≤ length reply → s .node .echo .timer ≡ 0 → SendsEcho s reply
-    unfolding SendsEcho sendOf dueSent echoSent step left leastReply timed
-    octets reply room z = rw (le-ltb (length reply) leastReply room, t .good .rules, eq-eqb (s .node .echo .timer) 0 z) (refl, refl)
+    unfolding SendsEcho sendOf dueSent echoSent left leastReply timed
+    octets reply room z =
+        rw (send-sound (s .node) (s .table) (s .store) (kept-store s (t .good .rules)) reply, send-is s (t .good .rules) reply, le-ltb (length reply) leastReply room, kept-table s (t .good .rules), eq-eqb (s .node .echo .timer) 0 z) (refl, refl)
 
     echoes : Echoes p later s
     echoes = record {

@@ -24,9 +24,11 @@ use Rattle.unit_table.specs.Rules.{rules-of}
 use Rattle.unit_table.specs.Change.{nobody, changedAt}
 use Rattle.unit_table.specs.Number.{takenNumber}
 use Rattle.unit_table.specs.Own.{duePlace, due-in}
-use Rattle.call_own.specs.Outcome.{State, Outcome, leastReply, noReply}
+use Rattle.call_own.specs.Outcome.{Outcome, leastReply, noReply}
 use Rattle.call_own.specs.Calls.{timed, echoSent, placeSent, dueSent, sendOf}
-use Rattle.promise_demands.specs.Run.{left, send, step, answered, run, ofOctets, Kept, step-keeps}
+use Rattle.call_store.specs.Stored.{State}
+use Rattle.call_store.specs.Laws.{send-sound}
+use Rattle.promise_demands.specs.Run.{left, send, step, answered, run, ofOctets, Kept, step-keeps, kept-table, kept-store, send-is}
 use Rattle.promise_demands.specs.Bounds.{at}
 
 -- nothing is due: neither the echo, whose timer runs, nor the request of a place
@@ -57,7 +59,7 @@ unfolding dues
 none-idle s k z = record {
   echo = split (eqb (s .node .echo .timer) 0) (λ q. let y = rw q at z in absurd (omega arith)) (λ q. eqb-false (s .node .echo .timer) 0 q);
   place = λ i. split (isDue (at s i))
-      (λ d. let h = due-in (s .node .plan) (s .node .echo) (s .node .next) (s .table) (rules-of (s .node) (s .table) k) i d in
+      (λ d. let h = due-in (s .node .plan) (s .node .echo) (s .node .next) (s .table) (rules-of (s .node) (s .table) (kept-table s k)) i d in
       let u = rw d at (sum-holds (λ x. boolByte (isDue x)) (s .table) i nobody h) in
       absurd (omega arith))
       (λ d. d);
@@ -75,20 +77,20 @@ module _ (reply : List ℕ) (room : roomy reply ≡ true) where
       split (ltb (firstOf isDue (s .table)) (length (s .table)))
       (λ d. let h = ltb-true (firstOf isDue (s .table)) (length (s .table)) d in
       impossible (sym (n .place (firstOf isDue (s .table))) ∙ first-passes isDue (s .table) nobody h))
-      (λ d. rw (long, k, ne-eqb (s .node .echo .timer) 0 (n .echo), d))
+      (λ d. rw (long, kept-table s k, ne-eqb (s .node .echo .timer) 0 (n .echo), d))
 
   -- 17: nothing is due
   due : (s : State) → Kept s → sendOf (s .node) (s .table) reply .answer .number ≡ 17 → NothingDue s
   unfolding sendOf dueSent echoSent placeSent noReply duePlace
   due s k e =
-      split (eqb (s .node .echo .timer) 0) (λ b. let z : _≡_ {A = ℕ} 0 17 = rw (long, k, b) at e in absurd (omega arith))
+      split (eqb (s .node .echo .timer) 0) (λ b. let z : _≡_ {A = ℕ} 0 17 = rw (long, kept-table s k, b) at e in absurd (omega arith))
       (λ b. split (ltb (firstOf isDue (s .table)) (length (s .table)))
-      (λ c. let z : _≡_ {A = ℕ} 0 17 = rw (long, k, b, c) at e in absurd (omega arith))
+      (λ c. let z : _≡_ {A = ℕ} 0 17 = rw (long, kept-table s k, b, c) at e in absurd (omega arith))
       (λ c. let n = ltb-false (firstOf isDue (s .table)) (length (s .table)) c in
       record {
         echo = eqb-false (s .node .echo .timer) 0 b;
         place = λ i. split (isDue (at s i))
-            (λ d. let h = due-in (s .node .plan) (s .node .echo) (s .node .next) (s .table) (rules-of (s .node) (s .table) k) i d in
+            (λ d. let h = due-in (s .node .plan) (s .node .echo) (s .node .next) (s .table) (rules-of (s .node) (s .table) (kept-table s k)) i d in
             let m = first-before isDue (s .table) i nobody h d in
             absurd (omega arith))
             (λ d. d);
@@ -96,7 +98,7 @@ module _ (reply : List ℕ) (room : roomy reply ≡ true) where
 
   seventeen : (s : State) → Kept s → NothingDue s → answered (send reply) s ≡ 17
   unfolding answered noReply
-  seventeen s k n = ap (λ (o : Outcome). o .answer .number) (idle s k n)
+  seventeen s k n = ap (λ (o : Outcome). o .answer .number) (send-sound (s .node) (s .table) (s .store) (kept-store s k) reply ∙ idle s k n)
 
   -- a request that is sent is not due
   not-due : (t k : ℕ) (x : Session) → 1 ≤ t → isDue (sent t k x) ≡ false
@@ -105,23 +107,23 @@ module _ (reply : List ℕ) (room : roomy reply ≡ true) where
 
   -- something is due: one less after the send
   fewer : (s : State) → Kept s → (n : ℕ) → dues s ≤ suc n → dues (step (send reply) s) ≤ n
-  unfolding dues step left sendOf dueSent echoSent placeSent noReply timed sentOnce duePlace changedAt
+  unfolding dues left sendOf dueSent echoSent placeSent noReply timed sentOnce duePlace changedAt
   fewer s k n m =
       let i = firstOf isDue (s .table) in
       let j = takenNumber (s .node .next) (s .node .echo) (s .table) in
       let t = s .node .plan .resend in
-      let r = accepted-figures (s .node .plan) (rules-of (s .node) (s .table) k .planned) .resends in
+      let r = accepted-figures (s .node .plan) (rules-of (s .node) (s .table) (kept-table s k) .planned) .resends in
       split (eqb (s .node .echo .timer) 0)
-      (λ q. let y = rw q at m in rw (long, k, q, ne-eqb (s .node .plan .resend) 0 (λ z. omega arith)) (omega arith))
+      (λ q. let y = rw q at m in rw (send-is s k reply, long, kept-table s k, q, ne-eqb (s .node .plan .resend) 0 (λ z. omega arith)) (omega arith))
       (λ q. split (ltb (firstOf isDue (s .table)) (length (s .table)))
       (λ d. let h = ltb-true (firstOf isDue (s .table)) (length (s .table)) d in
       let x = getD (s .table) i nobody in
       let v = sum-set (λ y. boolByte (isDue y)) (s .table) i (sent t j x) nobody h in
       let u = rw (first-passes isDue (s .table) nobody h, not-due t j x r) at v in
       let y = rw q at m in
-      rw (long, k, q, d) (omega arith))
+      rw (send-is s k reply, long, kept-table s k, q, d) (omega arith))
       (λ d. let e = first-none isDue (s .table) (ltb-false (firstOf isDue (s .table)) (length (s .table)) d) in
-      rw (long, k, q, d, e, q) (omega arith)))
+      rw (send-is s k reply, long, kept-table s k, q, d, e, q) (omega arith)))
 
 sent-all : (replies : List (List ℕ)) (s : State) → every roomy replies ≡ true → Kept s → dues s ≤ length replies
     → NothingDue (run (map send replies) s)
@@ -134,9 +136,9 @@ sent-all (r ∷ rs) s w q m =
 pub sends-end : SendsEnd
 unfolding answered dues places
 sends-end = record {
-  exactly = λ s k reply room. (due reply room s k, seventeen reply room s k);
+  exactly = λ s k reply room. ((λ e. due reply room s k (sym (ap (λ (o : Outcome). o .answer .number) (send-sound (s .node) (s .table) (s .store) (kept-store s k) reply)) ∙ e)), seventeen reply room s k);
   ends = λ s k replies w h.
-      let n = rules-of (s .node) (s .table) k .size in
+      let n = rules-of (s .node) (s .table) (kept-table s k) .size in
       let a = bit-most (eqb (s .node .echo .timer) 0) in
       let b = counts-most isDue (s .table) in
       sent-all replies s w k (omega arith);

@@ -30,19 +30,21 @@ use Rattle.wire_header.specs.Types.{bareTypes, tunnelTypes, notTaken, flagOf}
 use Rattle.wire_header.specs.Header.{versionOf, flagP, flagT, kindOf, lengthOf, withTeid, teidOf, sequenceOf, sequenceBare, headerSize, headerOf}
 use Rattle.wire_header.specs.Gate.{gateOf, controlVersion}
 use Rattle.wire_messages.specs.Messages as messages
-use Rattle.call_own.specs.Outcome.{State, Outcome, leastReply, noReply}
-use Rattle.call_own.specs.Calls.{freshState}
+use Rattle.call_own.specs.Outcome.{Outcome, leastReply, noReply}
 use Rattle.wire_header.specs.Types.{kindBy}
 use Rattle.call_asked.specs.Asked.{kindAsked, askedOf}
 use Rattle.call_control.specs.Echoes.{heardBy, echoTaken}
 use Rattle.call_control.specs.Creates.{openingOf, acceptedTaken}
 use Rattle.call_control.specs.Control.{askedTaken, controlTaken}
-use Rattle.promise_demands.specs.Run.{left, Event, control, step, answered, run, ofOctets, Kept, Start, Run, fresh-start}
+use Rattle.call_store.specs.Stored.{State, freshState, asksStore, controlStored}
+use Rattle.call_store.specs.Laws.{control-unasked}
+use Rattle.promise_demands.specs.Run.{left, Event, control, step, answered, run, ofOctets, Kept, Start, Run, fresh-start, kept-table, kept-store}
 use Rattle.promise_demands.specs.Stays.{step-start, run-start}
 use Rattle.promise_demands.specs.Bounds.{at}
 use Rattle.promise_demands.specs.Creates.{NewCreate, repeats, tableAsked, askedU, acceptedOf, create-accepted}
 use Rattle.promise_demands.specs.Share.{number-yes, number-no}
 use Rattle.promise_demands.specs.Examples.{oneParty, one-party-accepted, createOfImsi, first, firstImsi, second, secondImsi, create-sequence, first-sound, second-sound, first-octets, echo}
+use Rattle.call_own.specs.Calls.{freshHeld}
 
 -- ---- refusing all: this Create is accepted by a fresh unit under this plan. A table that keeps its rules may have no room for it, so that from
 -- any other start it is not so
@@ -66,7 +68,7 @@ abbrev oneRecs : List Session
 oneRecs = changedAt (opened (openingOf (createOfImsi firstImsi) 3)) (freePlace (replaced firstImsi 5 freshRecs)) (replaced firstImsi 5 freshRecs)
 
 fresh-recs : freshState oneParty .table ≡ freshRecs
-unfolding freshState places
+unfolding freshState freshHeld places
 fresh-recs = refl
 
 begun : Start oneParty (freshState oneParty)
@@ -100,7 +102,7 @@ module _ (r : List ℕ) (room : leastReply ≤ length r) where
   abbrev one : State
   one = step (control first r) (freshState oneParty)
 
-  first-taken : controlTaken (freshState oneParty .node) (freshState oneParty .table) first r ≡ acceptedOf 3 (createOfImsi firstImsi) (freshState oneParty) r
+  first-taken : controlStored (freshState oneParty .node) (freshState oneParty .table) (freshState oneParty .store) first r .call ≡ acceptedOf 3 (createOfImsi firstImsi) (freshState oneParty) r
   first-taken =
       rw (create-sequence 0x98)
       at (create-accepted oneParty (freshState oneParty) (begun .rules) (begun .plan) first (createOfImsi firstImsi) (new-first (freshState oneParty) fresh-recs) r room (first-admitted (freshState oneParty) fresh-recs))
@@ -141,8 +143,8 @@ counted-from-records = record {
 -- ---- one fixed reply, or silence: after any run an Echo Request is answered with 13 octets, and its own sequence number is in them
 pub record EchoAnswered (s : State) (n : ℕ) (reply : List ℕ) : Type 0 where
   pub number : answered (control (echo n) reply) s ≡ 0
-  pub size : controlTaken (s .node) (s .table) (echo n) reply .answer .size ≡ 13
-  pub octet : getD (controlTaken (s .node) (s .table) (echo n) reply .reply) 6 0 ≡ n
+  pub size : controlStored (s .node) (s .table) (s .store) (echo n) reply .call .answer .size ≡ 13
+  pub octet : getD (controlStored (s .node) (s .table) (s .store) (echo n) reply .call .reply) 6 0 ≡ n
 
 unfoldable pub NotOneReply : Type 0
 NotOneReply = (p : Plan) (s : State) (es : List Event) → Run p s es → (reply : List ℕ) → leastReply ≤ length reply → (n : ℕ) → n < 256 → EchoAnswered (run es s) n reply
@@ -154,6 +156,10 @@ echo-gate n = refl
 echo-kind : (n : ℕ) → headerOf (echo n) .kind ≡ 1
 unfolding echo headerOf kindOf
 echo-kind n = refl
+
+echo-asks-not : (n : ℕ) → asksStore (echo n) ≡ false
+unfolding asksStore headerOf
+echo-asks-not n = rw (echo-gate n, echo-kind n)
 
 echo-sequence : (n : ℕ) → headerOf (echo n) .sequence ≡ n
 unfolding echo headerOf sequenceOf sequenceBare withTeid flagT numberOf numberFrom
@@ -171,9 +177,12 @@ unfolding messages.echoOf octetsOf leastReply
 echo-octet n recovery reply h room = overlay-at (messages.echoOf 2 n recovery) reply 6 (omega arith) (omega arith) ∙ omega arith
 
 echo-answer : (s : State) → Kept s → (reply : List ℕ) → leastReply ≤ length reply → (n : ℕ)
-    → controlTaken (s .node) (s .table) (echo n) reply ≡ echoTaken (s .node) (s .table) n (carried.echoRead (drop (headerOf (echo n) .fields) (echo n))) reply
+    → controlStored (s .node) (s .table) (s .store) (echo n) reply .call
+    ≡ echoTaken (s .node) (s .table) n (carried.echoRead (drop (headerOf (echo n) .fields) (echo n))) reply
 unfolding controlTaken askedTaken askedOf kindAsked kindBy leastReply
-echo-answer s k reply room n = rw (le-ltb (length reply) leastReply room, k, echo-gate n, echo-kind n, echo-sequence n)
+echo-answer s k reply room n =
+    control-unasked (s .node) (s .table) (s .store) (echo n) reply (kept-store s k) (echo-asks-not n)
+    ∙ rw (le-ltb (length reply) leastReply room, kept-table s k, echo-gate n, echo-kind n, echo-sequence n)
 
 pub not-one-reply : NotOneReply
 unfolding NotOneReply answered echoTaken
@@ -183,6 +192,6 @@ not-one-reply p s es r reply room n h = record {
   octet = ap (λ (o : Outcome). getD (o .reply) 6 0) e ∙ echo-octet n (run es s .node .plan .recovery) reply h room;
 }
   where
-    e : controlTaken (run es s .node) (run es s .table) (echo n) reply
+    e : controlStored (run es s .node) (run es s .table) (run es s .store) (echo n) reply .call
         ≡ echoTaken (run es s .node) (run es s .table) n (carried.echoRead (drop (headerOf (echo n) .fields) (echo n))) reply
     e = echo-answer (run es s) (run-start p s es r .rules) reply room n

@@ -7,7 +7,7 @@ use mathlib.Core.List.{List, [], _∷_}
 use mathlib.Core.Path.{_≡_, refl, sym, _∙_, ap}
 use native.Mathlib.Nat.{mul-le-mul-right}
 use native.Mathlib.Omega.{arith}
-use lib.ListN.{length}
+use lib.ListN.{length, getD}
 use lib.Dec.{eqb, ltb}
 use borrow.Author.Tests.{eqb-true, eqb-false, eq-eqb, ne-eqb, ltb-true, not-true}
 use mir.Val.{boolByte}
@@ -24,18 +24,19 @@ use Rattle.unit_session.specs.declared.Session.{Session}
 use Rattle.unit_session.specs.OwnRequest.{requestOk, spent, sentOnce, countedDown, InRange, range-of}
 use Rattle.unit_session.specs.Session.{isFree, isClosing, isDue, closed, sent, ticked, turned, phaseOk, freed}
 use Rattle.unit_session.specs.Keep.{own-ok, live-of}
-use Rattle.unit_table.specs.Rules.{boundsOf, Rules, rules-of}
+use Rattle.unit_table.specs.Rules.{boundsOf, Rules, rules-of, keepsRules}
 use Rattle.unit_table.specs.Change.{at-changed, nobody, record-ok, changed-here}
 use Rattle.unit_table.specs.Number.{takenNumber}
 use Rattle.unit_table.specs.Own.{duePlace}
 use Rattle.call_own.specs.OnSession.{on-at}
-use Rattle.call_own.specs.Outcome.{State, bareOn, onSession, leastReply, noReply}
+use Rattle.call_own.specs.Outcome.{bareOn, onSession, leastReply, noReply}
 use Rattle.call_own.specs.Calls.{closeOn, closeOf, echoSent, placeSent, dueSent, sendOf}
-use Rattle.promise_demands.specs.Run.{left, Event, control, user, down, tick, send, close, line, step, run, line-step, ofOctets, Start, Run, start-accepted}
+use Rattle.call_store.specs.Stored.{State}
+use Rattle.promise_demands.specs.Run.{left, Event, control, user, down, tick, send, close, line, step, run, line-step, ofOctets, Start, Run, start-accepted, kept-table, send-is, close-is, control-either}
 use Rattle.promise_demands.specs.Stays.{step-start, run-start}
 use Rattle.promise_demands.specs.Bounds.{at}
 use Rattle.promise_demands.specs.Ticks.{place-ticked, all-freed}
-use Rattle.promise_demands.specs.Place.{gone, Same, After, freed-gone, control-at}
+use Rattle.promise_demands.specs.Place.{gone, Same, After, freed-gone, control-at, same-after}
 
 unfoldable pub isTick : Event → Bool
 isTick (control d reply) = false
@@ -101,7 +102,7 @@ ticked-spends t n s c d g =
 
 module _ (p : Plan) (i : ℕ) (h : i < places) where
   pub rules : (s : State) → Start p s → Rules (s .node .plan) (s .node .echo) (s .node .next) (s .table)
-  rules s g = rules-of (s .node) (s .table) (g .rules)
+  rules s g = rules-of (s .node) (s .table) (kept-table s (g .rules))
 
   pub there : (s : State) → Start p s → i < length (s .table)
   unfolding places
@@ -135,16 +136,20 @@ module _ (p : Plan) (i : ℕ) (h : i < places) where
   same-here s c = record { closing = c; spends = omega arith; number = λ o. refl }
 
   send-here : (s : State) → Start p s → accepted p ≡ true → (reply : List ℕ) → at s i .state ≡ 2 → Spends (s .node .plan .resend) 0 (at s i) (at (step (send reply) s) i)
-  unfolding step left sendOf dueSent echoSent placeSent noReply duePlace
+  unfolding left sendOf dueSent echoSent placeSent noReply duePlace
   send-here s g a reply c =
-      split (ltb (length reply) leastReply) (λ x. rw x same)
-      (λ x. split (eqb (s .node .echo .timer) 0) (λ z. rw (x, g .rules, z) same)
+      rw (send-is s (g .rules) reply)
+      (split (ltb (length reply) leastReply) (λ x. rw x same)
+      (λ x. split (eqb (s .node .echo .timer) 0) (λ z. rw (x, k, z) same)
       (λ z. split (ltb (firstOf isDue (s .table)) (length (s .table)))
-      (λ d. rw (x, g .rules, z, d)
+      (λ d. rw (x, k, z, d)
       (at-changed (Spends (s .node .plan .resend) 0 (at s i)) (sent (s .node .plan .resend) (takenNumber (s .node .next) (s .node .echo) (s .table))) (s .table) i (firstOf isDue (s .table)) (there s g) same
       (λ e. sent-spends (s .node .plan .resend) (takenNumber (s .node .next) (s .node .echo) (s .table)) (at s i) c (due e d) (few s g a c))))
-      (λ d. rw (x, g .rules, z, d) same)))
+      (λ d. rw (x, k, z, d) same))))
     where
+      k : keepsRules (s .node) (s .table) ≡ true
+      k = kept-table s (g .rules)
+
       same : Spends (s .node .plan .resend) 0 (at s i) (at s i)
       same = record { closing = c; spends = omega arith; number = λ o. refl }
 
@@ -152,9 +157,9 @@ module _ (p : Plan) (i : ℕ) (h : i < places) where
       due e d = due-timer (at s i) (rw e (first-passes isDue (s .table) nobody (ltb-true (firstOf isDue (s .table)) (length (s .table)) d)))
 
   close-here : (s : State) → Start p s → (j : ℕ) → at s i .state ≡ 2 → Spends (p .resend) 0 (at s i) (at (step (close j) s) i)
-  unfolding step left closeOf closeOn bareOn
+  unfolding left closeOf closeOn bareOn
   close-here s g j c =
-      rw (g .rules)
+      rw (close-is s (g .rules) j, kept-table s (g .rules))
       (on-at (s .node) (s .table) j closeOn [] (Spends (p .resend) 0 (at s i)) i (there s g) (same-here s c)
       (λ e. rw (closing-taken (at s i) c) (closed-spends (p .resend) (at s i) c)))
 
@@ -167,8 +172,8 @@ module _ (p : Plan) (i : ℕ) (h : i < places) where
       (λ q. let e = place-ticked p s (g .rules) (g .plan) (rules s g .size) i h q in rw e (ticked-spends (p .resend) (p .sends) (at s i) c d (rw e at f)))
 
   control-here : (s : State) → Start p s → (d reply : List ℕ) → After (at s i) (at (step (control d reply) s) i)
-  unfolding step left
-  control-here s g d reply = control-at i (s .node) (s .table) (there s g) d reply
+  control-here s g d reply =
+      control-either (λ n t. After (at s i) (getD t i nobody)) s (same-after (at s i)) d reply (control-at i (s .node) (s .table) (there s g) d reply)
 
   user-here : (s : State) → (d reply : List ℕ) → at s i .state ≡ 2 → Spends (p .resend) 0 (at s i) (at (step (user d reply) s) i)
   unfolding step
@@ -233,10 +238,10 @@ module _ (p : Plan) (i : ℕ) (h : i < places) where
       (and-right (not (isTick e && isDue (at s i))) (prompt i es (step e s)) f) (omega arith))))
 
   -- the close: a live place is closing then, and nothing has been sent
-  pub close-is : (s : State) → Start p s → at s i .state ≡ 1 → at (step (close i) s) i ≡ closed (at s i)
-  unfolding step left closeOf onSession closeOn bareOn isFree
-  close-is s g c =
-      rw (g .rules, changed-here (λ x. closeOn x .session) i (s .table) nobody (there s g), ne-eqb (at s i .state) 0 (λ z. omega arith))
+  pub closes : (s : State) → Start p s → at s i .state ≡ 1 → at (step (close i) s) i ≡ closed (at s i)
+  unfolding left closeOf onSession closeOn bareOn isFree
+  closes s g c =
+      rw (close-is s (g .rules) i, kept-table s (g .rules), changed-here (λ x. closeOn x .session) i (s .table) nobody (there s g), ne-eqb (at s i .state) 0 (λ z. omega arith))
 
   pub live-idle : (s : State) → Start p s → at s i .state ≡ 1 → (at s i .own .sends ≡ 0) × (at s i .own .timer ≡ 0)
   unfolding phaseOk isClosing isFree boundsOf
@@ -263,7 +268,7 @@ closed-gone p i h s g c later o f m =
     (rw (ap (λ (x : OwnRequest). x .sends) own ∙ q .0, ap (λ (x : OwnRequest). x .timer) own ∙ q .1) (omega arith))
   where
     e : at (step (close i) s) i ≡ closed (at s i)
-    e = close-is p i h s g c
+    e = closes p i h s g c
 
     n : (closed (at s i) .state ≡ 2) × (closed (at s i) .own ≡ at s i .own)
     n = closed-now (at s i) c

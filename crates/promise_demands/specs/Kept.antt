@@ -1,13 +1,14 @@
--- Every call keeps the table rules: a table that kept them before the call keeps them after it, whatever is asked and whatever is answered.
--- Line of a place changes nothing at all. Take user datagram and take downlink packet have no statement here, since they give no table back:
--- what was lent is what stays.
+-- Every call keeps the rules, of the table and of the store: what kept them before the call keeps them after it, whatever is asked and whatever
+-- is answered. Line of a place changes nothing at all. Take user datagram and take downlink packet have no statement here, since they give no
+-- table back: what was lent is what stays.
 -- Assumes nothing.
 use Prim.Native.Nat.{ℕ}
 use mathlib.Core.Bool.{true}
-use mathlib.Core.List.{List}
+use mathlib.Core.List.{List, []}
 use mathlib.Core.Path.{_≡_, refl}
 use lib.ListN.{length}
 use lib.Dec.{ltb}
+use borrow.Author.Tests.{eq-eqb}
 use Rattle.unit_session.specs.declared.Session.{Session}
 use Rattle.base_octets.specs.Choice.{split}
 use Rattle.base_octets.specs.Every.{every}
@@ -17,46 +18,57 @@ use Rattle.unit_plan.specs.declared.Plan.{Plan}
 use Rattle.unit_plan.specs.Plan.{accepted}
 use Rattle.unit_table.specs.declared.Node.{Node}
 use Rattle.unit_table.specs.Rules.{keepsRules}
-use Rattle.call_own.specs.Outcome.{Outcome, leastReply}
-use Rattle.call_own.specs.Calls.{freshState, freshOf, tickOf, closeOf, sendOf}
-use Rattle.call_own.specs.Kept.{fresh-leaves, fresh-keeps, tick-keeps, close-keeps, send-keeps}
-use Rattle.call_control.specs.Control.{controlTaken}
-use Rattle.call_control.specs.Kept.{control-keeps}
+use Rattle.unit_store.specs.Row.{storeRows}
+use Rattle.unit_store.specs.Store.{storeOk}
+use Rattle.call_own.specs.Outcome.{leastReply, outcome, noReply}
+use Rattle.call_own.specs.Calls.{freshAnswer, freshHeld}
+use Rattle.call_own.specs.Kept.{fresh-leaves}
 use Rattle.call_line.specs.Line.{lineBy, lineOf}
+use Rattle.call_store.specs.Stored.{Stored, stored, keeps, closeStored, sendStored, lineStored, emptyStore, freshState, freshStored, tickStored, controlStored}
+use Rattle.call_store.specs.Laws.{fresh-counted}
+use Rattle.call_store.specs.Kept.{close-stored-keeps, send-stored-keeps, tick-stored-keeps, control-stored-keeps, fresh-stored-keeps}
 
--- a node with its table keeps the rules; the same of what a call comes to
-abbrev pub Keeps : Node → List Session → Type 0
-Keeps node t = keepsRules node t ≡ true
+-- a node with its table and its store keeps the rules; the same of what a call comes to
+abbrev pub Keeps : Node → List Session → List (List ℕ) → Type 0
+Keeps node t w = keeps node t w ≡ true
 
-abbrev pub LeavesKept : Outcome → Type 0
-LeavesKept o = Keeps (o .answer .node) (o .table)
+abbrev pub LeavesKept : Stored → Type 0
+LeavesKept o = Keeps (o .call .answer .node) (o .call .table) (o .store)
 
 -- under an accepted plan the unit starts with the rules kept
 unfoldable pub FreshKeeps : Type 0
-FreshKeeps = (plan : Plan) (t : List Session) → length t ≡ places → accepted plan ≡ true → LeavesKept (freshOf plan t)
+FreshKeeps = (plan : Plan) (t : List Session) (w : List (List ℕ)) → length t ≡ places → length w ≡ storeRows → accepted plan ≡ true → LeavesKept (freshStored plan t w)
 
 unfoldable pub TickKeeps : Type 0
-TickKeeps = (node : Node) (t : List Session) → Keeps node t → LeavesKept (tickOf node t)
+TickKeeps = (node : Node) (t : List Session) (w : List (List ℕ)) → Keeps node t w → LeavesKept (tickStored node t w)
 
 unfoldable pub CloseKeeps : Type 0
-CloseKeeps = (node : Node) (t : List Session) (place : ℕ) → Keeps node t → LeavesKept (closeOf node t place)
+CloseKeeps = (node : Node) (t : List Session) (w : List (List ℕ)) (place : ℕ) → Keeps node t w → LeavesKept (stored (closeStored node t w place) w)
 
 unfoldable pub SendKeeps : Type 0
-SendKeeps = (node : Node) (t : List Session) (reply : List ℕ) → Keeps node t → LeavesKept (sendOf node t reply)
+SendKeeps = (node : Node) (t : List Session) (w : List (List ℕ)) (reply : List ℕ) → Keeps node t w → LeavesKept (stored (sendStored node t w reply) w)
 
 unfoldable pub ControlKeeps : Type 0
-ControlKeeps = (node : Node) (t : List Session) (d reply : List ℕ) → every isOctet d ≡ true → Keeps node t → LeavesKept (controlTaken node t d reply)
+ControlKeeps = (node : Node) (t : List Session) (w : List (List ℕ)) (d reply : List ℕ) → every isOctet d ≡ true → Keeps node t w → LeavesKept (controlStored node t w d reply)
 
 unfoldable pub LineLeaves : Type 0
-LineLeaves = (node : Node) (t : List Session) (place : ℕ) (reply : List ℕ) → (lineOf node t place reply .answer .node ≡ node) × (lineOf node t place reply .table ≡ t)
+LineLeaves = (node : Node) (t : List Session) (w : List (List ℕ)) (place : ℕ) (reply : List ℕ)
+    → (lineStored node t w place reply .answer .node ≡ node) × (lineStored node t w place reply .table ≡ t)
 
 line-leaves : LineLeaves
-unfolding LineLeaves lineOf lineBy
-line-leaves node t place reply =
-    split (ltb (length reply) leastReply) (λ a. rw a (refl, refl))
+unfolding LineLeaves lineStored lineOf lineBy noReply
+line-leaves node t w place reply =
+    split (storeOk w)
+    (λ s. split (ltb (length reply) leastReply) (λ a. rw (s, a) (refl, refl))
     (λ a. split (keepsRules node t)
-    (λ b. split (ltb place (length t)) (λ c. rw (a, b, c) (refl, refl)) (λ c. rw (a, b, c) (refl, refl)))
-    (λ b. rw (a, b) (refl, refl)))
+    (λ b. split (ltb place (length t)) (λ c. rw (s, a, b, c) (refl, refl)) (λ c. rw (s, a, b, c) (refl, refl)))
+    (λ b. rw (s, a, b) (refl, refl))))
+    (λ s. rw s (refl, refl))
+
+-- what fresh leaves, on as many records and rows as there are to be
+pub fresh-comes-to : (plan : Plan) (t : List Session) (w : List (List ℕ)) → length t ≡ places → length w ≡ storeRows
+    → freshStored plan t w ≡ stored (outcome (freshAnswer plan) (freshHeld plan .table) []) emptyStore
+fresh-comes-to plan t w n m = rw (fresh-counted plan t w m, fresh-leaves plan t n, eq-eqb (length t) places n)
 
 -- all of them
 pub record CallsKeep : Type 0 where
@@ -68,12 +80,12 @@ pub record CallsKeep : Type 0 where
   pub line : LineLeaves
 
 pub calls-keep : CallsKeep
-unfolding freshState FreshKeeps TickKeeps CloseKeeps SendKeeps ControlKeeps
+unfolding freshState freshHeld FreshKeeps TickKeeps CloseKeeps SendKeeps ControlKeeps
 calls-keep = record {
-  fresh = λ plan t n a. rw (fresh-leaves plan t n) (fresh-keeps plan a);
-  tick = tick-keeps;
-  close = λ node t place e. close-keeps node t e place;
-  send = λ node t reply e. send-keeps node t e reply;
-  control = λ node t d reply o e. control-keeps node t e reply d o;
+  fresh = λ plan t w n m a. rw (fresh-comes-to plan t w n m) (fresh-stored-keeps plan a);
+  tick = tick-stored-keeps;
+  close = λ node t w place e. close-stored-keeps node t w e place;
+  send = λ node t w reply e. send-stored-keeps node t w e reply;
+  control = λ node t w d reply o e. control-stored-keeps node t w e d reply o;
   line = line-leaves;
 }

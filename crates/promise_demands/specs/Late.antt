@@ -1,59 +1,48 @@
 -- What a Recovery value of the exchange does after any run, by how far it is ahead of the stored one, modulo 256. One that came late is
--- thrown away: the datagram is answered as if it carried none, and no session goes. After a restart all are gone.
+-- thrown away: the datagram is answered as if it carried none, and no session goes. After a restart all are gone, and no reply is kept.
 -- Assumes nothing.
 use Prim.Native.Nat.{ℕ, _<_, _≤_}
 use mathlib.Core.Bool.{Bool, true, false}
-use mathlib.Core.List.{List, map}
-use mathlib.Core.Logic.{_≢_}
+use mathlib.Core.List.{List}
 use mathlib.Core.Path.{_≡_, refl, sym, ap, _∙_}
-use native.Mathlib.Omega.{arith}
-use lib.ListN.{length, getD, length-map}
-use borrow.Author.Tests.{le-ltb, ne-eqb}
+use lib.ListN.{length, getD}
+use borrow.Author.Tests.{le-ltb}
 use Rattle.base_octets.specs.Choice.{split, impossible}
-use Rattle.base_octets.specs.Places.{map-at}
-use Rattle.unit_tunnel.specs.Tunnel.{nextUse}
+use Rattle.base_octets.specs.Every.{every}
 use Rattle.unit_plan.specs.declared.Plan.{Plan}
 use Rattle.unit_sharing.specs.Sharing.{admits}
 use Rattle.unit_session.specs.declared.OwnRequest.{OwnRequest}
 use Rattle.unit_session.specs.declared.Session.{Session}
-use Rattle.unit_session.specs.Session.{isFree, hasId, freed, opened, blankAt}
+use Rattle.unit_session.specs.Session.{isFree, hasId, freed, opened}
 use Rattle.unit_table.specs.declared.Node.{Node}
 use Rattle.unit_table.specs.declared.Judged.the-variants as J
 use Rattle.unit_table.specs.declared.Owner.{Owner}
 use Rattle.unit_table.specs.declared.Owner.the-variants as F
-use Rattle.unit_table.specs.Rules.{live, keepsRules, Rules, rules-of}
-use Rattle.unit_table.specs.Change.{nobody, changedAt, changed-other, at-changed}
+use Rattle.unit_table.specs.Rules.{live}
+use Rattle.unit_table.specs.Change.{nobody, changedAt, changed-other}
 use Rattle.unit_table.specs.Find.{foundIn, found-is}
-use Rattle.unit_table.specs.Open.{freed-none}
-use Rattle.unit_table.specs.Room.{freePlace, place-free}
 use Rattle.unit_table.specs.Own.{rested}
-use Rattle.unit_table.specs.Recovery.{turned, judgedBy, hearing, isRestarted, restarted-by, late-by}
+use Rattle.unit_table.specs.Recovery.{turned, judgedBy, isRestarted, restarted-by, late-by}
+use Rattle.unit_store.specs.Row.{isUnused}
+use Rattle.unit_store.specs.Store.{emptied, emptied-none}
 use Rattle.wire_fields.specs.declared.Recovery.{Recovery}
 use Rattle.wire_fields.specs.declared.Recovery.the-variants as R
 use Rattle.wire_requests.specs.declared.Create as C
 use Rattle.call_asked.specs.declared.Asked.{Asked}
 use Rattle.call_asked.specs.declared.Asked.the-variants as A
 use Rattle.call_asked.specs.Asked.{askedOf}
-use Rattle.call_own.specs.Outcome.{State, Outcome, leastReply, noReply, changing}
+use Rattle.call_own.specs.Outcome.{leastReply, noReply, changing}
 use Rattle.call_own.specs.Calls.{timed}
-use Rattle.call_control.specs.Echoes.{restartsBy, doneFor, heardBy, heardPlaces, heard-late, heard-keeps, echoTaken, echoEnded, echoReplyTaken}
+use Rattle.call_control.specs.Echoes.{restartsBy, heardBy, heardPlaces, heard-late, echoTaken, echoEnded, echoReplyTaken}
 use Rattle.call_control.specs.Amends.{causeTaken}
 use Rattle.call_control.specs.Creates.{openingOf, acceptedTaken, openedAt, shared, isRepeat, settledAt, heardCreate, openedPlaces, createPlaces, createTaken}
-use Rattle.call_control.specs.Control.{askedTaken, controlTaken}
-use Rattle.promise_demands.specs.Run.{left, Event, control, step, run, Kept, Run}
-use Rattle.promise_demands.specs.Creates.{none-found}
-use Rattle.promise_demands.specs.Place.{gone, freed-gone, next-other}
+use Rattle.call_control.specs.Control.{askedTaken, controlTaken, restartsIn}
+use Rattle.call_store.specs.Stored.{State, asksStore, storeAfter, controlStored}
+use Rattle.call_store.specs.Laws.{control-new, unasked-unkept, ofSession, others-ask-not}
+use Rattle.promise_demands.specs.Run.{left, Event, control, step, run, Kept, Run, kept-table}
+use Rattle.promise_demands.specs.Place.{gone}
 use Rattle.promise_demands.specs.Stays.{settled-part, run-start}
-
--- the Recovery that is looked at: in types 1, 2 and 32
-unfoldable pub recoveryIn : Asked → Recovery
-recoveryIn (A.Silent number) = R.None
-recoveryIn A.Version = R.None
-recoveryIn (A.Echo r seq) = r
-recoveryIn (A.EchoReply r) = r
-recoveryIn (A.Create c seq) = c .recovery
-recoveryIn (A.Refused w to seq) = R.None
-recoveryIn (A.Session teid seq x) = R.None
+use Rattle.promise_demands.specs.Restarted.{recoveryIn, none-value, TableGone, asked-gone}
 
 -- the same, but that it carries none
 unfoldable pub createWithout : C.Create → C.Create
@@ -99,23 +88,27 @@ ahead s value = turned value (s .node .recovery)
 -- it came late
 pub record ThrownAway (s : State) (d reply : List ℕ) : Type 0 where
   -- number, reply, node, records, and which of these may have changed: as if it carried none
-  pub asNone : controlTaken (s .node) (s .table) d reply ≡ askedTaken (s .node) (s .table) (without (askedOf (s .node) d)) reply
+  pub asNone : controlStored (s .node) (s .table) (s .store) d reply .call ≡ askedTaken (s .node) (s .table) (without (askedOf (s .node) d)) reply
   -- the stored value is as it was
   pub heard : step (control d reply) s .node .heard ≡ s .node .heard
   pub recovery : step (control d reply) s .node .recovery ≡ s .node .recovery
   -- every session is as it was, but the one that a Create is for
   pub stays : (i : ℕ) → isFree (getD (s .table) i nobody) ≡ false → isFor (askedOf (s .node) d) (getD (s .table) i nobody) ≡ false
       → getD (step (control d reply) s .table) i nobody ≡ getD (s .table) i nobody
+  -- and so is the store
+  pub store : step (control d reply) s .store ≡ s .store
 
 unfoldable pub LateKeeps : Type 0
 LateKeeps = (p : Plan) (s : State) (es : List Event) → Run p s es → (d : List ℕ) (value : ℕ) → Carries (run es s) d value → 128 ≤ ahead (run es s) value
     → (reply : List ℕ) → leastReply ≤ length reply → ThrownAway (run es s) d reply
 
--- it is that of a restart: the value is stored, and every session is gone, its place free or in another use
+-- it is that of a restart: the value is stored, every session is gone, its place free or in another use, and no reply is kept
 pub record AllGone (s : State) (value : ℕ) (after : State) : Type 0 where
   pub heard : after .node .heard ≡ 1
   pub recovery : after .node .recovery ≡ value
   pub gone : (i : ℕ) → i < length (s .table) → gone (getD (s .table) i nobody .usage) (getD (after .table) i nobody) ≡ true
+  pub store : after .store ≡ emptied (s .store)
+  pub unused : every isUnused (after .store) ≡ true
 
 unfoldable pub RestartsFree : Type 0
 RestartsFree = (p : Plan) (s : State) (es : List Event) → Run p s es → (d : List ℕ) (value : ℕ) → Carries (run es s) d value
@@ -187,9 +180,6 @@ module _ (c : C.Create) (seq : ℕ) (node : Node) (t : List Session) (reply : Li
     create-part f = rw create-heard (settled-part f c seq node t reply node t refl (foundIn (hasId (c .imsi) (c .ebi)) t))
 
 -- ---- each datagram whose value is late
-none-value : (value : ℕ) → R.None ≢ R.Value value
-none-value value e = let z : _≡_ {A = ℕ} 0 1 = cc in omega arith
-
 module _ (node : Node) (t : List Session) (reply : List ℕ) (value : ℕ) (late : judgedBy node value ≡ J.Late) where
   module _ (r : Recovery) (e : r ≡ R.Value value) where
     late-heard : heardBy r node t ≡ record { node = node; table = t }
@@ -233,91 +223,56 @@ module _ (node : Node) (t : List Session) (reply : List ℕ) (value : ℕ) (late
   asked-stays (A.Refused w to seq) e i n o = absurd (none-value value e)
   asked-stays (A.Session teid seq x) e i n o = absurd (none-value value e)
 
--- ---- after a restart
-module _ (node : Node) (t : List Session) (kept : keepsRules node t ≡ true) (value : ℕ) (again : judgedBy node value ≡ J.Restarted) where
-  abbrev then′ : Node
-  then′ = hearing value node
+-- ---- what carries a value does not ask the store, and empties it where the value is that of a restart
+value-asks-not : (a : Asked) (value : ℕ) → recoveryIn a ≡ R.Value value → ofSession a ≡ false
+unfolding recoveryIn ofSession
+value-asks-not (A.Silent number) value e = refl
+value-asks-not A.Version value e = refl
+value-asks-not (A.Echo r seq) value e = refl
+value-asks-not (A.EchoReply r) value e = refl
+value-asks-not (A.Create c seq) value e = refl
+value-asks-not (A.Refused w to seq) value e = refl
+value-asks-not (A.Session teid seq x) value e = absurd (none-value value e)
 
-  abbrev none : List Session
-  none = map freed t
+restarts-as : (a : Asked) (node : Node) (value : ℕ) → recoveryIn a ≡ R.Value value → restartsIn a node ≡ isRestarted (judgedBy node value)
+unfolding recoveryIn restartsIn restartsBy
+restarts-as (A.Silent number) node value e = absurd (none-value value e)
+restarts-as A.Version node value e = absurd (none-value value e)
+restarts-as (A.Echo r seq) node value e = rw e
+restarts-as (A.EchoReply r) node value e = rw e
+restarts-as (A.Create c seq) node value e = rw e
+restarts-as (A.Refused w to seq) node value e = absurd (none-value value e)
+restarts-as (A.Session teid seq x) node value e = absurd (none-value value e)
 
-  again-heard : (r : Recovery) → r ≡ R.Value value → heardBy r node t ≡ record { node = then′; table = none }
-  unfolding heardBy doneFor
-  again-heard r e = rw (e, again)
+-- a control datagram that is not short of room comes to what it asks for
+module _ (s : State) (kept : Kept s) (d : List ℕ) (value : ℕ) (c : Carries s d value) (reply : List ℕ) (room : leastReply ≤ length reply) where
+  asks-not : asksStore d ≡ false
+  asks-not = others-ask-not (s .node) d (askedOf (s .node) d) refl (value-asks-not (askedOf (s .node) d) value (c .carried))
 
-  none-gone : (i : ℕ) → i < length t → gone (getD t i nobody .usage) (getD none i nobody) ≡ true
-  none-gone i h = rw (map-at freed t i nobody nobody h) (freed-gone (getD t i nobody .usage) (getD t i nobody))
+  new : controlStored (s .node) (s .table) (s .store) d reply
+      ≡ record {
+        call = controlTaken (s .node) (s .table) d reply;
+        store = storeAfter (s .node) d (controlTaken (s .node) (s .table) d reply) (s .store);
+      }
+  new =
+      control-new (s .node) (s .table) (s .store) d reply room kept (unasked-unkept (s .node) (s .table) (s .store) d reply asks-not)
 
-  all-gone : AllGone (record { node = node; table = t }) value (record { node = then′; table = none })
-  unfolding hearing
-  all-gone = record { heard = refl; recovery = refl; gone = none-gone }
+  comes-to : controlStored (s .node) (s .table) (s .store) d reply .call ≡ askedTaken (s .node) (s .table) (askedOf (s .node) d) reply
+  unfolding controlTaken
+  comes-to = rw (new, le-ltb (length reply) leastReply room, kept-table s kept)
 
-  module _ (c : C.Create) (e : c .recovery ≡ R.Value value) (seq : ℕ) (reply : List ℕ) where
-    abbrev Gone : Outcome → Type 0
-    Gone o = AllGone (record { node = node; table = t }) value (left o)
+  store-late : judgedBy (s .node) value ≡ J.Late → step (control d reply) s .store ≡ s .store
+  unfolding step left storeAfter isRestarted
+  store-late j = rw (new, asks-not, restarts-as (askedOf (s .node) d) (s .node) value (c .carried), j)
 
-    rules-none : Rules (then′ .plan) (then′ .echo) (then′ .next) none
-    rules-none = rules-of then′ none (rw (again-heard (c .recovery) e) at (heard-keeps node t kept (c .recovery)))
-
-    -- a place that is opened is in another use
-    opened-gone : (i : ℕ) → i < length t → gone (getD t i nobody .usage) (opened (openingOf c seq) (getD none i nobody)) ≡ true
-    unfolding gone opened freed blankAt isFree
-    opened-gone i h =
-        rw (map-at freed t i nobody nobody h, ne-eqb (nextUse (getD t i nobody .usage)) (getD t i nobody .usage) (next-other (getD t i nobody .usage)))
-
-    place-gone : admits (then′ .plan) (live none) (c .point) ≡ true → (f : Owner) → foundIn isFree none ≡ f → Gone (openedAt f c seq then′ none node t reply)
-    unfolding openedAt acceptedTaken noReply left hearing freePlace
-    place-gone a F.Nothing g =
-        let x = none-found isFree none g in
-        let y = place-free (then′ .plan) (then′ .echo) (then′ .next) none rules-none (c .point) a in
-        absurd (omega arith)
-    place-gone a (F.At j) g = record {
-      heard = refl;
-      recovery = refl;
-      gone = λ i h. at-changed (λ x. gone (getD t i nobody .usage) x ≡ true) (opened (openingOf c seq)) none i j (let z = length-map t freed in omega arith)
-          (none-gone i h) (λ z. opened-gone i h);
-    }
-
-    shared-gone : Gone (shared c seq then′ none node t reply)
-    unfolding shared causeTaken left hearing
-    shared-gone =
-        split (admits (then′ .plan) (live none) (c .point)) (λ a. rw a (place-gone a (foundIn isFree none) refl)) (λ a. rw a all-gone)
-
-    nobody-found : (j : ℕ) → j < length t → hasId (c .imsi) (c .ebi) (getD none j nobody) ≡ false
-    nobody-found j h = rw (map-at freed t j nobody nobody h) (freed-none (c .imsi) (c .ebi) (getD t j nobody))
-
-    settled-gone : (f : Owner) → foundIn (hasId (c .imsi) (c .ebi)) none ≡ f → Gone (settledAt f c seq then′ none node t reply)
-    unfolding settledAt
-    settled-gone F.Nothing g = shared-gone
-    settled-gone (F.At j) g =
-        let x = found-is (hasId (c .imsi) (c .ebi)) none j g in
-        let z = length-map t freed in
-        impossible (sym (nobody-found j (omega arith)) ∙ x .1 .1)
-
-    create-gone : Gone (createTaken c seq node t reply)
-    unfolding createTaken heardCreate left
-    create-gone = rw (again-heard (c .recovery) e) (settled-gone (foundIn (hasId (c .imsi) (c .ebi)) none) refl)
-
-  asked-gone : (a : Asked) → recoveryIn a ≡ R.Value value → (reply : List ℕ) → AllGone (record { node = node; table = t }) value (left (askedTaken node t a reply))
-  unfolding askedTaken recoveryIn left echoTaken echoReplyTaken echoEnded timed noReply
-  asked-gone (A.Silent number) e reply = absurd (none-value value e)
-  asked-gone A.Version e reply = absurd (none-value value e)
-  asked-gone (A.Echo r seq) e reply = rw (again-heard r e) all-gone
-  asked-gone (A.EchoReply r) e reply = rw (again-heard r e) (record { heard = all-gone .heard; recovery = all-gone .recovery; gone = all-gone .gone })
-  asked-gone (A.Create c seq) e reply = create-gone c e seq reply
-  asked-gone (A.Refused w to seq) e reply = absurd (none-value value e)
-  asked-gone (A.Session teid seq x) e reply = absurd (none-value value e)
-
--- ---- a control datagram that is not short of room comes to what it asks for
-comes-to : (s : State) → Kept s → (d reply : List ℕ) → leastReply ≤ length reply
-    → controlTaken (s .node) (s .table) d reply ≡ askedTaken (s .node) (s .table) (askedOf (s .node) d) reply
-unfolding controlTaken
-comes-to s kept d reply room = rw (le-ltb (length reply) leastReply room, kept)
+  store-gone : judgedBy (s .node) value ≡ J.Restarted → step (control d reply) s .store ≡ emptied (s .store)
+  unfolding step left storeAfter isRestarted
+  store-gone j = rw (new, asks-not, restarts-as (askedOf (s .node) d) (s .node) value (c .carried), j)
 
 thrown-away : (s : State) → Kept s → (d : List ℕ) (value : ℕ) → Carries s d value → 128 ≤ ahead s value → (reply : List ℕ) → leastReply ≤ length reply → ThrownAway s d reply
 unfolding step left timed
 thrown-away s kept d value c h reply room =
-    let e = comes-to s kept d reply room in
+    let e = comes-to s kept d value c reply room in
     let j = late-by (s .node) value (c .stored) h in
     let a = askedOf (s .node) d in
     record {
@@ -325,18 +280,30 @@ thrown-away s kept d value c h reply room =
       heard = rw e (asked-part (s .node) (s .table) reply value j (λ (n : Node). n .heard) (λ r. refl) a (c .carried));
       recovery = rw e (asked-part (s .node) (s .table) reply value j (λ (n : Node). n .recovery) (λ r. refl) a (c .carried));
       stays = λ i n o. rw e (asked-stays (s .node) (s .table) reply value j a (c .carried) i n o);
+      store = store-late s kept d value c reply room j;
     }
 
 pub late-keeps : LateKeeps
 unfolding LateKeeps
 late-keeps p s es r d value c h reply room = thrown-away (run es s) (run-start p s es r .rules) d value c h reply room
 
+stepped : (s : State) (kept : Kept s) (d : List ℕ) (value : ℕ) (c : Carries s d value) (reply : List ℕ) (room : leastReply ≤ length reply)
+    → TableGone (s .table) value (askedTaken (s .node) (s .table) (askedOf (s .node) d) reply .answer .node) (askedTaken (s .node) (s .table) (askedOf (s .node) d) reply .table)
+    → TableGone (s .table) value (step (control d reply) s .node) (step (control d reply) s .table)
+unfolding step left
+stepped s kept d value c reply room g = rw (comes-to s kept d value c reply room) g
+
 restarts-free-at : (s : State) → Kept s → (d : List ℕ) (value : ℕ) → Carries s d value → 1 ≤ ahead s value → ahead s value ≤ 127
     → (reply : List ℕ) → leastReply ≤ length reply → AllGone s value (step (control d reply) s)
-unfolding step
 restarts-free-at s kept d value c h k reply room =
-    rw (comes-to s kept d reply room)
-    (asked-gone (s .node) (s .table) kept value (restarted-by (s .node) value (c .stored) h k) (askedOf (s .node) d) (c .carried) reply)
+    let j = restarted-by (s .node) value (c .stored) h k in
+    let e = store-gone s kept d value c reply room j in
+    let g = after-gone in
+    record { heard = g .heard; recovery = g .recovery; gone = g .gone; store = e; unused = rw e (emptied-none (s .store)) }
+  where
+    after-gone : TableGone (s .table) value (step (control d reply) s .node) (step (control d reply) s .table)
+    after-gone = stepped s kept d value c reply room
+        (asked-gone (s .node) (s .table) (kept-table s kept) value (restarted-by (s .node) value (c .stored) h k) (askedOf (s .node) d) (c .carried) reply)
 
 pub restarts-free : RestartsFree
 unfolding RestartsFree

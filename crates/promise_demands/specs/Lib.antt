@@ -1,6 +1,8 @@
+pub mod Again
 pub mod Answers
 pub mod Bounds
 pub mod Carried
+pub mod Comes
 pub mod Counts
 pub mod Creates
 pub mod Datagrams
@@ -26,6 +28,7 @@ pub mod Printed
 pub mod Refusals
 pub mod Repeats
 pub mod Resends
+pub mod Restarted
 pub mod Rests
 pub mod Run
 pub mod Sent

@@ -26,6 +26,7 @@ use Rattle.unit_table.specs.Change.{nobody, changedAt, rules-freed}
 use Rattle.unit_table.specs.Find.{placeFound, foundIn, ownerOf}
 use Rattle.unit_table.specs.Own.{duePlace}
 use Rattle.unit_table.specs.Room.{freePlace, place-free}
+use Rattle.unit_store.specs.Row.{storeRows, numberIn, numberOk}
 use Rattle.wire_fields.specs.declared.Refusal.{Refusal}
 use Rattle.wire_header.specs.declared.HeaderCursor.{HeaderCursor}
 use Rattle.wire_header.specs.declared.Kind.{Kind}
@@ -51,7 +52,7 @@ use Rattle.wire_requests.specs.declared.Context.the-variants as X
 use Rattle.wire_fields.specs.declared.Tunnel.{Tunnel}
 use Rattle.wire_fields.specs.declared.Tunnel.the-variants as T
 use Rattle.wire_requests.specs.Change.{modifyOf, deleteOf, endMoves, contextMoves, movesOf, meansOf}
-use Rattle.promise_demands.specs.Answers.{numberFor, CreateAnswers, ModifyAnswers, DeleteAnswers, createNumbers, modifyNumbers, deleteNumbers, create-answers, modify-answers, delete-answers}
+use Rattle.call_asked.specs.Answers.{numberFor, createNumbers, modifyNumbers, deleteNumbers, create-answers, modify-answers, delete-answers}
 use Rattle.call_own.specs.Outcome.{Outcome, Done, bareOn, onSession, onOwner, leastReply, noReply}
 use Rattle.call_own.specs.Kept.{fresh-leaves}
 use Rattle.call_own.specs.Calls.{freshAnswer, freshOf, tickOf, closeOn, closeOf, echoSent, placeSent, dueSent, sendOf}
@@ -66,6 +67,8 @@ use Rattle.call_control.specs.Creates.{acceptedTaken, noRoom, openedAt, shared,
 use Rattle.call_control.specs.Control.{askedTaken, controlTaken}
 use Rattle.call_line.specs.Line.{lineBy, lineOf}
 use Rattle.wire_fields.specs.Refusal.{notLiveCause, shortCause, wrongCause, missingCause, noRoomCause, unknownApnCause, addressTypeCause}
+use Rattle.call_store.specs.Stored.{keeps, closeStored, sendStored, lineStored, freshStored, tickStored, keptFor, controlStored}
+use Rattle.call_store.specs.Laws.{keeps-table, keeps-store, tick-keeping, send-sound, close-sound, line-sound, fresh-counted, control-by, answering}
 
 -- the numbers that each call may answer, of a table that keeps its rules
 unfoldable pub freshNumbers : List ℕ
@@ -90,6 +93,10 @@ controlNumbers = 0 ∷ 1 ∷ 3 ∷ 4 ∷ 5 ∷ 6 ∷ 7 ∷ 8 ∷ 9
 -- what a control datagram is answered that is read and asks for nothing
 unfoldable pub silentNumbers : List ℕ
 silentNumbers = 0 ∷ 3 ∷ 4 ∷ 6 ∷ 7 ∷ 8 ∷ 9 ∷ []
+
+-- what a Create that is read whole is answered
+unfoldable pub createdNumbers : List ℕ
+createdNumbers = 0 ∷ noRoomCause ∷ []
 
 -- ---- laws of lists of numbers
 -- a number of one list is a number of a list that has all of it
@@ -195,25 +202,34 @@ unfolding foundIn freePlace
 free-found node l a e q =
     rw (lt-ltb (firstOf isFree l) (length l) (place-free (node .plan) (node .echo) (node .next) l (rules-of node l e) a q))
 
+-- a sound Create is taken, or there is no room
+abbrev Created : Outcome → Type 0
+Created o = among (o .answer .number) createdNumbers ≡ true
+
 module _ (c : C.Create) (seq : ℕ) (node₀ : Node) (t₀ : List Session) (reply : List ℕ) where
-  shared-number : (node : Node) (t : List Session) → keepsRules node t ≡ true → Answered (shared c seq node t node₀ t₀ reply)
-  unfolding shared openedAt acceptedTaken causeTaken noRoom controlNumbers
+  shared-number : (node : Node) (t : List Session) → keepsRules node t ≡ true → Created (shared c seq node t node₀ t₀ reply)
+  unfolding shared openedAt acceptedTaken causeTaken noRoom createdNumbers
   shared-number node t e =
       split (admits (node .plan) (live t) (c .point)) (λ q. rw (q, free-found node t (c .point) e q)) (λ q. rw q)
 
-  settled-number : (node : Node) (t : List Session) → keepsRules node t ≡ true → (f : Owner) → Answered (settledAt f c seq node t node₀ t₀ reply)
-  unfolding settledAt acceptedTaken controlNumbers
+  settled-number : (node : Node) (t : List Session) → keepsRules node t ≡ true → (f : Owner) → Created (settledAt f c seq node t node₀ t₀ reply)
+  unfolding settledAt acceptedTaken createdNumbers
   settled-number node t e F.Nothing = shared-number node t e
   settled-number node t e (F.At i) =
       split (isRepeat c seq (getD t i nobody)) (λ x. rw x)
       (λ x. rw x (shared-number node (changedAt freed i t)
       (rules-to node (changedAt freed i t) (rules-freed (node .plan) (node .echo) (node .next) t (rules-of node t e) i))))
 
-create-number : (node : Node) (t : List Session) (c : C.Create) (seq : ℕ) (reply : List ℕ) → keepsRules node t ≡ true → Answered (createTaken c seq node t reply)
+pub created-number : (node : Node) (t : List Session) (c : C.Create) (seq : ℕ) (reply : List ℕ) → keepsRules node t ≡ true → Created (createTaken c seq node t reply)
 unfolding createTaken heardCreate
-create-number node t c seq reply e =
+created-number node t c seq reply e =
     settled-number c seq node t reply (heardBy (c .recovery) node t .node) (heardBy (c .recovery) node t .table) (heard-keeps node t e (c .recovery))
     (foundIn (hasId (c .imsi) (c .ebi)) (heardBy (c .recovery) node t .table))
+
+create-number : (node : Node) (t : List Session) (c : C.Create) (seq : ℕ) (reply : List ℕ) → keepsRules node t ≡ true → Answered (createTaken c seq node t reply)
+unfolding createdNumbers controlNumbers every
+create-number node t c seq reply e =
+    among-more (createTaken c seq node t reply .answer .number) createdNumbers controlNumbers refl (created-number node t c seq reply e)
 
 -- the header's refusals
 refuse-among : (n : ℕ) (t : Bool) (rest : ℕ) (l : List ℕ) → among n l ≡ true → among rest l ≡ true → among (refusedWith n t rest) l ≡ true
@@ -264,7 +280,7 @@ module _ (node : Node) (h : HeaderCursor) (rest : List ℕ) where
   end-known (E.Carries recovery) = split (awaits (h .sequence) (node .echo)) (λ q. rw q tt) (λ q. rw q)
 
   kind-known : (k : Kind) → AskedKnown (kindAsked k h rest node)
-  unfolding AskedKnown ConcernKnown kindAsked createRefused changeRefused sessionAsked CreateAnswers ModifyAnswers DeleteAnswers createNumbers modifyNumbers deleteNumbers silentNumbers every
+  unfolding AskedKnown ConcernKnown kindAsked createRefused changeRefused sessionAsked createNumbers modifyNumbers deleteNumbers silentNumbers every
   kind-known K.Echo = tt
   kind-known K.EchoReply = end-known (carried.echoReplyRead rest)
   kind-known K.Create = request-known (createOf (node .plan) rest) (createRefused h rest) (λ w k. k) (create-answers (node .plan) rest .number)
@@ -302,43 +318,68 @@ module _ (node : Node) (t : List Session) (e : keepsRules node t ≡ true) (repl
 
 -- ---- the claims
 unfoldable pub FreshNumbers : Type 0
-FreshNumbers = (plan : Plan) (t : List Session) → length t ≡ places → among (freshOf plan t .answer .number) freshNumbers ≡ true
+FreshNumbers = (plan : Plan) (t : List Session) (w : List (List ℕ)) → length t ≡ places → length w ≡ storeRows
+    → among (freshStored plan t w .call .answer .number) freshNumbers ≡ true
 
 unfoldable pub TickNumbers : Type 0
-TickNumbers = (node : Node) (t : List Session) → keepsRules node t ≡ true → among (tickOf node t .answer .number) tickNumbers ≡ true
+TickNumbers = (node : Node) (t : List Session) (w : List (List ℕ)) → keeps node t w ≡ true → among (tickStored node t w .call .answer .number) tickNumbers ≡ true
 
 unfoldable pub CloseNumbers : Type 0
-CloseNumbers = (node : Node) (t : List Session) (place : ℕ) → keepsRules node t ≡ true → among (closeOf node t place .answer .number) closeNumbers ≡ true
+CloseNumbers = (node : Node) (t : List Session) (w : List (List ℕ)) (place : ℕ) → keeps node t w ≡ true
+    → among (closeStored node t w place .answer .number) closeNumbers ≡ true
 
 unfoldable pub SendNumbers : Type 0
-SendNumbers = (node : Node) (t : List Session) (reply : List ℕ) → keepsRules node t ≡ true → among (sendOf node t reply .answer .number) sendNumbers ≡ true
+SendNumbers = (node : Node) (t : List Session) (w : List (List ℕ)) (reply : List ℕ) → keeps node t w ≡ true
+    → among (sendStored node t w reply .answer .number) sendNumbers ≡ true
 
 unfoldable pub LineNumbers : Type 0
-LineNumbers = (node : Node) (t : List Session) (place : ℕ) (reply : List ℕ) → keepsRules node t ≡ true → among (lineOf node t place reply .answer .number) lineNumbers ≡ true
+LineNumbers = (node : Node) (t : List Session) (w : List (List ℕ)) (place : ℕ) (reply : List ℕ) → keeps node t w ≡ true
+    → among (lineStored node t w place reply .answer .number) lineNumbers ≡ true
 
 unfoldable pub ControlNumbers : Type 0
-ControlNumbers = (node : Node) (t : List Session) (d reply : List ℕ) → keepsRules node t ≡ true → among (controlTaken node t d reply .answer .number) controlNumbers ≡ true
+ControlNumbers = (node : Node) (t : List Session) (w : List (List ℕ)) (d reply : List ℕ) → keeps node t w ≡ true
+    → among (controlStored node t w d reply .call .answer .number) controlNumbers ≡ true
+
+-- a kept reply has a number of its list
+pub kept-among : (n : ℕ) → numberOk n ≡ true → among n (0 ∷ notLiveCause ∷ shortCause ∷ wrongCause ∷ missingCause ∷ []) ≡ true
+unfolding numberOk
+kept-among n e =
+    split (eqb n 0) (λ a. rw (eqb-true n 0 a))
+    (λ a. split (eqb n notLiveCause) (λ b. rw (eqb-true n notLiveCause b))
+    (λ b. split (eqb n shortCause) (λ c. rw (eqb-true n shortCause c))
+    (λ c. split (eqb n wrongCause) (λ f. rw (eqb-true n wrongCause f))
+    (λ f. split (eqb n missingCause) (λ g. rw (eqb-true n missingCause g))
+    (λ g. impossible (rw (a, b, c, f, g) at e))))))
+
+kept-number : (n : ℕ) → numberOk n ≡ true → among n controlNumbers ≡ true
+unfolding controlNumbers every
+kept-number n e = among-more n (0 ∷ notLiveCause ∷ shortCause ∷ wrongCause ∷ missingCause ∷ []) controlNumbers refl (kept-among n e)
 
 pub fresh-numbers : FreshNumbers
 unfolding FreshNumbers
-fresh-numbers = fresh-number
+fresh-numbers plan t w n m = rw (fresh-counted plan t w m) (fresh-number plan t n)
 
 pub tick-numbers : TickNumbers
 unfolding TickNumbers
-tick-numbers = tick-number
+tick-numbers node t w k = rw (tick-keeping node t w k) (tick-number node t (keeps-table node t w k))
 
 pub close-numbers : CloseNumbers
 unfolding CloseNumbers
-close-numbers node t place e = close-number node t e place
+close-numbers node t w place k = rw (close-sound node t w (keeps-store node t w k) place) (close-number node t (keeps-table node t w k) place)
 
 pub send-numbers : SendNumbers
 unfolding SendNumbers
-send-numbers node t reply e = send-number node t e reply
+send-numbers node t w reply k = rw (send-sound node t w (keeps-store node t w k) reply) (send-number node t (keeps-table node t w k) reply)
 
 pub line-numbers : LineNumbers
 unfolding LineNumbers
-line-numbers node t place reply e = line-number node t e place reply
+line-numbers node t w place reply k =
+    rw (line-sound node t w (keeps-store node t w k) place reply) (line-number node t (keeps-table node t w k) place reply)
 
 pub control-numbers : ControlNumbers
-unfolding ControlNumbers
-control-numbers node t d reply e = control-number node t e reply d
+unfolding ControlNumbers noReply controlNumbers
+control-numbers node t w d reply k =
+    control-by node t w d reply (λ o. among (o .answer .number) controlNumbers ≡ true)
+    (λ h. refl) (λ h e. impossible (sym e ∙ k))
+    (λ h e f. kept-number (numberIn (keptFor d w)) (answering d w (keeps-store node t w k) f .number))
+    (λ h e f. control-number node t (keeps-table node t w k) reply d)

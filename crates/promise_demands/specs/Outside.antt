@@ -2,20 +2,21 @@
 -- is not. So a host looks at these places alone. Of a send they say whom the datagram is for: with places it is the Delete Bearer of the first of
 -- them, to that session's peer; without, it is the echo.
 -- Assumes nothing.
-use Prim.Native.Nat.{ℕ, _+_, _<_, _≤_}
-use mathlib.Core.Bool.{Bool, true, false, not, _&&_}
+use Prim.Native.Nat.{ℕ, _<_, _≤_}
+use mathlib.Core.Bool.{true, false, not, _&&_}
 use mathlib.Core.List.{List, []}
-use mathlib.Core.Path.{_≡_, refl}
+use mathlib.Core.Path.{_≡_, refl, sym, _∙_}
 use native.Mathlib.Omega.{arith}
 use lib.ListN.{length, getD}
 use lib.Dec.{eqb, ltb}
 use borrow.Author.Tests.{eqb-true, ne-eqb, lt-ltb, ltb-true, ltb-false}
 use Rattle.base_octets.specs.Number.{taken}
-use Rattle.base_octets.specs.Choice.{split, and-left}
+use Rattle.base_octets.specs.Choice.{split, and-left, impossible}
 use Rattle.base_octets.specs.Overlay.{overlay}
 use Rattle.base_octets.specs.Search.{firstOf, first-passes}
 use Rattle.unit_tunnel.specs.Numbering.{places, controlOffset}
 use Rattle.unit_plan.specs.declared.Plan.{Plan}
+use Rattle.unit_plan.specs.Limits.{noPlan}
 use Rattle.unit_sharing.specs.Sharing.{admits}
 use Rattle.unit_session.specs.declared.Session.{Session}
 use Rattle.unit_session.specs.OwnRequest.{spent}
@@ -25,7 +26,9 @@ use Rattle.unit_table.specs.Rules.{keepsRules, rules-of, live}
 use Rattle.unit_table.specs.Change.{nobody, changedAt, changed-here}
 use Rattle.unit_table.specs.Find.{placeFound, ownerOf}
 use Rattle.unit_table.specs.Number.{takenNumber}
-use Rattle.unit_table.specs.Own.{duePlace}
+use Rattle.unit_table.specs.Own.{duePlace, freshNode}
+use Rattle.unit_store.specs.Row.{storeRows, numberIn, octetsIn}
+use Rattle.unit_store.specs.Store.{storeOk}
 use Rattle.wire_messages.specs.Types.{echoType}
 use Rattle.wire_messages.specs.Messages.{echoOf, deleteBearer}
 use Rattle.wire_fields.specs.declared.Recovery.{Recovery}
@@ -34,7 +37,7 @@ use Rattle.call_asked.specs.declared.Asked.{Asked}
 use Rattle.call_asked.specs.declared.Asked.the-variants as A
 use Rattle.call_asked.specs.Asked.{askedOf}
 use Rattle.call_own.specs.declared.Span.{Span}
-use Rattle.call_own.specs.Outcome.{Outcome, leastReply, noReply, noPlaces, allPlaces, onePlace, between, twoPlaces, sessionPlace, onSession, onOwner}
+use Rattle.call_own.specs.Outcome.{Outcome, leastReply, noReply, noPlaces, allPlaces, onePlace, between, twoPlaces, sessionPlace, onSession, onOwner, replied}
 use Rattle.call_own.specs.Calls.{timed, freshAnswer, freshOf, quiet, tickPlaces, tickOf, closeOf, echoSent, placeSent, dueSent, sendOf}
 use Rattle.call_own.specs.Outside.{OthersStay, fresh-others, tick-others, close-others, send-others}
 use Rattle.call_line.specs.Line.{lineBy, lineOf}
@@ -43,6 +46,8 @@ use Rattle.call_control.specs.Amends.{causeTaken}
 use Rattle.call_control.specs.Creates.{isRepeat, openedPlaces, createPlaces, createTaken}
 use Rattle.call_control.specs.Control.{askedTaken, controlTaken}
 use Rattle.call_control.specs.Outside.{control-others}
+use Rattle.call_store.specs.Stored.{keeps, brokenNumber, closeStored, sendStored, lineStored, freshStored, tickStored, isKept, keptFor, controlStored}
+use Rattle.call_store.specs.Laws.{control-by}
 
 -- the places that are answered are places of the table, so that a host may read their records
 pub record Lies (span : Span) : Type 0 where
@@ -63,13 +68,17 @@ pub record SentFor (node : Node) (t : List Session) (reply : List ℕ) (o : Outc
       (getD t (o .answer .span .from) nobody .ebi)) reply
 
 pub record OutsideStays : Type 0 where
-  pub fresh : (p : Plan) (t : List Session) → Changes (freshOf p t) t
-  pub control : (node : Node) (t : List Session) (d reply : List ℕ) → Changes (controlTaken node t d reply) t
-  pub tick : (node : Node) (t : List Session) → Changes (tickOf node t) t
-  pub close : (node : Node) (t : List Session) (place : ℕ) → Changes (closeOf node t place) t
-  pub send : (node : Node) (t : List Session) (reply : List ℕ) → Changes (sendOf node t reply) t
-  pub line : (node : Node) (t : List Session) (place : ℕ) (reply : List ℕ) → lineOf node t place reply .answer .span ≡ noPlaces
-  pub sent : (node : Node) (t : List Session) (reply : List ℕ) → sendOf node t reply .answer .number ≡ taken → SentFor node t reply (sendOf node t reply)
+  pub fresh : (p : Plan) (t : List Session) (w : List (List ℕ)) → Changes (freshStored p t w .call) t
+  pub control : (node : Node) (t : List Session) (w : List (List ℕ)) (d reply : List ℕ) → Changes (controlStored node t w d reply .call) t
+  -- a reply of the store changes no record, and says so
+  pub again : (node : Node) (t : List Session) (w : List (List ℕ)) (d reply : List ℕ) → keeps node t w ≡ true → isKept d w ≡ true
+      → controlStored node t w d reply .call .answer .span ≡ noPlaces
+  pub tick : (node : Node) (t : List Session) (w : List (List ℕ)) → Changes (tickStored node t w .call) t
+  pub close : (node : Node) (t : List Session) (w : List (List ℕ)) (place : ℕ) → Changes (closeStored node t w place) t
+  pub send : (node : Node) (t : List Session) (w : List (List ℕ)) (reply : List ℕ) → Changes (sendStored node t w reply) t
+  pub line : (node : Node) (t : List Session) (w : List (List ℕ)) (place : ℕ) (reply : List ℕ) → lineStored node t w place reply .answer .span ≡ noPlaces
+  pub sent : (node : Node) (t : List Session) (w : List (List ℕ)) (reply : List ℕ) → sendStored node t w reply .answer .number ≡ taken
+      → SentFor node t reply (sendStored node t w reply)
 
 -- ---- proofs
 none-lies : Lies noPlaces
@@ -203,13 +212,68 @@ module _ (node : Node) (t : List Session) where
       (λ d. rw (a, e, z, d) (λ n. absurd (omega arith)))))
       (λ e. rw (a, e) (λ n. absurd (omega arith))))
 
+-- ---- the same with the store: document 01's call, or nothing changed
+module _ (node : Node) (t : List Session) where
+  bare-changes : (n : ℕ) (x : Node) (reply : List ℕ) → Changes (noReply n x t reply) t
+  unfolding OthersStay noReply
+  bare-changes n x reply = record { others = λ i e. refl; lies = none-lies }
+
+  again-changes : (n : ℕ) (m reply : List ℕ) → Changes (replied n node t m reply) t
+  unfolding OthersStay
+  again-changes n m reply = record { others = λ i e. refl; lies = none-lies }
+
+  control-changes : (w : List (List ℕ)) (d reply : List ℕ) → Changes (controlStored node t w d reply .call) t
+  control-changes w d reply =
+      control-by node t w d reply (λ o. Changes o t)
+      (λ h. bare-changes 1 node reply) (λ h e. bare-changes 2 node reply)
+      (λ h e f. again-changes (numberIn (keptFor d w)) (octetsIn (keptFor d w)) reply)
+      (λ h e f. record { others = control-others node t d reply; lies = control-lies node t d reply })
+
+  again-none : (w : List (List ℕ)) (d reply : List ℕ) → keeps node t w ≡ true → isKept d w ≡ true → controlStored node t w d reply .call .answer .span ≡ noPlaces
+  unfolding noReply
+  again-none w d reply k e =
+      control-by node t w d reply (λ o. o .answer .span ≡ noPlaces) (λ h. refl) (λ h f. refl) (λ h f g. refl) (λ h f g. impossible (sym g ∙ e))
+
+  tick-changes : (w : List (List ℕ)) → Changes (tickStored node t w .call) t
+  unfolding tickStored
+  tick-changes w =
+      split (storeOk w) (λ s. rw s (record { others = tick-others node t; lies = tick-lies node t })) (λ s. rw s (bare-changes 2 node []))
+
+  close-changes : (w : List (List ℕ)) (place : ℕ) → Changes (closeStored node t w place) t
+  unfolding closeStored
+  close-changes w place =
+      split (storeOk w) (λ s. rw s (record { others = close-others node t place; lies = close-lies node t place })) (λ s. rw s (bare-changes 2 node []))
+
+  send-changes : (w : List (List ℕ)) (reply : List ℕ) → Changes (sendStored node t w reply) t
+  unfolding sendStored
+  send-changes w reply =
+      split (storeOk w) (λ s. rw s (record { others = send-others node t reply; lies = send-lies node t reply }))
+      (λ s. rw s (bare-changes (brokenNumber reply) node reply))
+
+  line-nowhere : (w : List (List ℕ)) (place : ℕ) (reply : List ℕ) → lineStored node t w place reply .answer .span ≡ noPlaces
+  unfolding lineStored noReply
+  line-nowhere w place reply = split (storeOk w) (λ s. rw s (line-none node t place reply)) (λ s. rw s)
+
+  sent-for : (w : List (List ℕ)) (reply : List ℕ) → sendStored node t w reply .answer .number ≡ taken → SentFor node t reply (sendStored node t w reply)
+  unfolding sendStored noReply brokenNumber
+  sent-for w reply =
+      split (storeOk w) (λ s. rw s (send-for node t reply))
+      (λ s. split (ltb (length reply) leastReply) (λ a. rw (s, a) (λ n. absurd (omega arith))) (λ a. rw (s, a) (λ n. absurd (omega arith))))
+
+fresh-changes : (p : Plan) (t : List Session) (w : List (List ℕ)) → Changes (freshStored p t w .call) t
+unfolding freshStored
+fresh-changes p t w =
+    split (eqb (length w) storeRows) (λ s. rw s (record { others = fresh-others p t; lies = fresh-lies p t }))
+    (λ s. rw s (bare-changes (freshNode noPlan) t 2 (freshNode noPlan) []))
+
 pub outside-stays : OutsideStays
 outside-stays = record {
-  fresh = λ p t. record { others = fresh-others p t; lies = fresh-lies p t };
-  control = λ node t d reply. record { others = control-others node t d reply; lies = control-lies node t d reply };
-  tick = λ node t. record { others = tick-others node t; lies = tick-lies node t };
-  close = λ node t place. record { others = close-others node t place; lies = close-lies node t place };
-  send = λ node t reply. record { others = send-others node t reply; lies = send-lies node t reply };
-  line = line-none;
-  sent = send-for;
+  fresh = fresh-changes;
+  control = control-changes;
+  again = again-none;
+  tick = tick-changes;
+  close = close-changes;
+  send = send-changes;
+  line = line-nowhere;
+  sent = sent-for;
 }

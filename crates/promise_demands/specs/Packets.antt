@@ -21,17 +21,19 @@ use Rattle.unit_table.specs.Rules.{rules-of}
 use Rattle.unit_table.specs.Change.{nobody}
 use Rattle.unit_table.specs.Find.{ownerOf, bears, first-is}
 use Rattle.wire_messages.specs.Messages.{size-user-echo}
-use Rattle.call_own.specs.Outcome.{State, leastReply}
+use Rattle.call_own.specs.Outcome.{leastReply}
 use Rattle.wire_user.specs.Header.{userEchoType, packetType, typeTaken, typeOf, userTeidOf, userSequenceOf, refusalOf, userHeaderOf}
 use Rattle.wire_user.specs.Header.{header-packet, header-echo, header-passed}
 use Rattle.wire_user.specs.User.{userOf, user-passed}
 use Rattle.call_user.specs.User.{Took, took, headerTaken, packetTaken, userTaken, user-short, user-unread, user-read}
-use Rattle.promise_demands.specs.Run.{Kept}
+use Rattle.call_store.specs.Stored.{State, userStored}
+use Rattle.call_store.specs.Laws.{user-sound}
+use Rattle.promise_demands.specs.Run.{Kept, kept-table, kept-store}
 use Rattle.promise_demands.specs.Bounds.{at}
 
 -- what comes back for a user datagram
 abbrev pub took-of : State → List ℕ → List ℕ → Took
-took-of s d reply = userTaken (s .node) (s .table) d reply
+took-of s d reply = userStored (s .node) (s .table) (s .store) d reply
 
 -- handed up: it is a G-PDU, its number is the user number of the place in its present use, and what lies past the header with its extension
 -- headers is what is handed up
@@ -104,17 +106,20 @@ module _ (s : State) (k : Kept s) (size : length (s .table) ≡ places) (d reply
       (λ q. let n = eqb-false (typeOf d) userEchoType q in
       rw (header-packet d n) (packet-fair (packet-type d e n) (ownerOf userOffset (userTeidOf d) (s .table)) refl))
 
-  pub user-fair : Fairly s d (took-of s d reply)
-  user-fair =
+  taken-fair : Fairly s d (userTaken (s .node) (s .table) d reply)
+  taken-fair =
       split (ltb (length reply) leastReply)
       (λ a. rw (user-short (s .node) (s .table) d reply (ltb-true (length reply) leastReply a)) (silent-fair 1 (λ e. omega arith)))
       (λ a. let room = ltb-false (length reply) leastReply a in
       split (eqb (userOf d .number) 0)
       (λ b. let e = eqb-true (userOf d .number) 0 b in
-      rw (user-read (s .node) (s .table) d reply room k e) (header-fair (user-passed d e)))
+      rw (user-read (s .node) (s .table) d reply room (kept-table s k) e) (header-fair (user-passed d e)))
       (λ b. let e = eqb-false (userOf d .number) 0 b in
-      rw (user-unread (s .node) (s .table) d reply room k e) (silent-fair (userOf d .number) e)))
+      rw (user-unread (s .node) (s .table) d reply room (kept-table s k) e) (silent-fair (userOf d .number) e)))
+
+  pub user-fair : Fairly s d (took-of s d reply)
+  user-fair = rw (user-sound (s .node) (s .table) (s .store) (kept-store s k) d reply) taken-fair
 
 pub live-only : LiveOnly
 unfolding LiveOnly places
-live-only s k d reply = user-fair s k (rules-of (s .node) (s .table) k .size) d reply
+live-only s k d reply = user-fair s k (rules-of (s .node) (s .table) (kept-table s k) .size) d reply

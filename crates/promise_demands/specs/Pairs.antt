@@ -30,11 +30,13 @@ use Rattle.unit_table.specs.Rules.{rules-of}
 use Rattle.unit_table.specs.Find.{ownerOf, heldIn, owner-is}
 use Rattle.wire_messages.specs.Messages.{versionNotSupported, errorIndication}
 use Rattle.wire_requests.specs.declared.Create as C
-use Rattle.call_own.specs.Outcome.{State, Outcome, outcome, leastReply, noPlaces}
+use Rattle.call_own.specs.Outcome.{Outcome, outcome, leastReply, noPlaces}
 use Rattle.call_asked.specs.Asked.{askedOf}
-use Rattle.call_control.specs.Control.{askedTaken, controlTaken}
+use Rattle.call_control.specs.Control.{restartsIn, askedTaken}
 use Rattle.call_user.specs.User.{Took, took, silent, userReplied, packetTaken, headerTaken, userTaken, user-read, user-unread}
-use Rattle.promise_demands.specs.Run.{control, answered, Kept}
+use Rattle.call_store.specs.Stored.{State, stored, userStored, asksStore, isKept, storeAfter, takenStored, controlStored}
+use Rattle.call_store.specs.Laws.{user-sound}
+use Rattle.promise_demands.specs.Run.{control, answered, Kept, kept-table, kept-store}
 use Rattle.promise_demands.specs.Bounds.{at}
 use Rattle.promise_demands.specs.Creates.{NewCreate, askedU}
 use Rattle.promise_demands.specs.Share.{number-yes, number-no}
@@ -74,14 +76,15 @@ pub Holds : Pair → Type 0
 Holds (numbers place usage c u) = (controlNumber usage place ≡ c) × (userNumber usage place ≡ u)
 Holds (follows usage next) = nextUse usage ≡ next
 Holds (handed d start x) = (s : State) (reply : List ℕ) → Lives s reply
-    → (userTaken (s .node) (s .table) d reply ≡ took 0 0 0 reply start) × (drop start d ≡ x)
-Holds (refused d number) = (s : State) (reply : List ℕ) → Lives s reply → userTaken (s .node) (s .table) d reply ≡ silent number (length d) reply
+    → (userStored (s .node) (s .table) (s .store) d reply ≡ took 0 0 0 reply start) × (drop start d ≡ x)
+Holds (refused d number) = (s : State) (reply : List ℕ) → Lives s reply → userStored (s .node) (s .table) (s .store) d reply ≡ silent number (length d) reply
 Holds (unknown d teid) = (s : State) (reply : List ℕ) → Lives s reply
-    → userTaken (s .node) (s .table) d reply ≡ userReplied 15 (errorIndication teid (s .node .plan .user)) (length d) reply
+    → userStored (s .node) (s .table) (s .store) d reply ≡ userReplied 15 (errorIndication teid (s .node .plan .user)) (length d) reply
 Holds (asks g k u a number) = (s : State) (d reply : List ℕ) (c : C.Create) → Kept s → NewCreate (s .node .plan) s d c → leastReply ≤ length reply
     → Shares s c g k u → c .point ≡ a → answered (control d reply) s ≡ number
 Holds (answers d number m) = (s : State) (reply : List ℕ) → Kept s → leastReply ≤ length reply
-    → controlTaken (s .node) (s .table) d reply ≡ outcome (record { number = number; size = length m; node = s .node; span = noPlaces }) (s .table) (overlay m reply)
+    → controlStored (s .node) (s .table) (s .store) d reply
+    ≡ stored (outcome (record { number = number; size = length m; node = s .node; span = noPlaces }) (s .table) (overlay m reply)) (s .store)
 
 pub pairs : List Pair
 pairs =
@@ -111,27 +114,30 @@ PairsHold = AllHold pairs
 -- a control number is nobody's user number
 nobody-has : (s : State) → Kept s → ownerOf userOffset 256 (s .table) ≡ F.Nothing
 unfolding holderOf numbersOf heldIn places base userOffset
-nobody-has s k = let z = rules-of (s .node) (s .table) k .size in owner-is userOffset 256 (s .table) user-fits (omega arith)
+nobody-has s k = let z = rules-of (s .node) (s .table) (kept-table s k) .size in owner-is userOffset 256 (s .table) user-fits (omega arith)
+
+sound : (s : State) → Kept s → (d reply : List ℕ) → userStored (s .node) (s .table) (s .store) d reply ≡ userTaken (s .node) (s .table) d reply
+sound s k d reply = user-sound (s .node) (s .table) (s .store) (kept-store s k) d reply
 
 handed-up : (d : List ℕ) (start : ℕ) → userOf d .number ≡ 0 → userOf d .size ≡ start → userHeaderOf d ≡ H.Packet (record { 0 = 384 })
-    → (s : State) (reply : List ℕ) → Lives s reply → userTaken (s .node) (s .table) d reply ≡ took 0 0 0 reply start
+    → (s : State) (reply : List ℕ) → Lives s reply → userStored (s .node) (s .table) (s .store) d reply ≡ took 0 0 0 reply start
 unfolding headerTaken packetTaken leastReply numberAt base userOffset places
 handed-up d start n z q s reply h =
     let own : ownerOf userOffset (userNumber (at s 0 .usage) 0) (s .table) ≡ F.At 0 = live-owner s (h .kept) 0 (omega arith) (h .live) in
     let o : ownerOf userOffset 384 (s .table) ≡ F.At 0 = rw (h .usage) at own in
-    user-read (s .node) (s .table) d reply (h .room) (h .kept) n ∙ rw (q, o, z)
+    sound s (h .kept) d reply ∙ user-read (s .node) (s .table) d reply (h .room) (kept-table s (h .kept)) n ∙ rw (q, o, z)
 
 refused-so : (d : List ℕ) (number : ℕ) → userOf d .number ≡ number → (number ≡ 0 → ⊥) → (s : State) (reply : List ℕ) → Lives s reply
-    → userTaken (s .node) (s .table) d reply ≡ silent number (length d) reply
+    → userStored (s .node) (s .table) (s .store) d reply ≡ silent number (length d) reply
 unfolding leastReply
 refused-so d number e n s reply h =
-    user-unread (s .node) (s .table) d reply (h .room) (h .kept) (λ z. n (sym e ∙ z)) ∙ ap (λ (k : ℕ). silent k (length d) reply) e
+    sound s (h .kept) d reply ∙ user-unread (s .node) (s .table) d reply (h .room) (kept-table s (h .kept)) (λ z. n (sym e ∙ z)) ∙ ap (λ (k : ℕ). silent k (length d) reply) e
 
 unknown-so : (d : List ℕ) (teid : ℕ) → userOf d .number ≡ 0 → userHeaderOf d ≡ H.Packet (record { 0 = teid })
     → (s : State) (reply : List ℕ) → Lives s reply → ownerOf userOffset teid (s .table) ≡ F.Nothing
-    → userTaken (s .node) (s .table) d reply ≡ userReplied 15 (errorIndication teid (s .node .plan .user)) (length d) reply
+    → userStored (s .node) (s .table) (s .store) d reply ≡ userReplied 15 (errorIndication teid (s .node .plan .user)) (length d) reply
 unfolding headerTaken packetTaken leastReply
-unknown-so d teid n q s reply h o = user-read (s .node) (s .table) d reply (h .room) (h .kept) n ∙ rw (q, o)
+unknown-so d teid n q s reply h o = sound s (h .kept) d reply ∙ user-read (s .node) (s .table) d reply (h .room) (kept-table s (h .kept)) n ∙ rw (q, o)
 
 -- the sharing rule by the figures of a row
 abbrev rule : List ℕ → List ℕ → List ℕ → ℕ → Bool
@@ -156,9 +162,9 @@ module _ (g k u : List ℕ) (a : ℕ) (s : State) (d reply : List ℕ) (c : C.Cr
   asks-no t = number-no (s .node .plan) s kept refl d c n reply room (ruled ∙ t)
 
 version-so : (d : List ℕ) → gateOf d ≡ 5 → (s : State) (reply : List ℕ) → Kept s → leastReply ≤ length reply
-    → controlTaken (s .node) (s .table) d reply
-    ≡ outcome (record { number = 5; size = length versionNotSupported; node = s .node; span = noPlaces }) (s .table) (overlay versionNotSupported reply)
-unfolding controlTaken askedTaken askedOf leastReply
+    → controlStored (s .node) (s .table) (s .store) d reply
+    ≡ stored (outcome (record { number = 5; size = length versionNotSupported; node = s .node; span = noPlaces }) (s .table) (overlay versionNotSupported reply)) (s .store)
+unfolding controlStored takenStored isKept asksStore storeAfter restartsIn askedTaken askedOf leastReply
 version-so d e s reply kept room = rw (le-ltb (length reply) leastReply room, kept, e)
 
 pub pairs-hold : PairsHold

@@ -67,6 +67,9 @@ record Left (s x : Session) : Type 0 where
 left-same : (s : Session) → Left s s
 left-same s = record { usage = refl; after = λ g. record { state = refl; own = refl } }
 
+pub same-after : (s : Session) → After s s
+same-after s = left-same s .after
+
 pub freed-gone : (usage : ℕ) (x : Session) → gone usage (freed x) ≡ true
 unfolding gone freed blankAt isFree
 freed-gone usage x = refl

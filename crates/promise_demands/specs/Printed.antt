@@ -19,16 +19,18 @@ use Rattle.unit_session.specs.Session.{isFree, blank, heldOk, readOk, recordOk,
 use Rattle.unit_session.specs.Keep.{live-of, ok-usage}
 use Rattle.unit_table.specs.Rules.{boundsOf, rules-of}
 use Rattle.unit_table.specs.Change.{record-ok}
-use Rattle.call_own.specs.Outcome.{State, outcome, leastReply, noPlaces}
+use Rattle.call_own.specs.Outcome.{outcome, leastReply, noPlaces}
 use Rattle.call_line.specs.Line.{lineText, lineBy, lineOf, line-fits}
-use Rattle.promise_demands.specs.Run.{Kept}
+use Rattle.call_store.specs.Stored.{State, lineStored}
+use Rattle.call_store.specs.Laws.{line-sound}
+use Rattle.promise_demands.specs.Run.{Kept, kept-table, kept-store}
 use Rattle.promise_demands.specs.Bounds.{at}
 
 -- the peer's TEIDs are numbers of 32 bits, as their type has it
 unfoldable pub LinesWhole : Type 0
 LinesWhole = (s : State) → Kept s → (i : ℕ) → i < places → at s i .control < teids → at s i .user < teids
     → (reply : List ℕ) → leastReply ≤ length reply
-    → lineOf (s .node) (s .table) i reply
+    → lineStored (s .node) (s .table) (s .store) i reply
     ≡ outcome (record { number = 0; size = length (lineText i (at s i)); node = s .node; span = noPlaces }) (s .table) (overlay (lineText i (at s i)) reply)
 
 -- ---- proofs
@@ -74,14 +76,15 @@ module _ (b : Bounds) (few : b .parties ≤ 4) (x : Session) (ok : recordOk b x 
 pub lines-whole : LinesWhole
 unfolding LinesWhole lineOf lineBy leastReply boundsOf lastUse teids
 lines-whole s k i h control user reply room =
-    let r = rules-of (s .node) (s .table) k in
+    let r = rules-of (s .node) (s .table) (kept-table s k) in
     let ok = record-ok (s .node .plan) (s .node .echo) (s .node .next) (s .table) r i in
     let m = small (boundsOf (s .node .plan)) (let f = parties-four (s .node .plan) (r .planned) in omega arith) (at s i) ok in
     let z = r .size in
     let g = ok-usage (boundsOf (s .node .plan)) (at s i) ok in
     rw (
+      line-sound (s .node) (s .table) (s .store) (kept-store s k) i reply,
       le-ltb (length reply) leastReply room,
-      k,
+      kept-table s k,
       lt-ltb i (length (s .table)) (omega arith),
       line-fits (at s i) (m .imsi) (m .point) (m .ebi) (omega arith) (omega arith) (m .created) (omega arith) i reply h room,
     )

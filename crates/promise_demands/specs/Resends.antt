@@ -24,20 +24,22 @@ use Rattle.unit_table.specs.Change.{nobody, changed-here}
 use Rattle.unit_table.specs.Own.{duePlace}
 use Rattle.unit_table.specs.Number.{takenNumber}
 use Rattle.wire_messages.specs.Messages.{deleteBearer}
-use Rattle.call_own.specs.Outcome.{State, leastReply}
+use Rattle.call_own.specs.Outcome.{leastReply}
 use Rattle.call_own.specs.Calls.{placeSent, dueSent, sendOf}
-use Rattle.promise_demands.specs.Run.{left, Event, tick, send, close, step, run, ofOctets, Start, Run, start-accepted}
+use Rattle.call_store.specs.Stored.{State, sendStored}
+use Rattle.call_store.specs.Laws.{send-sound}
+use Rattle.promise_demands.specs.Run.{left, Event, tick, send, close, step, run, ofOctets, Start, Run, start-accepted, kept-table, kept-store, send-is}
 use Rattle.promise_demands.specs.Stays.{step-start, run-start}
 use Rattle.promise_demands.specs.Bounds.{at}
 use Rattle.promise_demands.specs.Ticks.{place-ticked}
 use Rattle.promise_demands.specs.Place.{gone}
-use Rattle.promise_demands.specs.InTime.{isTick, ticksIn, prompt, everGone, in-range, closing-taken, step-spends, use-is, close-is, live-idle, closed-now, rules, there}
+use Rattle.promise_demands.specs.InTime.{isTick, ticksIn, prompt, everGone, in-range, closing-taken, step-spends, use-is, closes, live-idle, closed-now, rules, there}
 
 -- a send for the place: the Delete Bearer to its peer, with the number that its record has then
 unfoldable pub Sends : ℕ → State → List ℕ → Type 0
 Sends i s reply =
-    (sendOf (s .node) (s .table) reply .answer .number ≡ 0)
-    × (sendOf (s .node) (s .table) reply .reply ≡ overlay (deleteBearer (at s i .control) (at (step (send reply) s) i .own .number) (at s i .ebi)) reply)
+    (sendStored (s .node) (s .table) (s .store) reply .answer .number ≡ 0)
+    × (sendStored (s .node) (s .table) (s .store) reply .reply ≡ overlay (deleteBearer (at s i .control) (at (step (send reply) s) i .own .number) (at s i .ebi)) reply)
 
 -- the session of place i in that use is there still after the calls `later`, which left the state s
 pub record Resends (p : Plan) (i usage : ℕ) (later : List Event) (s : State) : Type 0 where
@@ -62,7 +64,7 @@ ResendsWhole = (p : Plan) (s : State) (es : List Event) → Run p s es → (i : 
     → Resends p i (at (run es s) i .usage) later (run later (step (close i) (run es s)))
 
 -- ---- proofs
-or-no : (a b : Bool) → (a || b) ≡ false → (a ≡ false) × (b ≡ false)
+pub or-no : (a b : Bool) → (a || b) ≡ false → (a ≡ false) × (b ≡ false)
 or-no true b e = impossible (sym e)
 or-no false b e = (refl, e)
 
@@ -141,10 +143,10 @@ module _ (p : Plan) (i : ℕ) (h : i < places) (a : accepted p ≡ true) (usage 
     number e o n f m = step-spends p i h e s (t .good) a (t .closing) n (rw (t .same-use) f) .number m
 
     octets : (reply : List ℕ) → leastReply ≤ length reply → (s .node .echo .timer ≡ 0 → ⊥) → duePlace (s .table) ≡ i → Sends i s reply
-    unfolding Sends sendOf dueSent placeSent step left leastReply sent turned
+    unfolding Sends sendOf dueSent placeSent left leastReply sent turned
     octets reply room n e =
         let k = takenNumber (s .node .next) (s .node .echo) (s .table) in
-        rw (le-ltb (length reply) leastReply room, t .good .rules, ne-eqb (s .node .echo .timer) 0 n, e, lt-ltb i (length (s .table)) (there p i h s (t .good)), changed-here (sent (s .node .plan .resend) k) i (s .table) nobody (there p i h s (t .good)))
+        rw (send-sound (s .node) (s .table) (s .store) (kept-store s (t .good .rules)) reply, send-is s (t .good .rules) reply, le-ltb (length reply) leastReply room, kept-table s (t .good .rules), ne-eqb (s .node .echo .timer) 0 n, e, lt-ltb i (length (s .table)) (there p i h s (t .good)), changed-here (sent (s .node .plan .resend) k) i (s .table) nobody (there p i h s (t .good)))
         (refl, refl)
 
     resends : Resends p i usage later s
@@ -172,7 +174,7 @@ closed-there p i h a s g c =
     }
   where
     e : at (step (close i) s) i ≡ closed (at s i)
-    e = close-is p i h s g c
+    e = closes p i h s g c
 
 pub resends-whole : ResendsWhole
 unfolding ResendsWhole

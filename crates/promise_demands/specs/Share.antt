@@ -24,10 +24,10 @@ use Rattle.unit_table.specs.Rules.{liveOn}
 use Rattle.unit_table.specs.Change.{nobody, changedAt}
 use Rattle.wire_requests.specs.declared.Create as C
 use Rattle.wire_header.specs.Header.{headerOf}
-use Rattle.call_own.specs.Outcome.{State, Outcome, leastReply}
+use Rattle.call_own.specs.Outcome.{Outcome, leastReply}
 use Rattle.call_control.specs.Amends.{causeTaken}
 use Rattle.call_control.specs.Creates.{acceptedTaken, noRoom}
-use Rattle.call_control.specs.Control.{controlTaken}
+use Rattle.call_store.specs.Stored.{State, controlStored}
 use Rattle.promise_demands.specs.Run.{Event, control, step, answered, run, ofOctets, Kept, Start, Run, start-accepted}
 use Rattle.promise_demands.specs.Stays.{step-start, run-start}
 use Rattle.promise_demands.specs.Bounds.{at, u, start-rules}
@@ -37,8 +37,8 @@ use Rattle.promise_demands.specs.Creates.{NewCreate, askedU, acceptedOf,
 pub record Judged (p : Plan) (s : State) (d : List ℕ) (c : C.Create) (reply : List ℕ) : Type 0 where
   pub noReply : (answered (control d reply) s ≡ 73) ↔ (admits p (askedU c s) (c .point) ≡ false)
   pub accepted : (answered (control d reply) s ≡ 0) ↔ (admits p (askedU c s) (c .point) ≡ true)
-  pub leaves : admits p (askedU c s) (c .point) ≡ true → controlTaken (s .node) (s .table) d reply ≡ acceptedOf (headerOf d .sequence) c s reply
-  pub tells : admits p (askedU c s) (c .point) ≡ false → controlTaken (s .node) (s .table) d reply ≡ refusedOf (headerOf d .sequence) c s reply
+  pub leaves : admits p (askedU c s) (c .point) ≡ true → controlStored (s .node) (s .table) (s .store) d reply .call ≡ acceptedOf (headerOf d .sequence) c s reply
+  pub tells : admits p (askedU c s) (c .point) ≡ false → controlStored (s .node) (s .table) (s .store) d reply .call ≡ refusedOf (headerOf d .sequence) c s reply
 
 unfoldable pub RefusalsJust : Type 0
 RefusalsJust = (p : Plan) (s : State) (es : List Event) → Run p s es → (d : List ℕ) (c : C.Create) → NewCreate p (run es s) d c

@@ -19,12 +19,13 @@ use Rattle.unit_table.specs.Change.{nobody, changedAt}
 use Rattle.unit_table.specs.Find.{foundIn}
 use Rattle.unit_table.specs.Own.{duePlace}
 use Rattle.wire_requests.specs.declared.Create as C
-use Rattle.call_own.specs.Outcome.{State, onSession, onOwner, leastReply, noReply}
+use Rattle.call_own.specs.Outcome.{onSession, onOwner, leastReply, noReply}
 use Rattle.call_own.specs.Calls.{timed, tickOf, closeOf, echoSent, placeSent, dueSent, sendOf}
 use Rattle.call_control.specs.Echoes.{heardBy, heard-plan, echoTaken, echoEnded, echoReplyTaken}
 use Rattle.call_control.specs.Amends.{causeTaken}
 use Rattle.call_control.specs.Creates.{acceptedTaken, openedAt, shared, isRepeat, settledAt, heardCreate, createTaken}
-use Rattle.promise_demands.specs.Run.{left, Event, control, user, down, tick, send, close, line, step, run, line-step, ofOctets, Start, Run, step-keeps, run-keeps}
+use Rattle.call_store.specs.Stored.{State}
+use Rattle.promise_demands.specs.Run.{Event, control, user, down, tick, send, close, line, step, run, line-step, ofOctets, Start, Run, step-keeps, run-keeps, control-either, tick-either, send-either, close-either}
 use Rattle.wire_fields.specs.declared.Recovery.{Recovery}
 use Rattle.call_asked.specs.declared.Asked.{Asked}
 use Rattle.call_asked.specs.declared.Asked.the-variants as A
@@ -100,14 +101,21 @@ module _ (node : Node) (t : List Session) where
       (λ z. split (ltb (duePlace t) (length t)) (λ d. rw (a, e, z, d)) (λ d. rw (a, e, z, d))))
       (λ e. rw (a, e)))
 
+user-plan : (d reply : List ℕ) (s : State) → step (user d reply) s .node .plan ≡ s .node .plan
+unfolding step
+user-plan d reply s = refl
+
+down-plan : (packet out : List ℕ) (s : State) → step (down packet out) s .node .plan ≡ s .node .plan
+unfolding step
+down-plan packet out s = refl
+
 pub step-plan : (e : Event) (s : State) → step e s .node .plan ≡ s .node .plan
-unfolding step left
-step-plan (control d reply) s = control-plan (s .node) (s .table) d reply
-step-plan (user d reply) s = refl
-step-plan (down packet out) s = refl
-step-plan tick s = tick-plan (s .node) (s .table)
-step-plan (send reply) s = send-plan (s .node) (s .table) reply
-step-plan (close place) s = close-plan (s .node) (s .table) place
+step-plan (control d reply) s = control-either (λ n t. n .plan ≡ s .node .plan) s refl d reply (control-plan (s .node) (s .table) d reply)
+step-plan (user d reply) s = user-plan d reply s
+step-plan (down packet out) s = down-plan packet out s
+step-plan tick s = tick-either (λ n t. n .plan ≡ s .node .plan) s refl (tick-plan (s .node) (s .table))
+step-plan (send reply) s = send-either (λ n t. n .plan ≡ s .node .plan) s refl reply (send-plan (s .node) (s .table) reply)
+step-plan (close place) s = close-either (λ n t. n .plan ≡ s .node .plan) s refl place (close-plan (s .node) (s .table) place)
 step-plan (line place reply) s = rw (line-step place reply s)
 
 pub run-plan : (es : List Event) (s : State) → run es s .node .plan ≡ s .node .plan

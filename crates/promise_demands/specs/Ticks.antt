@@ -19,9 +19,11 @@ use Rattle.unit_session.specs.OwnRequest.{idle, spent, countedDown}
 use Rattle.unit_session.specs.Session.{isFree, freed, blankAt, turned, ticked}
 use Rattle.unit_table.specs.Change.{nobody}
 use Rattle.unit_table.specs.Own.{rested, echoTicked, allTicked, freshNode}
-use Rattle.call_own.specs.Calls.{freshAnswer, timed, freshState, tickOf}
-use Rattle.call_own.specs.Outcome.{State, noReply}
-use Rattle.promise_demands.specs.Run.{left, Event, tick, step, run, ofOctets, Kept, Start, Run, fresh-start, start-accepted}
+use Rattle.unit_store.specs.Store.{aged}
+use Rattle.call_own.specs.Calls.{freshAnswer, timed, tickOf, freshHeld}
+use Rattle.call_own.specs.Outcome.{noReply}
+use Rattle.call_store.specs.Stored.{State, freshState}
+use Rattle.promise_demands.specs.Run.{left, Event, tick, step, run, ofOctets, Kept, Start, Run, fresh-start, start-accepted, kept-table, tick-is}
 use Rattle.promise_demands.specs.Stays.{step-start, run-start}
 use Rattle.promise_demands.specs.Bounds.{at, start-rules}
 use Rattle.promise_demands.specs.Examples.{first, echo}
@@ -41,20 +43,21 @@ pub record EveryTickCounts : Type 0 where
   -- from fresh it comes down from E; that it stands at E is not among the rules, so that of another start this is not said
   pub fresh : (p : Plan) → accepted p ≡ true → (k : ℕ) → k ≤ p .interval → run (replicate k tick) (freshState p) .node .echo .timer + k ≡ p .interval
 
-tick-is : (s : State) → Kept s → step tick s ≡ record {
+tick-leaves : (s : State) → Kept s → step tick s ≡ record {
   node = timed (echoTicked (s .node .plan) (s .node .echo)) (s .node .next) (s .node);
   table = (allTicked (s .node .plan) (s .node .echo) (s .table));
+  store = aged (s .store);
 }
-unfolding step left tickOf noReply
-tick-is s k = rw k
+unfolding left tickOf noReply
+tick-leaves s k = rw (tick-is s k, kept-table s k)
 
 module _ (p : Plan) (s : State) (k : Kept s) (plan : s .node .plan ≡ p) (size : length (s .table) ≡ places) where
   tick-echo : step tick s .node .echo ≡ echoTicked p (s .node .echo)
   unfolding timed
-  tick-echo = ap (λ (x : State). x .node .echo) (tick-is s k) ∙ ap (λ (x : Plan). echoTicked x (s .node .echo)) plan
+  tick-echo = ap (λ (x : State). x .node .echo) (tick-leaves s k) ∙ ap (λ (x : Plan). echoTicked x (s .node .echo)) plan
 
   tick-recs : step tick s .table ≡ allTicked p (s .node .echo) (s .table)
-  tick-recs = ap (λ (x : State). x .table) (tick-is s k) ∙ ap (λ (x : Plan). allTicked x (s .node .echo) (s .table)) plan
+  tick-recs = ap (λ (x : State). x .table) (tick-leaves s k) ∙ ap (λ (x : Plan). allTicked x (s .node .echo) (s .table)) plan
 
   echo-down : 0 < s .node .echo .timer → spent (p .sends) (s .node .echo) ≡ false → step tick s .node .echo .timer + 1 ≡ s .node .echo .timer
   unfolding echoTicked countedDown
@@ -91,7 +94,7 @@ unfolding echoTicked countedDown places
 falls-sends p s g u z = rw (tick-echo p s (g .rules) (g .plan) (start-rules p s g .size), u) z
 
 fresh-echo : (p : Plan) → accepted p ≡ true → freshState p .node .echo ≡ rested (p .interval) idle
-unfolding freshState freshAnswer freshNode
+unfolding freshState freshHeld freshAnswer freshNode
 fresh-echo p a = rw a
 
 echo-falls : (p : Plan) → 1 ≤ p .sends → (k : ℕ) (s : State) → Start p s → s .node .echo .sends ≡ 0 → k ≤ s .node .echo .timer

@@ -18,12 +18,14 @@ use Rattle.unit_table.specs.declared.Owner.{Owner}
 use Rattle.unit_table.specs.declared.Owner.the-variants as F
 use Rattle.unit_table.specs.Rules.{keepsRules}
 use Rattle.unit_table.specs.Find.{ownerOf}
+use Rattle.unit_store.specs.Store.{storeOk}
 use Rattle.wire_messages.specs.Messages.{userEcho, errorIndication}
 use Rattle.wire_user.specs.Header.{userEchoType, typeOf, userTeidOf, userSequenceOf, userHeaderOf, header-packet, header-echo}
 use Rattle.wire_user.specs.User.{userOf}
 use Rattle.call_own.specs.Outcome.{leastReply}
 use Rattle.call_user.specs.User.{Took, took, headerTaken, packetTaken, userTaken}
 use Rattle.call_user.specs.User as userside
+use Rattle.call_store.specs.Stored.{brokenNumber, userStored}
 use Rattle.promise_demands.specs.Numbers.{among-other}
 use Rattle.promise_demands.specs.UserNumbers.{userReads, read-number}
 
@@ -60,3 +62,9 @@ module _ (node : Node) (t : List Session) (d reply : List ℕ) where
       (λ e. split (eqb (userOf d .number) 0) (λ b. rw (a, e, b) header-takes)
       (λ b. rw (a, e, b) (refused-takes (userOf d .number) (among-other (userOf d .number) 15 userReads (read-number d) refl))))
       (λ e. rw (a, e) (refused-takes 2 (λ z. omega arith))))
+
+  pub user-stored-takes : (w : List (List ℕ)) → Takes (userStored node t w d reply)
+  unfolding userStored brokenNumber
+  user-stored-takes w =
+      split (storeOk w) (λ s. rw s user-takes)
+      (λ s. split (ltb (length reply) leastReply) (λ a. rw (s, a) (refused-takes 1 (λ e. omega arith))) (λ a. rw (s, a) (refused-takes 2 (λ e. omega arith))))

@@ -1,7 +1,7 @@
 -- The numbers that take user datagram and take downlink packet answer on a table that keeps its rules.
 -- Assumes nothing.
 use Prim.Native.Nat.{ℕ, zero, suc, _+_, _-_}
-use mathlib.Core.Bool.{true, not, _&&_}
+use mathlib.Core.Bool.{true, _&&_}
 use mathlib.Core.List.{List, [], _∷_}
 use mathlib.Core.Path.{_≡_, refl}
 use lib.ListN.{length, drop}
@@ -25,6 +25,8 @@ use Rattle.wire_user.specs.User.{userOf, firstType}
 use Rattle.call_user.specs.User.{packetTaken, headerTaken, userTaken}
 use Rattle.wire_packet.specs.Packet.{wholePacket, destinationOf}
 use Rattle.call_down.specs.Down.{downOn, downTo, downTaken}
+use Rattle.call_store.specs.Stored.{keeps, userStored, downStored}
+use Rattle.call_store.specs.Laws.{keeps-table, keeps-store, user-sound, down-sound}
 use Rattle.promise_demands.specs.Numbers.{among-more}
 
 unfoldable pub userNumbers : List ℕ
@@ -79,16 +81,22 @@ header-taken-number node l (H.Echo sequence) start end reply = refl
 header-taken-number node l (H.Packet teid) start end reply =
     packet-number (ownerOf userOffset (teid .0) l) (teid .0) (node .plan .user) start end reply
 
-unfoldable pub UserNumbers : Type 0
-UserNumbers = (node : Node) (t : List Session) (d reply : List ℕ) → keepsRules node t ≡ true → among (userTaken node t d reply .number) userNumbers ≡ true
-
-pub user-numbers : UserNumbers
-unfolding UserNumbers userTaken userReads userNumbers every
-user-numbers node t d reply e =
+user-number : (node : Node) (t : List Session) (d reply : List ℕ) → keepsRules node t ≡ true → among (userTaken node t d reply .number) userNumbers ≡ true
+unfolding userTaken userReads userNumbers every
+user-number node t d reply e =
     split (ltb (length reply) leastReply) (λ a. rw a)
     (λ a. split (eqb (userOf d .number) 0)
     (λ b. rw (a, e, b) (header-taken-number node t (userHeaderOf d) (userOf d .size) (length d) reply))
     (λ b. rw (a, e, b) (among-more (userOf d .number) userReads userNumbers refl (read-number d))))
+
+unfoldable pub UserNumbers : Type 0
+UserNumbers = (node : Node) (t : List Session) (w : List (List ℕ)) (d reply : List ℕ) → keeps node t w ≡ true
+    → among (userStored node t w d reply .number) userNumbers ≡ true
+
+pub user-numbers : UserNumbers
+unfolding UserNumbers
+user-numbers node t w d reply k =
+    rw (user-sound node t w (keeps-store node t w k) d reply) (user-number node t d reply (keeps-table node t w k))
 
 -- ---- take downlink packet
 to-number : (f : Owner) (t : List Session) (packet out : List ℕ) → among (downTo f t packet out .written .number) downNumbers ≡ true
@@ -96,11 +104,17 @@ unfolding downTo downOn downNumbers
 to-number (F.At place) t packet out = split (ltb (length out) (length packet + fixedSize)) (λ a. rw a) (λ a. rw a)
 to-number F.Nothing t packet out = refl
 
-unfoldable pub DownNumbers : Type 0
-DownNumbers = (node : Node) (t : List Session) (packet out : List ℕ) → keepsRules node t ≡ true
+down-number : (node : Node) (t : List Session) (packet out : List ℕ) → keepsRules node t ≡ true
     → among (downTaken node t packet out .written .number) downNumbers ≡ true
+unfolding downTaken downNumbers
+down-number node t packet out e =
+    split (wholePacket packet) (λ a. rw (e, a) (to-number (addresseeOf (node .plan .pool) (destinationOf packet) t) t packet out)) (λ a. rw (e, a))
+
+unfoldable pub DownNumbers : Type 0
+DownNumbers = (node : Node) (t : List Session) (w : List (List ℕ)) (packet out : List ℕ) → keeps node t w ≡ true
+    → among (downStored node t w packet out .written .number) downNumbers ≡ true
 
 pub down-numbers : DownNumbers
-unfolding DownNumbers downTaken downNumbers
-down-numbers node t packet out e =
-    split (wholePacket packet) (λ a. rw (e, a) (to-number (addresseeOf (node .plan .pool) (destinationOf packet) t) t packet out)) (λ a. rw (e, a))
+unfolding DownNumbers
+down-numbers node t w packet out k =
+    rw (down-sound node t w (keeps-store node t w k) packet out) (down-number node t packet out (keeps-table node t w k))

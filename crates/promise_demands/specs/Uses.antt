@@ -21,17 +21,19 @@ use Rattle.unit_session.specs.declared.Bounds.{Bounds}
 use Rattle.unit_session.specs.OwnRequest.{idle, awaits}
 use Rattle.unit_session.specs.Session.{isFree, isOn, hasId, waitsFor, recordOk, blankAt}
 use Rattle.unit_session.specs.Keep.{ok-blank, ok-usage}
-use Rattle.unit_table.specs.Rules.{liveOn, boundsOf, Rules, rules-to}
+use Rattle.unit_table.specs.Rules.{liveOn, boundsOf, Rules, rules-to, keepsRules}
 use Rattle.unit_table.specs.Change.{nobody, Less, rules-less}
 use Rattle.unit_table.specs.Own.{rested, freshNode, rules-fresh}
-use Rattle.call_own.specs.Outcome.{State}
-use Rattle.call_own.specs.Calls.{freshAnswer, freshState}
-use Rattle.promise_demands.specs.Run.{Kept, Start, fresh-plan}
+use Rattle.call_own.specs.Calls.{freshAnswer, freshHeld}
+use Rattle.call_store.specs.Stored.{State, freshState}
+use Rattle.call_store.specs.Laws.{keeps-both}
+use Rattle.call_store.specs.Kept.{fresh-stored-keeps}
+use Rattle.promise_demands.specs.Run.{Kept, Start, fresh-plan, kept-store}
 use Rattle.promise_demands.specs.Bounds.{start-rules}
 
 -- fresh, but for the uses of its records, which are free
 unfoldable pub freshUsed : Plan → List ℕ → State
-freshUsed p us = record { node = freshState p .node; table = map blankAt us }
+freshUsed p us = record { node = freshState p .node; table = map blankAt us; store = freshState p .store }
 
 -- a use is at most the last
 unfoldable pub isUse : ℕ → Bool
@@ -78,9 +80,15 @@ used-rules p us a n k =
     rules-less p (rested (p .interval) idle) 0 (replicate places nobody) (rules-fresh p a) (map blankAt us)
     (length-map us blankAt ∙ n ∙ sym (length-replicate places nobody)) (free-ok (boundsOf p) us k) (free-less us (replicate places nobody))
 
+used-table : (p : Plan) (us : List ℕ) → accepted p ≡ true → length us ≡ places → every isUse us ≡ true
+    → keepsRules (freshState p .node) (map blankAt us) ≡ true
+unfolding freshState freshHeld freshAnswer freshNode
+used-table p us a n k = rw a (rules-to (freshNode p) (map blankAt us) (used-rules p us a n k))
+
 used-kept : (p : Plan) (us : List ℕ) → accepted p ≡ true → length us ≡ places → every isUse us ≡ true → Kept (freshUsed p us)
-unfolding freshUsed freshState freshAnswer freshNode
-used-kept p us a n k = rw a (rules-to (freshNode p) (map blankAt us) (used-rules p us a n k))
+unfolding freshUsed
+used-kept p us a n k =
+    keeps-both (freshState p .node) (map blankAt us) (freshState p .store) (used-table p us a n k) (kept-store (freshState p) (fresh-stored-keeps p a))
 
 used-start : (p : Plan) (us : List ℕ) → accepted p ≡ true → length us ≡ places → every isUse us ≡ true → Start p (freshUsed p us)
 unfolding freshUsed
@@ -95,7 +103,7 @@ zeros-are zero = refl
 zeros-are (suc n) = rw (zeros-are n)
 
 pub any-uses-start : AnyUsesStart
-unfolding freshUsed freshState
+unfolding freshUsed freshState freshHeld
 any-uses-start = record {
   starts = λ p us a. (start-used p us, λ k. used-start p us a (k .0) (k .1));
   zeros = λ p. rw (zeros-are places);

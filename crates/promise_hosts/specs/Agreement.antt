@@ -6,6 +6,7 @@ use mathlib.Core.Path.{_≡_, sym, _∙_, ap}
 use Rattle.unit_session.specs.declared.Session.{Session}
 use Rattle.call_own.specs.declared.Answer.{Answer}
 use Rattle.call_own.specs.Outcome.{Outcome, outcome}
+use Rattle.call_store.specs.Stored.{Stored, stored}
 use Rattle.call_user.specs.declared.Handed.{Handed}
 use Rattle.call_user.specs.Parcel.{Parcel, parcel}
 use Rattle.call_down.specs.declared.Written.{Written}
@@ -29,6 +30,13 @@ pub record SameOutcome (r : Two) (l m : List Session) (x y : List ℕ) : Type 0 
   pub records : l ≡ m
   pub reply : x ≡ y
 
+-- the stores too
+pub record SameStored (r : Two) (l m : List Session) (v w : List (List ℕ)) (x y : List ℕ) : Type 0 where
+  pub answer : r .first ≡ r .second
+  pub records : l ≡ m
+  pub store : v ≡ w
+  pub reply : x ≡ y
+
 pub record SameHanded (r : Twins) (x y : List ℕ) : Type 0 where
   pub handed : r .first ≡ r .second
   pub reply : x ≡ y
@@ -40,6 +48,11 @@ pub record SameWritten (r : BothWritten) (x y : List ℕ) : Type 0 where
 -- where the records l and m and the reply buffers x and y are equal, what the call left of them is too, and the answers are
 unfoldable pub Agreed : List Session → List Session → List ℕ → List ℕ → Two → List Session → List Session → List ℕ → List ℕ → Type 0
 Agreed l m x y r l′ m′ x′ y′ = l ≡ m → x ≡ y → SameOutcome r l′ m′ x′ y′
+
+-- the same of a call that changes the store
+unfoldable pub AgreedStored : List Session → List Session → List (List ℕ) → List (List ℕ) → List ℕ → List ℕ → Two
+    → List Session → List Session → List (List ℕ) → List (List ℕ) → List ℕ → List ℕ → Type 0
+AgreedStored l m v w x y r l′ m′ v′ w′ x′ y′ = l ≡ m → v ≡ w → x ≡ y → SameStored r l′ m′ v′ w′ x′ y′
 
 unfoldable pub AgreedHanded : List ℕ → List ℕ → Twins → List ℕ → List ℕ → Type 0
 AgreedHanded x y r x′ y′ = x ≡ y → SameHanded r x′ y′
@@ -56,6 +69,19 @@ agrees f l m l′ m′ x y x′ y′ a b r e g h p q =
     let t : f l x ≡ f m y = rw (p, q) in
     let s : outcome a l′ x′ ≡ outcome b m′ y′ = e ∙ t ∙ sym g in
     record { answer = rw h (ap (λ (o : Outcome). o .answer) s); records = ap (λ (o : Outcome). o .table) s; reply = ap (λ (o : Outcome). o .reply) s }
+
+pub agrees-stored : (f : List Session → List (List ℕ) → List ℕ → Stored) (l m l′ m′ : List Session) (v w v′ w′ : List (List ℕ)) (x y x′ y′ : List ℕ) (a b : Answer) (r : Two)
+    → stored (outcome a l′ x′) v′ ≡ f l v x → stored (outcome b m′ y′) w′ ≡ f m w y → r ≡ two a b → AgreedStored l m v w x y r l′ m′ v′ w′ x′ y′
+unfolding two AgreedStored
+agrees-stored f l m l′ m′ v w v′ w′ x y x′ y′ a b r e g h p u q =
+    let t : f l v x ≡ f m w y = rw (p, u, q) in
+    let s : stored (outcome a l′ x′) v′ ≡ stored (outcome b m′ y′) w′ = e ∙ t ∙ sym g in
+    record {
+      answer = rw h (ap (λ (o : Stored). o .call .answer) s);
+      records = ap (λ (o : Stored). o .call .table) s;
+      store = ap (λ (o : Stored). o .store) s;
+      reply = ap (λ (o : Stored). o .call .reply) s;
+    }
 
 pub agrees-handed : (f : List ℕ → Parcel) (x y x′ y′ : List ℕ) (a b : Handed) (r : Twins)
     → parcel a x′ ≡ f x → parcel b y′ ≡ f y → r ≡ twins a b → AgreedHanded x y r x′ y′

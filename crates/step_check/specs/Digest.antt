@@ -122,7 +122,7 @@ goodIn d = unset keyBit d
 
 -- the place of a key's mark among 1,024
 unfoldable pub markOf : ℕ → ℕ
-markOf x = x % words * 2654435769 % words / 4194304
+markOf x = x % words * 1023530803 % words / 4194304
 
 -- it is in the low 32 bits of the digest
 pub mark-key : (d : ℕ) → markOf (keyIn d) ≡ markOf d

@@ -156,7 +156,7 @@ fn lacks(ds: &[u64], x: u64, from: usize) -> bool
 fn mark(x: u64) -> usize
     ensures { λ r. ⌜ r ≡ markOf x ⌝ }
 {
-    (x % Summary::WORDS * 2654435769 % Summary::WORDS / 4194304) as usize
+    (x % Summary::WORDS * 1023530803 % Summary::WORDS / 4194304) as usize
 }
 
 // Whether a digest's key is none of those from a place on; it is marked. It is looked for only where its mark was met before.

@@ -31,7 +31,8 @@ use Rattle.wire_requests.specs.declared.Create as C
 use Rattle.call_own.specs.declared.Span.{Span}
 use Rattle.call_own.specs.Outcome.{Outcome, outcome, leastReply, noPlaces, allPlaces, onePlace, twoPlaces}
 use Rattle.call_own.specs.Calls.{timed}
-use Rattle.call_control.specs.Echoes.{restartsBy, heardNode}
+use Rattle.call_control.specs.Echoes.{heardNode}
+use Rattle.call_control.specs.Control.{restartsIn}
 use Rattle.call_control.specs.Amends.{causeOctets}
 use Rattle.call_control.specs.Creates.{openingOf, acceptedOctets, noRoom, isRepeat}
 use Rattle.step_check.specs.Summary.{standsBy}
@@ -51,16 +52,7 @@ use Rattle.step_control.specs.declared.Verdict.{Verdict}
 use Rattle.step_control.specs.declared.Verdict.the-variants as Y
 use Rattle.unit_session.specs.Wide.{longWords}
 
--- ---- of what is asked: whether it says that the exchange restarted, and which record it is about
-unfoldable pub restartsIn : Asked → Node → Bool
-restartsIn (A.Silent number) node = false
-restartsIn A.Version node = false
-restartsIn (A.Echo recovery seq) node = restartsBy recovery node
-restartsIn (A.EchoReply recovery) node = restartsBy recovery node
-restartsIn (A.Create c seq) node = restartsBy (c .recovery) node
-restartsIn (A.Refused w to seq) node = false
-restartsIn (A.Session teid seq x) node = false
-
+-- ---- of what is asked: whether all are freed first, and which record it is about
 -- with a reply buffer that is short nothing is done, so that nobody is heard
 unfoldable pub restartsNow : ℕ → Asked → Node → Bool
 restartsNow room a node = pick (ltb room leastReply) false (restartsIn a node)

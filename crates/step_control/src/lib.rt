@@ -17,7 +17,8 @@ use wire_messages::MessageType;
 use wire_requests::Create;
 ghost use mathlib.Core.Path.{_≡_};
 ghost use Rattle.unit_table.specs.declared.Change.the-variants.{Free};
-ghost use Rattle.step_control.specs.Step.{restartsIn, restartsNow, targetOf, oldBy, basisBy, basisOf, repeatsAt, roomFor, lower, verdictOf, verdictIn, opensAt, concernedOf, takenWith, unmovedOn, fullOn, enteredOn, openOn, namedPlaces, namedOn, askedOn, takenOn, nodeAfter, freedCount, changedPlaces};
+ghost use Rattle.call_control.specs.Control.{restartsIn};
+ghost use Rattle.step_control.specs.Step.{restartsNow, targetOf, oldBy, basisBy, basisOf, repeatsAt, roomFor, lower, verdictOf, verdictIn, opensAt, concernedOf, takenWith, unmovedOn, fullOn, enteredOn, openOn, namedPlaces, namedOn, askedOn, takenOn, nodeAfter, freedCount, changedPlaces};
 
 // Which record is asked about: the one with a key of IMSI and EBI, or where the key is 0, which no session has, the one of a place; past the last
 // where there is none.

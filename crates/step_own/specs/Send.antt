@@ -40,6 +40,10 @@ nextDue room node v waits =
     (pick (eqb (node .echo .timer) 0) (Echo (takenAmong node waits))
     (pick (ltb (v .findings .due) places) (At (v .findings .due) (takenAmong node waits)) (Nothing nothingDue))))
 
+-- nobody where the store breaks its rules
+unfoldable pub dueWith : Bool → ℕ → Sending → Sending
+dueWith sound room p = pick sound p (pick (ltb room leastReply) (Nothing replyShort) (Nothing rulesBroken))
+
 -- ---- what is done with it
 unfoldable pub placeOf : Sending → ℕ
 placeOf (Nothing number) = places

@@ -11,7 +11,7 @@ use unit_tunnel::Unit;
 use wire_messages::MessageType;
 ghost use mathlib.Core.Path.{_≡_};
 ghost use Rattle.call_own.specs.Outcome.{back};
-ghost use Rattle.step_own.specs.Send.{takenAmong, awaitingIn, nextDue, placeOf, sentBy, echoAnswer, placeAnswer, sendAnswer};
+ghost use Rattle.step_own.specs.Send.{takenAmong, awaitingIn, nextDue, dueWith, placeOf, sentBy, echoAnswer, placeAnswer, sendAnswer};
 ghost use Rattle.step_own.specs.Step.{tickChange, tickCount, tickAnswer, closedBy, closeAnswer};
 
 // What is sent next: nothing, with the number that says why; or the echo; or the request of a place. The number is that of a first send.
@@ -125,6 +125,19 @@ pub fn next_due(room: usize, node: Node, checked: Checked, waits: [u64; Unit::PL
     }
     let number = taken_among(node, &waits);
     Sending::At { place, number }
+}
+
+// The same where it is known whether the store keeps its rules.
+pub fn due_with(sound: bool, room: usize, due: Sending) -> Sending
+    ensures { λ r. ⌜ r ≡ dueWith sound room due ⌝ }
+{
+    if sound {
+        return due;
+    }
+    if room < Answer::LEAST_REPLY {
+        return Sending::Nothing(Number::REPLY_SHORT);
+    }
+    Sending::Nothing(Number::RULES_BROKEN)
 }
 
 // The place whose record changes, or the number of places.

@@ -21,6 +21,7 @@ use Rattle.step_keys.specs.Survey.{idKey, weightOf, imsiPart}
 use Rattle.wire_requests.specs.declared.Create as C
 use Rattle.wire_requests.specs.Create.{CreateSound}
 use Rattle.call_own.specs.Outcome.{leastReply}
+use Rattle.call_control.specs.Control.{restartsIn}
 use Rattle.step_check.specs.Digest.{digestOf}
 use Rattle.step_check.specs.Summary.{standsBy}
 use Rattle.step_check.specs.Findings.{keyPlace, freeIn}
@@ -30,10 +31,9 @@ use Rattle.unit_tunnel.specs.declared.ControlTeid.{ControlTeid}
 use Rattle.call_asked.specs.declared.Concern.{Concern}
 use Rattle.call_asked.specs.declared.Asked.{Asked}
 use Rattle.call_asked.specs.declared.Asked.the-variants as A
-use Rattle.call_asked.specs.Asked.{askedOf}
-use Rattle.call_asked.specs.Sound.{AskedSound, asked-sound}
+use Rattle.call_asked.specs.Sound.{AskedSound}
 use Rattle.step_control.specs.declared.Basis.{Basis}
-use Rattle.step_control.specs.Step.{restartsIn, restartsNow, atPlace, targetOf, oldBy, basisBy, basisOf}
+use Rattle.step_control.specs.Step.{restartsNow, atPlace, targetOf, oldBy, basisBy, basisOf}
 use Rattle.step_control.specs.Places.{key-place, free-place}
 
 -- where a sound Create is asked for: the place of the session with its IMSI and EBI, the first free place, and the counts
@@ -168,7 +168,7 @@ module _ (node : Node) (l : List Session) (v : Checked) (w : Asked) (room : ℕ)
     known = known-is;
   }
 
-pub basis-sees : (node : Node) (l : List Session) (v : Checked) (d : List ℕ) (room : ℕ) → CheckTold node (targetOf (askedOf node d) .key) l v
-    → Sees node l (askedOf node d) room (basisOf v node (askedOf node d) room)
+pub basis-sees : (node : Node) (l : List Session) (v : Checked) (w : Asked) (room : ℕ) → AskedSound (node .plan) w → CheckTold node (targetOf w .key) l v
+    → Sees node l w room (basisOf v node w room)
 unfolding basisOf
-basis-sees node l v d room told = sees-by node l v (askedOf node d) room told (asked-sound node d)
+basis-sees node l v w room sound told = sees-by node l v w room told sound

@@ -1,4 +1,4 @@
--- The control call on two records equals its definition on the whole table, for any datagram, any table and any reply buffer.
+-- The control call on two records equals its definition on the whole table, whatever is asked for, for any table and any reply buffer.
 -- Assumes nothing.
 use Prim.Native.Nat.{ℕ}
 use mathlib.Core.Bool.{Bool, true, false, _&&_}
@@ -27,17 +27,16 @@ use Rattle.wire_requests.specs.declared.Create as C
 use Rattle.call_asked.specs.declared.Concern.{Concern}
 use Rattle.call_asked.specs.declared.Asked.{Asked}
 use Rattle.call_asked.specs.declared.Asked.the-variants as A
-use Rattle.call_asked.specs.Asked.{askedOf}
 use Rattle.call_own.specs.declared.Span.{Span}
 use Rattle.call_own.specs.Outcome.{Outcome, outcome, noPlaces, allPlaces, onOwner, leastReply, noReply}
 use Rattle.call_control.specs.Echoes.{restartsBy, heardNode, heardPlaces, heard-either, heard-same as heard-still, echoTaken, echoEnded, echoReplyTaken}
 use Rattle.call_control.specs.Amends.{causeTaken, sessionOn}
 use Rattle.call_control.specs.Creates.{heardCreate, createPlaces, createTaken}
-use Rattle.call_control.specs.Control.{askedTaken, controlTaken}
+use Rattle.call_control.specs.Control.{restartsIn, askedTaken, controlAsked}
 use Rattle.step_session.specs.Amended.{AmendedWith, doneWith, ofNumber}
 use Rattle.step_control.specs.declared.Basis.{Basis}
 use Rattle.step_control.specs.declared.Concerned.{Concerned}
-use Rattle.step_control.specs.Step.{restartsIn, restartsNow, verdictOf, verdictIn, opensAt, concernedOf, concernedWith, concernedIn, TakenWith, takenWith, unmovedOn, namedPlaces, namedWith, namedOn, openOn, askedOn, takenOn, taken-short, taken-broken, taken-kept, restedNode, nodeAfter, concernedPut, changedPlaces, placedConcerned}
+use Rattle.step_control.specs.Step.{restartsNow, verdictOf, verdictIn, opensAt, concernedOf, concernedWith, concernedIn, TakenWith, takenWith, unmovedOn, namedPlaces, namedWith, namedOn, openOn, askedOn, takenOn, taken-short, taken-broken, taken-kept, restedNode, nodeAfter, concernedPut, changedPlaces, placedConcerned}
 use Rattle.step_whole.specs.Amended.{placedOne, owner-same}
 use Rattle.step_whole.specs.Create.{stays, settled-same}
 use Rattle.step_whole.specs.Restart.{put-none, put-all, placed-none, open-ended, restart-same}
@@ -202,15 +201,15 @@ module _ (node : Node) (l : List Session) (reply : List ℕ) (g : Basis) where
     asked-same (A.Refused w to seq) sees = still-same (A.Refused w to seq) _ _ _ (none (A.Refused w to seq) sees refl)
     asked-same (A.Session teid seq x) sees = session-same teid seq x sees
 
--- ---- take control datagram
+-- ---- whatever is asked for
 unfoldable pub InPlace : Type 0
-InPlace = (node : Node) (l : List Session) (d reply : List ℕ) (g : Basis) → Sees node l (askedOf node d) (length reply) g
-    → controlTaken node l d reply ≡ placedConcerned node (concernedIn g node l (askedOf node d)) l (takenOn node (askedOf node d) (concernedIn g node l (askedOf node d)) reply)
+InPlace = (node : Node) (l : List Session) (w : Asked) (reply : List ℕ) (g : Basis) → Sees node l w (length reply) g
+    → controlAsked node l w reply ≡ placedConcerned node (concernedIn g node l w) l (takenOn node w (concernedIn g node l w) reply)
 
 -- where the reply buffer is short or the rules are broken, nothing moves
 pub control-same : InPlace
-unfolding InPlace controlTaken noReply restartsNow
-control-same node l d reply g sees =
+unfolding InPlace noReply restartsNow
+control-same node l w reply g sees =
     split (ltb (length reply) leastReply)
     (λ s. rw (s, ← taken-short node w p reply (ltb-true (length reply) leastReply s)) (still-same node l reply g w 1 0 reply (sees .all ∙ off-short s)))
     (λ s. let room = ltb-false (length reply) leastReply s in
@@ -218,11 +217,8 @@ control-same node l d reply g sees =
     (λ k. rw (s, k, ← taken-kept node w p reply room (kept-at node l reply g w ∙ sees .kept ∙ k)) (asked-same node l reply g k s w sees))
     (λ k. rw (s, k, ← taken-broken node w p reply room (kept-at node l reply g w ∙ sees .kept ∙ k)) (still-same node l reply g w 2 0 reply (sees .all ∙ rw k))))
   where
-    w : Asked
-    w = askedOf node d
-
     p : Concerned
-    p = concernedIn g node l (askedOf node d)
+    p = concernedIn g node l w
 
-    off-short : ltb (length reply) leastReply ≡ true → (keepsRules node l && restartsNow (length reply) (askedOf node d) node) ≡ false
+    off-short : ltb (length reply) leastReply ≡ true → (keepsRules node l && restartsNow (length reply) w node) ≡ false
     off-short s = rw s (split (keepsRules node l) (λ k. rw k) (λ k. rw k))

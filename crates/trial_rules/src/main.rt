@@ -1,5 +1,6 @@
-// Hand-made tables put to the table rules (number 2): a line of standard input is a case, and the verdict on it is printed as the
-// line's number and `kept` or `broken`. What is to be printed, the file `stdout`, was written from document 01, case by case.
+// Hand-made tables, each with a store of kept replies, put to the table rules (number 2): a line of standard input is a case, and the verdict
+// on it is printed as the line's number and `kept` or `broken`. What is to be printed, the file `stdout`, was written from documents 01 and
+// 02, case by case.
 //
 // A line has decimal numbers parted by single spaces, in triples `place field value`: each triple is an edit of one table, the base
 // table of `base`, in the order in which they stand; P is the number of places. What follows a `#` is a comment and says in words what the case is.
@@ -11,10 +12,15 @@
 //   1001 ..   an access point's slot: 0 name size, 1 guarantee, 2 ceiling, 3 first octet of the name, 4 its last octet
 //   1005      so many places as `field` says, from place 10 on, are live on access point `value`, with an IMSI each
 //   1006      no place was ever used
+//   1007      so many rows of the store are lent as `value` says, 33 at most
+//   1008      so many rows as `field` says, from the first on, are Modify's with life `value`, each with a sequence number of its own
+//   2000 ..   a row of the store: `field` is a place in it, `value` the octet there. 0 is the type, 1 to 3 the sequence number, 4 to 7 the
+//             header TEID, 8 the life, 9 the number, 10 the size, and the reply is from 11 on
 //
 // The base keeps every rule. Two access points: g 1 and c 3, g 1 and c P; T 3, N 2, E 60; the echo is due in 60 ticks. Place 0 is
 // live on access point 0; place 1 is closing on access point 1 and was sent once, with number 5; place 2 is closing on it and was not
-// sent; place 3 is free in use 7; no other place was ever used.
+// sent; place 3 is free in use 7; no other place was ever used. The store's first row is the reply to a Delete, its second that to a Modify,
+// of one sequence number and header TEID; the others are unused.
 use base_octets::Number;
 use call_own::Answer;
 use unit_plan::AccessPoint;
@@ -22,18 +28,34 @@ use unit_plan::Plan;
 use unit_session::Opening;
 use unit_session::OwnRequest;
 use unit_session::Session;
+use unit_store::Kept;
 use unit_table::Node;
 use unit_tunnel::Unit;
+use wire_messages::MessageType;
 
 // The records, by value.
 struct Table {
     recs: [Session; Unit::PLACES],
 }
 
+// A store has as many rows; one more can be lent.
+const MOST_ROWS: usize = Kept::ROWS + 1;
+
+struct Row {
+    octets: [u8; Kept::OCTETS],
+}
+
+// The rows of the store, by value, and how many of them are lent.
+struct Store {
+    rows: [Row; MOST_ROWS],
+    count: usize,
+}
+
 // A table with what goes with it.
 struct Case {
     node: Node,
     table: Table,
+    store: Store,
 }
 
 // The number that is being read, and those of its triple before it.
@@ -139,11 +161,35 @@ fn base_table() -> Table {
     t
 }
 
+// A reply of 18 octets that was just given.
+fn kept_for(kind: u8, sequence: u32, number: u8) -> Row {
+    let head = unit_store::head_of(kind, sequence);
+    let reply = [0; 18];
+    let octets = unit_store::row_of(head, 7, number, 18, &reply);
+    Row { octets }
+}
+
+fn base_store() -> Store {
+    let unused = Row {
+        octets: [0; Kept::OCTETS],
+    };
+    let mut rows = [unused; MOST_ROWS];
+    let a = kept_for(MessageType::DELETE, 256, 0);
+    let b = kept_for(MessageType::MODIFY, 256, 64);
+    rows[0] = a;
+    rows[1] = b;
+    Store {
+        rows,
+        count: Kept::ROWS,
+    }
+}
+
 fn base() -> Case {
     let plan = base_plan();
     let node = Node::fresh(plan);
     let table = base_table();
-    Case { node, table }
+    let store = base_store();
+    Case { node, table, store }
 }
 
 // ---- edits
@@ -265,12 +311,62 @@ fn filled(mut t: Table, end: u64, point: u8) -> Table {
     t
 }
 
-// What a case names beside places: the node, the slots of access points, many places at once.
+fn with_octet_at(mut r: Row, at: usize, v: u8) -> Row {
+    if at < Kept::OCTETS {
+        r.octets[at] = v;
+    }
+    r
+}
+
+fn with_row(mut s: Store, row: usize, at: usize, v: u8) -> Store {
+    if row < MOST_ROWS {
+        let r = s.rows[row];
+        let n = with_octet_at(r, at, v);
+        s.rows[row] = n;
+    }
+    s
+}
+
+// A row below `end` kept, with its place as its sequence number.
+fn kept_at(mut s: Store, row: usize, end: u64, life: u8) -> Store {
+    if row < MOST_ROWS {
+        if (row as u64) < end {
+            let r = kept_for(MessageType::MODIFY, row as u32, 0);
+            let n = with_octet_at(r, 8, life);
+            s.rows[row] = n;
+        }
+    }
+    s
+}
+
+// The rows below `end` kept.
+fn all_kept(mut s: Store, end: u64, life: u8) -> Store {
+    let mut i: usize = 0;
+    while i < MOST_ROWS {
+        s = kept_at(s, i, end, life);
+        i += 1;
+    }
+    s
+}
+
+fn with_rows(mut s: Store, count: u64) -> Store {
+    s.count = count as usize;
+    s
+}
+
+// What a case names beside places: the node, the slots of access points, many places at once, many rows.
 const BESIDE: u64 = 1000;
+
+// The rows of the store.
+const ROWS: u64 = 2000;
 
 fn edited(mut c: Case, place: u64, field: u64, v: u64) -> Case {
     if place < BESIDE {
         c.table = with_record(c.table, place as usize, field, v);
+        return c;
+    }
+    if ROWS <= place {
+        c.store = with_row(c.store, (place - ROWS) as usize, field as usize, low8(v));
         return c;
     }
     let past = place - BESIDE;
@@ -278,6 +374,8 @@ fn edited(mut c: Case, place: u64, field: u64, v: u64) -> Case {
         0 => c.node = with_node(c.node, field, v),
         5 => c.table = filled(c.table, field % BESIDE + 10, low8(v)),
         6 => c.table = Table::fresh(),
+        7 => c.store = with_rows(c.store, v),
+        8 => c.store = all_kept(c.store, field, low8(v)),
         _ => {
             let mut n = c.node;
             n.plan = with_point(n.plan, (past - 1) as usize, field, v);
@@ -355,16 +453,39 @@ fn records_in(table: Table) -> [Session; Unit::PLACES] {
     table.recs
 }
 
-// What a tick answers: the records are lent to the firmware's call.
-fn ticked(node: Node, table: Table) -> Answer {
+// What a tick answers: the records and the store are lent to the firmware's call.
+fn ticked(node: Node, table: Table, store: &mut [[u8; Kept::OCTETS]]) -> Answer {
     let mut recs = records_in(table);
-    lent_own::grugavorn_tick(node, &mut recs)
+    lent_own::grugavorn_tick(node, &mut recs, store)
+}
+
+// The rows as they are lent.
+fn rows_in(s: Store) -> [[u8; Kept::OCTETS]; MOST_ROWS] {
+    let mut rows = [[0; Kept::OCTETS]; MOST_ROWS];
+    let mut i: usize = 0;
+    while i < MOST_ROWS {
+        let r = s.rows[i];
+        let octets = r.octets;
+        rows[i] = octets;
+        i += 1;
+    }
+    rows
+}
+
+// What a tick answers on a case, with so many rows of its store.
+fn ticked_case(c: Case) -> Answer {
+    let s = c.store;
+    let n = s.count;
+    let mut rows = rows_in(s);
+    if n <= MOST_ROWS {
+        return ticked(c.node, c.table, &mut rows[0..n]);
+    }
+    ticked(c.node, c.table, &mut rows)
 }
 
 // The line is whole: its verdict is printed, and the next begins with the base table.
 fn line_ended(r: Reading) -> Reading {
-    let c = r.case;
-    let a = ticked(c.node, c.table);
+    let a = ticked_case(r.case);
     print_verdict(r.line, a.number != Number::RULES_BROKEN);
     started(std::num::wrapping_add_u64(r.line, 1))
 }

@@ -20,7 +20,8 @@ use Rattle.call_down.proofs.Written.Laws as Written-l
 use Rattle.bench_run.specs.Run.{down-run, downRun, downShown, gpduMost}
 use Rattle.bench_text.specs.Lines.{datagramMost}
 use Rattle.bench_unit.specs.State.{ran, shown}
-use Rattle.call_down.specs.Down.{downTaken, output}
+use Rattle.call_down.specs.Down.{output}
+use Rattle.call_store.specs.Stored.{downStored}
 use lib.ListN.{take}
 use Rattle.bench_unit.proofs.front as c-front′
 use Rattle.bench_unit.proofs.front.Symbol as c-front-def
@@ -45,7 +46,7 @@ use Rattle.bench_run.proofs.run_down.Code as code
 use Rattle.bench_run.proofs.run_down.Code.Mir as mir
 
 abbrev stayed : Stays (entry′.ended .signature .params) (entry′.ended .kept)
-stayed = (stay-dropped (plain (λ _. Bench-t.the-row)) yes, (gave-slice (0 ∷ []) tt (plain (λ _. Session-t.the-row)), (stay-dropped (shrSliceOf (1 ∷ []) tt (plain (λ _. u8))) yes, (stay-dropped (plain (λ _. usize)) yes, (gave-slice (2 ∷ []) tt (plain (λ _. u8)), tt)))))
+stayed = (stay-dropped (plain (λ _. Bench-t.the-row)) yes, (gave-slice (0 ∷ []) tt (plain (λ _. Session-t.the-row)), (stay-dropped (shrSliceOf (1 ∷ []) tt (plain (λ _. (Array u8 139)))) yes, (stay-dropped (shrSliceOf (2 ∷ []) tt (plain (λ _. u8))) yes, (stay-dropped (plain (λ _. usize)) yes, (gave-slice (3 ∷ []) tt (plain (λ _. u8)), tt))))))
 
 module _ {M : Type 1} (𝓤 : URA M) (H : Heap 𝓤) (A : Atoms 𝓤) (mem : Memory → SProp 𝓤) (run : Routine → Fun 𝓤) where
   abbrev c-front : Contract 𝓤
@@ -60,7 +61,7 @@ module _ {M : Type 1} (𝓤 : URA M) (H : Heap 𝓤) (A : Atoms 𝓤) (mem : Mem
   abbrev c-show-down : Contract 𝓤
   c-show-down = tripleOf 𝓤 H A c-show-down′.signature (c-show-down′.spec 𝓤 H A mem run)
 
-module _ {M : Type 1} (𝓤 : URA M) (H : Heap 𝓤) (A : Atoms 𝓤) (W : Given 𝓤 H A) (mem : Memory → SProp 𝓤) (run : Routine → Fun 𝓤) (κ₀ κ₁ κ₂ : Lft) (q₀ q₁ q₂ : Share) (b : Bench) (b-recs o-recs : ℕ) (γ-recs : GName) (ys-recs : List Session) (octets : (RefT (List ℕ))) (size : ℕ) (b-out o-out : ℕ) (γ-out : GName) (ys-out : List ℕ) where
+module _ {M : Type 1} (𝓤 : URA M) (H : Heap 𝓤) (A : Atoms 𝓤) (W : Given 𝓤 H A) (mem : Memory → SProp 𝓤) (run : Routine → Fun 𝓤) (κ₀ κ₁ κ₂ κ₃ : Lft) (q₀ q₁ q₂ q₃ : Share) (b : Bench) (b-recs o-recs : ℕ) (γ-recs : GName) (ys-recs : List Session) (store : (RefT (List (List ℕ)))) (octets : (RefT (List ℕ))) (size : ℕ) (b-out o-out : ℕ) (γ-out : GName) (ys-out : List ℕ) where
   abbrev recs-at : GName → List Session → RefT (List Session)
   recs-at δ l = record { ptr = (b-recs, o-recs); name = δ; now = l }
 
@@ -82,11 +83,17 @@ module _ {M : Type 1} (𝓤 : URA M) (H : Heap 𝓤) (A : Atoms 𝓤) (W : Given
   abbrev Own-recs : Fml
   Own-recs = (MutSlice (named 0) κ₀ Session-t.the-row) .own recs (v-recs ∷ [])
 
+  abbrev v-store : Val
+  v-store = sliceVal (store .ptr) (length (store .now))
+
+  abbrev Own-store : Fml
+  Own-store = (ShrSlice (named 1) κ₁ (Array u8 139)) .own store (v-store ∷ [])
+
   abbrev v-octets : Val
   v-octets = sliceVal (octets .ptr) (length (octets .now))
 
   abbrev Own-octets : Fml
-  Own-octets = (ShrSlice (named 1) κ₁ u8) .own octets (v-octets ∷ [])
+  Own-octets = (ShrSlice (named 2) κ₂ u8) .own octets (v-octets ∷ [])
 
   abbrev v-size : Val
   v-size = vint w64 size
@@ -95,176 +102,179 @@ module _ {M : Type 1} (𝓤 : URA M) (H : Heap 𝓤) (A : Atoms 𝓤) (W : Given
   v-out = sliceVal (out .ptr) (length (out .now))
 
   abbrev Own-out : Fml
-  Own-out = (MutSlice (named 2) κ₂ u8) .own out (v-out ∷ [])
+  Own-out = (MutSlice (named 3) κ₃ u8) .own out (v-out ∷ [])
 
   abbrev Arg : Type 0
-  Arg = Bench × ((RefT (List Session)) × ((RefT (List ℕ)) × (ℕ × ((RefT (List ℕ)) × Unit {0}))))
+  Arg = Bench × ((RefT (List Session)) × ((RefT (List (List ℕ))) × ((RefT (List ℕ)) × (ℕ × ((RefT (List ℕ)) × Unit {0})))))
 
   abbrev a : Arg
-  a = (b, (recs, (octets, (size, (out, tt)))))
+  a = (b, (recs, (store, (octets, (size, (out, tt))))))
 
-  abbrev at : Vals entry′.signature (κ₀, (κ₁, (κ₂, tt)))
-  at = (v-b ∷ [], (v-recs ∷ [], (v-octets ∷ [], (v-size ∷ [], (v-out ∷ [], tt)))))
+  abbrev at : Vals entry′.signature (κ₀, (κ₁, (κ₂, (κ₃, tt))))
+  at = (v-b ∷ [], (v-recs ∷ [], (v-store ∷ [], (v-octets ∷ [], (v-size ∷ [], (v-out ∷ [], tt))))))
 
   abbrev bound : walkOf 𝓤 H A entry′.ended stayed (entry′.clauses 𝓤 H A mem run) .Ghost
-  bound = (((κ₀, (κ₁, (κ₂, tt))), (q₀, (q₁, (q₂, tt))), tt, a, at), tt)
+  bound = (((κ₀, (κ₁, (κ₂, (κ₃, tt)))), (q₀, (q₁, (q₂, (q₃, tt)))), tt, a, at), tt)
 
   abbrev Post : Val → SProp 𝓤
   Post = walkOf 𝓤 H A entry′.ended stayed (entry′.clauses 𝓤 H A mem run) .post bound
 
   abbrev Toks : Item 𝓤
-  Toks = ‵ (flft κ₀ q₀) ⊛ ‵ (flft κ₁ q₁) ⊛ ‵ (flft κ₂ q₂) ⊛ ‵ ftrue
+  Toks = ‵ (flft κ₀ q₀) ⊛ ‵ (flft κ₁ q₁) ⊛ ‵ (flft κ₂ q₂) ⊛ ‵ (flft κ₃ q₃) ⊛ ‵ ftrue
 
-  abbrev En : (l₀ l₁ l₂ l₃ l₄ l₅ l₆ l₇ l₈ l₉ l₁₀ l₁₁ l₁₂ l₁₃ l₁₄ l₁₅ l₁₆ l₁₇ : ℕ) → Env 𝓤 H
-  En l₀ l₁ l₂ l₃ l₄ l₅ l₆ l₇ l₈ l₉ l₁₀ l₁₁ l₁₂ l₁₃ l₁₄ l₁₅ l₁₆ l₁₇ = (Bench-l.mir, l₀) ∷ (Bench-l.mir, l₁) ∷ ((sliceTy (tyRef (named 0) mut (pointee (Session-t.the-row .written)))), l₂) ∷ ((sliceTy (tyRef (named 1) imm (pointee (u8 .written)))), l₃) ∷ ((tyInt w64), l₄) ∷ ((sliceTy (tyRef (named 2) mut (pointee (u8 .written)))), l₅) ∷ ((sliceTy (tyRef erased imm (pointee (u8 .written)))), l₆) ∷ ((tyArray (tyInt w8) 2056), l₇) ∷ (Node-l.mir, l₈) ∷ (Written-l.mir, l₉) ∷ ((tyRef erased imm (pointee (Session-t.the-row .written))), l₁₀) ∷ ((sliceTy (tyRef erased imm (pointee (Session-t.the-row .written)))), l₁₁) ∷ ((tyRef erased mut (pointee ((Array u8 2056) .written))), l₁₂) ∷ ((sliceTy (tyRef erased mut (pointee (u8 .written)))), l₁₃) ∷ ((tyRef erased imm (pointee ((Array u8 2056) .written))), l₁₄) ∷ ((sliceTy (tyRef erased imm (pointee (u8 .written)))), l₁₅) ∷ ((tyRef erased mut (pointee (u8 .written))), l₁₆) ∷ ((sliceTy (tyRef erased mut (pointee (u8 .written)))), l₁₇) ∷ []
+  abbrev En : (l₀ l₁ l₂ l₃ l₄ l₅ l₆ l₇ l₈ l₉ l₁₀ l₁₁ l₁₂ l₁₃ l₁₄ l₁₅ l₁₆ l₁₇ l₁₈ : ℕ) → Env 𝓤 H
+  En l₀ l₁ l₂ l₃ l₄ l₅ l₆ l₇ l₈ l₉ l₁₀ l₁₁ l₁₂ l₁₃ l₁₄ l₁₅ l₁₆ l₁₇ l₁₈ = (Bench-l.mir, l₀) ∷ (Bench-l.mir, l₁) ∷ ((sliceTy (tyRef (named 0) mut (pointee (Session-t.the-row .written)))), l₂) ∷ ((sliceTy (tyRef (named 1) imm (pointee ((Array u8 139) .written)))), l₃) ∷ ((sliceTy (tyRef (named 2) imm (pointee (u8 .written)))), l₄) ∷ ((tyInt w64), l₅) ∷ ((sliceTy (tyRef (named 3) mut (pointee (u8 .written)))), l₆) ∷ ((sliceTy (tyRef erased imm (pointee (u8 .written)))), l₇) ∷ ((tyArray (tyInt w8) 2056), l₈) ∷ (Node-l.mir, l₉) ∷ (Written-l.mir, l₁₀) ∷ ((tyRef erased imm (pointee (Session-t.the-row .written))), l₁₁) ∷ ((sliceTy (tyRef erased imm (pointee (Session-t.the-row .written)))), l₁₂) ∷ ((tyRef erased mut (pointee ((Array u8 2056) .written))), l₁₃) ∷ ((sliceTy (tyRef erased mut (pointee (u8 .written)))), l₁₄) ∷ ((tyRef erased imm (pointee ((Array u8 2056) .written))), l₁₅) ∷ ((sliceTy (tyRef erased imm (pointee (u8 .written)))), l₁₆) ∷ ((tyRef erased mut (pointee (u8 .written))), l₁₇) ∷ ((sliceTy (tyRef erased mut (pointee (u8 .written)))), l₁₈) ∷ []
 
   -- what the contract says of the answer and of the last values
   abbrev Said : Bench → List Session → List ℕ → Type 0
-  Said r w-recs w-out = ran r w-recs w-out ≡ downRun (take size (octets .now)) b (recs .now) (out .now)
+  Said r w-recs w-out = ran r w-recs (store .now) w-out ≡ downRun (take size (octets .now)) b (recs .now) (store .now) (out .now)
 
   exits : (r : Bench) (w : Val) (w-recs : List Session) (w-out : List ℕ) → Said r w-recs w-out → length w-recs ≡ length (recs .now) → length w-out ≡ length (out .now)
       → ent 𝓤 (⋆ 𝓤 H A (Toks ∷ ‵ (finally Session-t.the-row (recs .name) w-recs) ∷ ‵ (finally u8 (out .name) w-out) ∷ ‵ (Bench-t.the-row .own r (w ∷ [])) ∷ [])) (Post w)
   unfolding gpduMost datagramMost
   exits r w w-recs w-out e l-recs l-out =
       qed W (Toks ∷ ‵ (finally Session-t.the-row (recs .name) w-recs) ∷ ‵ (finally u8 (out .name) w-out) ∷ ‵ (Bench-t.the-row .own r (w ∷ [])) ∷ []) ∵
-      suffices ! _ (ends-at 𝓤 H A entry′.ended stayed (entry′.clauses 𝓤 H A mem run) W bound w r (tt, (w-recs, (tt, (tt, (w-out, tt))))) (tt, (l-recs, (tt, (tt, (l-out, tt)))))) $ says ! e $ frame ! $
-      nothing ! $ move ! (2 ∷ 0 ∷ []) $ fjoin ! $ nothing ! $ fjoin ! $ nothing ! $ fjoin ! $ move ! (1 ∷ 0 ∷ []) $ fjoin ! $ nothing ! $ fjoin ! $ done !
+      suffices ! _ (ends-at 𝓤 H A entry′.ended stayed (entry′.clauses 𝓤 H A mem run) W bound w r (tt, (w-recs, (tt, (tt, (tt, (w-out, tt)))))) (tt, (l-recs, (tt, (tt, (tt, (l-out, tt))))))) $ says ! e $ frame ! $
+      nothing ! $ move ! (2 ∷ 0 ∷ []) $ fjoin ! $ nothing ! $ fjoin ! $ nothing ! $ fjoin ! $ nothing ! $ fjoin ! $ move ! (1 ∷ 0 ∷ []) $ fjoin ! $ nothing ! $ fjoin ! $ done !
 
   module _ (C : Calls 𝓤 H) (Λ : Loops 𝓤 H) (fm : FmC 𝓤 H (W .laws) C) (known-front : Triple 𝓤 (C #bench-unit·front) (c-front 𝓤 H A mem run)) (known-node-of : Triple 𝓤 (C #bench-unit·node-of) (c-node-of 𝓤 H A mem run)) (known-grugavorn-down : Triple 𝓤 (C #lent-down·grugavorn-down) (c-grugavorn-down 𝓤 H A mem run)) (known-show-down : Triple 𝓤 (C #bench-run·show-down) (c-show-down 𝓤 H A mem run)) where
-    module _ (is-b : Is Bench-t.the-row b (v-b ∷ [])) (room-recs : Room Session-t.the-row (length (recs .now))) (room-octets : Room u8 (length (octets .now))) (is-size : Is usize size (v-size ∷ [])) (room-out : Room u8 (length (out .now))) (l₀ l₁ l₂ l₃ l₄ l₅ l₆ l₇ l₈ l₉ l₁₀ l₁₁ l₁₂ l₁₃ l₁₄ l₁₅ l₁₆ l₁₇ : ℕ) where
-      part-9 : (w-front : Val) → (r-front : (RefT (List ℕ))) → (e-front : now r-front ≡ take size (octets .now)) → (is-front : Is (ShrSlice (named 1) κ₁ u8) r-front (w-front ∷ [])) → (w-node-of : Val) → (r-node-of : Node) → (e-node-of : r-node-of ≡ b .node) → (is-node-of : Is Node-t.the-row r-node-of (w-node-of ∷ [])) → (w-grugavorn-down : Val) → (r-grugavorn-down : Written) → (z-grugavorn-down : (Unit {0}) × ((Unit {0}) × ((Unit {0}) × ((List ℕ) × Unit {0})))) → (e-grugavorn-down : output r-grugavorn-down (z-grugavorn-down .1 .1 .1 .0) ≡ downTaken r-node-of (ys-recs) (r-front .now) ((replicate {A = ℕ} 2056 0))) → (is-grugavorn-down : Is Written-t.the-row r-grugavorn-down (w-grugavorn-down ∷ [])) → (len-grugavorn-down-out : length (z-grugavorn-down .1 .1 .1 .0) ≡ length ((replicate {A = ℕ} 2056 0))) → (is-grugavorn-down-out-back : Is (Array u8 2056) (z-grugavorn-down .1 .1 .1 .0) (array-vals (uint-vals w8) (z-grugavorn-down .1 .1 .1 .0))) → Sq W (‵ (froom (sliceTy (tyRef erased mut (pointee (u8 .written)))) l₁₇ 0) ∷ ‵ (fdies (sliceTy (tyRef erased mut (pointee (u8 .written)))) l₁₇) ∷ ‵ (froom (tyRef erased mut (pointee (u8 .written))) l₁₆ 0) ∷ ‵ (fdies (tyRef erased mut (pointee (u8 .written))) l₁₆) ∷ ‵ (froom (sliceTy (tyRef erased imm (pointee (u8 .written)))) l₁₅ 0) ∷ ‵ (fdies (sliceTy (tyRef erased imm (pointee (u8 .written)))) l₁₅) ∷ ‵ (froom (tyRef erased imm (pointee ((Array u8 2056) .written))) l₁₄ 0) ∷ ‵ (fdies (tyRef erased imm (pointee ((Array u8 2056) .written))) l₁₄) ∷ ‵ (fat fullShare (sliceTy (tyRef erased mut (pointee (u8 .written)))) l₁₃ 0 (sliceVal (l₇, 0) 2056)) ∷ ‵ (fdies (sliceTy (tyRef erased mut (pointee (u8 .written)))) l₁₃) ∷ ‵ (froom (tyRef erased mut (pointee ((Array u8 2056) .written))) l₁₂ 0) ∷ ‵ (fdies (tyRef erased mut (pointee ((Array u8 2056) .written))) l₁₂) ∷ ‵ (fat fullShare (sliceTy (tyRef erased imm (pointee (Session-t.the-row .written)))) l₁₁ 0 v-recs) ∷ ‵ (fdies (sliceTy (tyRef erased imm (pointee (Session-t.the-row .written)))) l₁₁) ∷ ‵ (froom (tyRef erased imm (pointee (Session-t.the-row .written))) l₁₀ 0) ∷ ‵ (fdies (tyRef erased imm (pointee (Session-t.the-row .written))) l₁₀) ∷ ‵ (fat fullShare Written-l.mir l₉ 0 w-grugavorn-down) ∷ ‵ (fdies Written-l.mir l₉) ∷ ‵ (fat fullShare Node-l.mir l₈ 0 w-node-of) ∷ ‵ (fdies Node-l.mir l₈) ∷ ‵ (fat fullShare (tyArray (tyInt w8) 2056) l₇ 0 (only (array-vals (uint-vals w8) (z-grugavorn-down .1 .1 .1 .0)))) ∷ ‵ (fdies (tyArray (tyInt w8) 2056) l₇) ∷ ‵ (fat fullShare (sliceTy (tyRef erased imm (pointee (u8 .written)))) l₆ 0 w-front) ∷ ‵ (fdies (sliceTy (tyRef erased imm (pointee (u8 .written)))) l₆) ∷ ‵ (fat fullShare (sliceTy (tyRef (named 2) mut (pointee (u8 .written)))) l₅ 0 v-out) ∷ ‵ (fdies (sliceTy (tyRef (named 2) mut (pointee (u8 .written)))) l₅) ∷ ‵ (fat fullShare (tyInt w64) l₄ 0 v-size) ∷ ‵ (fdies (tyInt w64) l₄) ∷ ‵ (fat fullShare (sliceTy (tyRef (named 1) imm (pointee (u8 .written)))) l₃ 0 v-octets) ∷ ‵ (fdies (sliceTy (tyRef (named 1) imm (pointee (u8 .written)))) l₃) ∷ ‵ (fat fullShare (sliceTy (tyRef (named 0) mut (pointee (Session-t.the-row .written)))) l₂ 0 v-recs) ∷ ‵ (fdies (sliceTy (tyRef (named 0) mut (pointee (Session-t.the-row .written)))) l₂) ∷ ‵ (fat fullShare Bench-l.mir l₁ 0 v-b) ∷ ‵ (fdies Bench-l.mir l₁) ∷ ‵ (froom Bench-l.mir l₀ 0) ∷ ‵ (fdies Bench-l.mir l₀) ∷ ‵ Own-octets ∷ ‵ Own-out ∷ ‵ ((ShrSlice (named 1) κ₁ u8) .own r-front (w-front ∷ [])) ∷ ‵ Own-recs ∷ ‵ (flft κ₀ q₀) ∷ ‵ (flft κ₁ q₁) ∷ ‵ (flft κ₂ q₂) ∷ []) (runs C Λ (En l₀ l₁ l₂ l₃ l₄ l₅ l₆ l₇ l₈ l₉ l₁₀ l₁₁ l₁₂ l₁₃ l₁₄ l₁₅ l₁₆ l₁₇) mir.t-9 (atRet (En l₀ l₁ l₂ l₃ l₄ l₅ l₆ l₇ l₈ l₉ l₁₀ l₁₁ l₁₂ l₁₃ l₁₄ l₁₅ l₁₆ l₁₇) Post))
+    module _ (is-b : Is Bench-t.the-row b (v-b ∷ [])) (room-recs : Room Session-t.the-row (length (recs .now))) (room-store : Room (Array u8 139) (length (store .now))) (room-octets : Room u8 (length (octets .now))) (is-size : Is usize size (v-size ∷ [])) (room-out : Room u8 (length (out .now))) (l₀ l₁ l₂ l₃ l₄ l₅ l₆ l₇ l₈ l₉ l₁₀ l₁₁ l₁₂ l₁₃ l₁₄ l₁₅ l₁₆ l₁₇ l₁₈ : ℕ) where
+      part-9 : (w-front : Val) → (r-front : (RefT (List ℕ))) → (e-front : now r-front ≡ take size (octets .now)) → (is-front : Is (ShrSlice (named 2) κ₂ u8) r-front (w-front ∷ [])) → (w-node-of : Val) → (r-node-of : Node) → (e-node-of : r-node-of ≡ b .node) → (is-node-of : Is Node-t.the-row r-node-of (w-node-of ∷ [])) → (w-grugavorn-down : Val) → (r-grugavorn-down : Written) → (z-grugavorn-down : (Unit {0}) × ((Unit {0}) × ((Unit {0}) × ((Unit {0}) × ((List ℕ) × Unit {0}))))) → (e-grugavorn-down : output r-grugavorn-down (z-grugavorn-down .1 .1 .1 .1 .0) ≡ downStored r-node-of (ys-recs) (store .now) (r-front .now) ((replicate {A = ℕ} 2056 0))) → (is-grugavorn-down : Is Written-t.the-row r-grugavorn-down (w-grugavorn-down ∷ [])) → (len-grugavorn-down-out : length (z-grugavorn-down .1 .1 .1 .1 .0) ≡ length ((replicate {A = ℕ} 2056 0))) → (is-grugavorn-down-out-back : Is (Array u8 2056) (z-grugavorn-down .1 .1 .1 .1 .0) (array-vals (uint-vals w8) (z-grugavorn-down .1 .1 .1 .1 .0))) → Sq W (‵ (froom (sliceTy (tyRef erased mut (pointee (u8 .written)))) l₁₈ 0) ∷ ‵ (fdies (sliceTy (tyRef erased mut (pointee (u8 .written)))) l₁₈) ∷ ‵ (froom (tyRef erased mut (pointee (u8 .written))) l₁₇ 0) ∷ ‵ (fdies (tyRef erased mut (pointee (u8 .written))) l₁₇) ∷ ‵ (froom (sliceTy (tyRef erased imm (pointee (u8 .written)))) l₁₆ 0) ∷ ‵ (fdies (sliceTy (tyRef erased imm (pointee (u8 .written)))) l₁₆) ∷ ‵ (froom (tyRef erased imm (pointee ((Array u8 2056) .written))) l₁₅ 0) ∷ ‵ (fdies (tyRef erased imm (pointee ((Array u8 2056) .written))) l₁₅) ∷ ‵ (fat fullShare (sliceTy (tyRef erased mut (pointee (u8 .written)))) l₁₄ 0 (sliceVal (l₈, 0) 2056)) ∷ ‵ (fdies (sliceTy (tyRef erased mut (pointee (u8 .written)))) l₁₄) ∷ ‵ (froom (tyRef erased mut (pointee ((Array u8 2056) .written))) l₁₃ 0) ∷ ‵ (fdies (tyRef erased mut (pointee ((Array u8 2056) .written))) l₁₃) ∷ ‵ (fat fullShare (sliceTy (tyRef erased imm (pointee (Session-t.the-row .written)))) l₁₂ 0 v-recs) ∷ ‵ (fdies (sliceTy (tyRef erased imm (pointee (Session-t.the-row .written)))) l₁₂) ∷ ‵ (froom (tyRef erased imm (pointee (Session-t.the-row .written))) l₁₁ 0) ∷ ‵ (fdies (tyRef erased imm (pointee (Session-t.the-row .written))) l₁₁) ∷ ‵ (fat fullShare Written-l.mir l₁₀ 0 w-grugavorn-down) ∷ ‵ (fdies Written-l.mir l₁₀) ∷ ‵ (fat fullShare Node-l.mir l₉ 0 w-node-of) ∷ ‵ (fdies Node-l.mir l₉) ∷ ‵ (fat fullShare (tyArray (tyInt w8) 2056) l₈ 0 (only (array-vals (uint-vals w8) (z-grugavorn-down .1 .1 .1 .1 .0)))) ∷ ‵ (fdies (tyArray (tyInt w8) 2056) l₈) ∷ ‵ (fat fullShare (sliceTy (tyRef erased imm (pointee (u8 .written)))) l₇ 0 w-front) ∷ ‵ (fdies (sliceTy (tyRef erased imm (pointee (u8 .written)))) l₇) ∷ ‵ (fat fullShare (sliceTy (tyRef (named 3) mut (pointee (u8 .written)))) l₆ 0 v-out) ∷ ‵ (fdies (sliceTy (tyRef (named 3) mut (pointee (u8 .written)))) l₆) ∷ ‵ (fat fullShare (tyInt w64) l₅ 0 v-size) ∷ ‵ (fdies (tyInt w64) l₅) ∷ ‵ (fat fullShare (sliceTy (tyRef (named 2) imm (pointee (u8 .written)))) l₄ 0 v-octets) ∷ ‵ (fdies (sliceTy (tyRef (named 2) imm (pointee (u8 .written)))) l₄) ∷ ‵ (fat fullShare (sliceTy (tyRef (named 1) imm (pointee ((Array u8 139) .written)))) l₃ 0 v-store) ∷ ‵ (fdies (sliceTy (tyRef (named 1) imm (pointee ((Array u8 139) .written)))) l₃) ∷ ‵ (fat fullShare (sliceTy (tyRef (named 0) mut (pointee (Session-t.the-row .written)))) l₂ 0 v-recs) ∷ ‵ (fdies (sliceTy (tyRef (named 0) mut (pointee (Session-t.the-row .written)))) l₂) ∷ ‵ (fat fullShare Bench-l.mir l₁ 0 v-b) ∷ ‵ (fdies Bench-l.mir l₁) ∷ ‵ (froom Bench-l.mir l₀ 0) ∷ ‵ (fdies Bench-l.mir l₀) ∷ ‵ Own-octets ∷ ‵ Own-out ∷ ‵ ((ShrSlice (named 2) κ₂ u8) .own r-front (w-front ∷ [])) ∷ ‵ Own-recs ∷ ‵ Own-store ∷ ‵ (flft κ₀ q₀) ∷ ‵ (flft κ₁ q₁) ∷ ‵ (flft κ₂ q₂) ∷ ‵ (flft κ₃ q₃) ∷ []) (runs C Λ (En l₀ l₁ l₂ l₃ l₄ l₅ l₆ l₇ l₈ l₉ l₁₀ l₁₁ l₁₂ l₁₃ l₁₄ l₁₅ l₁₆ l₁₇ l₁₈) mir.t-9 (atRet (En l₀ l₁ l₂ l₃ l₄ l₅ l₆ l₇ l₈ l₉ l₁₀ l₁₁ l₁₂ l₁₃ l₁₄ l₁₅ l₁₆ l₁₇ l₁₈) Post))
       unfolding gpduMost datagramMost
       part-9 w-front r-front e-front is-front w-node-of r-node-of e-node-of is-node-of w-grugavorn-down r-grugavorn-down z-grugavorn-down e-grugavorn-down is-grugavorn-down len-grugavorn-down-out is-grugavorn-down-out-back =
-          -- _14 = & _7
+          -- _15 = & _8
           assigns ! (addr ! (from ! (stop !))) (from ! (stop !)) (init ! 6 refl (tt, tt)) $
-          -- _15 = {_14, 2056}
+          -- _16 = {_15, 2056}
           assigns ! (agg ! (and-then ! (load ! (from ! (stop !)) (look ! 6 refl)) (and-then ! (big-lit ! (record { fits = lit< tt })) (no-more !)))) (from ! (stop !)) (init ! 4 refl (tt, (tt, (record { fits = lit< tt }, tt)))) $
-          -- _16 = & _5.0.*
+          -- _17 = & _6.0.*
           assigns ! (addr ! (from ! (fld ! refl (hop ! (look-in ! 24 (sub ! 0 refl (whole !))) (stop !))))) (from ! (stop !)) (init ! 2 refl (tt, tt)) $
-          -- _17 = {_16, _5.1}
+          -- _18 = {_17, _6.1}
           assigns ! (agg ! (and-then ! (load ! (from ! (stop !)) (look ! 2 refl)) (and-then ! (load ! (from ! (fld ! refl (stop !))) (look-in ! 24 (sub ! 1 refl (whole !)))) (no-more !)))) (from ! (stop !)) (init ! 0 refl (tt, (tt, (record { fits = room-out .0 }, tt)))) $
-          -- _0 = show_down(_1, _9, _15, _17)
+          -- _0 = show_down(_1, _10, _16, _18)
           lft-new ! tt (λ ν. move ! (21 ∷ []) $
-          use1 W (later (some (λ (δ : GName). ‵ (ShrSlice (named 0) (ν ∷ []) u8 .own (record { ptr = (l₇, 0); name = δ; now = (z-grugavorn-down .1 .1 .1 .0) }) ((sliceVal (l₇, 0) 2056) ∷ [])) ⊛ ‵ (flent (ν ∷ []) (arr-parts (shares u8) 2056 .part fullShare (z-grugavorn-down .1 .1 .1 .0) l₇ 0))))) (array-shown u8 2056 (uint-vals w8) (uint-tells w8) tt 𝓤 H A W (uint-makes 𝓤 H A W w8) l₇ (lit< tt, lit< tt) (named 0) (ν ∷ []) (z-grugavorn-down .1 .1 .1 .0) (only (array-vals (uint-vals w8) (z-grugavorn-down .1 .1 .1 .0))) is-grugavorn-down-out-back) $ await ! tt $
-          pick ! (λ δ-show-down. split ! $ nothing ! $ move ! (45 ∷ 0 ∷ []) $ join ! $ move ! (3 ∷ 0 ∷ []) $ join ! $ nothing ! $ move ! (40 ∷ 0 ∷ []) $ fjoin ! $ move ! (2 ∷ 0 ∷ []) $ fjoin ! $
+          use1 W (later (some (λ (δ : GName). ‵ (ShrSlice (named 0) (ν ∷ []) u8 .own (record { ptr = (l₈, 0); name = δ; now = (z-grugavorn-down .1 .1 .1 .1 .0) }) ((sliceVal (l₈, 0) 2056) ∷ [])) ⊛ ‵ (flent (ν ∷ []) (arr-parts (shares u8) 2056 .part fullShare (z-grugavorn-down .1 .1 .1 .1 .0) l₈ 0))))) (array-shown u8 2056 (uint-vals w8) (uint-tells w8) tt 𝓤 H A W (uint-makes 𝓤 H A W w8) l₈ (lit< tt, lit< tt) (named 0) (ν ∷ []) (z-grugavorn-down .1 .1 .1 .1 .0) (only (array-vals (uint-vals w8) (z-grugavorn-down .1 .1 .1 .1 .0))) is-grugavorn-down-out-back) $ await ! tt $
+          pick ! (λ δ-show-down. split ! $ nothing ! $ move ! (49 ∷ 0 ∷ []) $ join ! $ move ! (3 ∷ 0 ∷ []) $ join ! $ nothing ! $ move ! (42 ∷ 0 ∷ []) $ fjoin ! $ move ! (2 ∷ 0 ∷ []) $ fjoin ! $
           owned ! Written-t.the-row (Is Written-t.the-row) (LL.makes Written-t.the-type Written-l.the-plain 𝓤 H A) r-grugavorn-down _ is-grugavorn-down $ fjoin ! $
           owned ! Bench-t.the-row (Is Bench-t.the-row) (LL.makes Bench-t.the-type Bench-l.the-plain 𝓤 H A) b _ is-b $ fjoin ! $ move ! (1 ∷ 0 ∷ []) $
-          use2 W (raw (c-show-down 𝓤 H A mem run .pre ((((ν ∷ []), (κ₂, tt)), (fullShare, (q₂, tt)), tt, (b, (r-grugavorn-down, ((record { ptr = (l₇, 0); name = δ-show-down; now = (z-grugavorn-down .1 .1 .1 .0) }), (out, tt)))), (v-b ∷ [], (w-grugavorn-down ∷ [], ((sliceVal (l₇, 0) 2056) ∷ [], (v-out ∷ [], tt))))), tt))) (qed W ((‵ (flft (ν ∷ []) fullShare) ⊛ ‵ (flft κ₂ q₂) ⊛ ‵ ftrue) ∷ ‵ (fsep (Bench-t.the-row .own b (v-b ∷ [])) (fsep (Written-t.the-row .own r-grugavorn-down (w-grugavorn-down ∷ [])) (fsep (ShrSlice (named 0) (ν ∷ []) u8 .own (record { ptr = (l₇, 0); name = δ-show-down; now = (z-grugavorn-down .1 .1 .1 .0) }) ((sliceVal (l₇, 0) 2056) ∷ [])) (fsep Own-out ftrue)))) ∷ []) ∵ join ! $ frame ! $ done !) $
-          calls-at ! fm (c-show-down 𝓤 H A mem run) known-show-down ((((ν ∷ []), (κ₂, tt)), (fullShare, (q₂, tt)), tt, (b, (r-grugavorn-down, ((record { ptr = (l₇, 0); name = δ-show-down; now = (z-grugavorn-down .1 .1 .1 .0) }), (out, tt)))), (v-b ∷ [], (w-grugavorn-down ∷ [], ((sliceVal (l₇, 0) 2056) ∷ [], (v-out ∷ [], tt))))), tt) (and-then ! (load ! (from ! (stop !)) (look ! 33 refl)) (and-then ! (load ! (from ! (stop !)) (look ! 18 refl)) (and-then ! (load ! (from ! (stop !)) (look ! 6 refl)) (and-then ! (load ! (from ! (stop !)) (look ! 2 refl)) (no-more !))))) (λ w-show-down.
-          use1 W (later (some (λ (r-show-down : Bench). ((‵ (flft (ν ∷ []) fullShare) ⊛ ‵ (flft κ₂ q₂) ⊛ ‵ ftrue) ⊛ ‵ (Bench-t.the-row .own r-show-down (w-show-down ∷ []))) ⊛ raw (ensured 𝓤 H A c-show-down′.ended (c-show-down′.clauses 𝓤 H A mem run) ((ν ∷ []), (κ₂, tt)) (b, (r-grugavorn-down, ((record { ptr = (l₇, 0); name = δ-show-down; now = (z-grugavorn-down .1 .1 .1 .0) }), (out, tt)))) tt r-show-down)))) (id⊢ 𝓤 _) $ await ! tt $
+          use2 W (raw (c-show-down 𝓤 H A mem run .pre ((((ν ∷ []), (κ₃, tt)), (fullShare, (q₃, tt)), tt, (b, (r-grugavorn-down, ((record { ptr = (l₈, 0); name = δ-show-down; now = (z-grugavorn-down .1 .1 .1 .1 .0) }), (out, tt)))), (v-b ∷ [], (w-grugavorn-down ∷ [], ((sliceVal (l₈, 0) 2056) ∷ [], (v-out ∷ [], tt))))), tt))) (qed W ((‵ (flft (ν ∷ []) fullShare) ⊛ ‵ (flft κ₃ q₃) ⊛ ‵ ftrue) ∷ ‵ (fsep (Bench-t.the-row .own b (v-b ∷ [])) (fsep (Written-t.the-row .own r-grugavorn-down (w-grugavorn-down ∷ [])) (fsep (ShrSlice (named 0) (ν ∷ []) u8 .own (record { ptr = (l₈, 0); name = δ-show-down; now = (z-grugavorn-down .1 .1 .1 .1 .0) }) ((sliceVal (l₈, 0) 2056) ∷ [])) (fsep Own-out ftrue)))) ∷ []) ∵ join ! $ frame ! $ done !) $
+          calls-at ! fm (c-show-down 𝓤 H A mem run) known-show-down ((((ν ∷ []), (κ₃, tt)), (fullShare, (q₃, tt)), tt, (b, (r-grugavorn-down, ((record { ptr = (l₈, 0); name = δ-show-down; now = (z-grugavorn-down .1 .1 .1 .1 .0) }), (out, tt)))), (v-b ∷ [], (w-grugavorn-down ∷ [], ((sliceVal (l₈, 0) 2056) ∷ [], (v-out ∷ [], tt))))), tt) (and-then ! (load ! (from ! (stop !)) (look ! 35 refl)) (and-then ! (load ! (from ! (stop !)) (look ! 18 refl)) (and-then ! (load ! (from ! (stop !)) (look ! 6 refl)) (and-then ! (load ! (from ! (stop !)) (look ! 2 refl)) (no-more !))))) (λ w-show-down.
+          use1 W (later (some (λ (r-show-down : Bench). ((‵ (flft (ν ∷ []) fullShare) ⊛ ‵ (flft κ₃ q₃) ⊛ ‵ ftrue) ⊛ ‵ (Bench-t.the-row .own r-show-down (w-show-down ∷ []))) ⊛ raw (ensured 𝓤 H A c-show-down′.ended (c-show-down′.clauses 𝓤 H A mem run) ((ν ∷ []), (κ₃, tt)) (b, (r-grugavorn-down, ((record { ptr = (l₈, 0); name = δ-show-down; now = (z-grugavorn-down .1 .1 .1 .1 .0) }), (out, tt)))) tt r-show-down)))) (id⊢ 𝓤 _) $ await ! tt $
           pick ! (λ r-show-down. split ! $ move ! (1 ∷ []) $
-          use1 W (some (λ (z-show-down : (Unit {0}) × ((Unit {0}) × ((Unit {0}) × ((List ℕ) × Unit {0})))). ‵ (lasts c-show-down′.ended ((ν ∷ []), (κ₂, tt)) (b, (r-grugavorn-down, ((record { ptr = (l₇, 0); name = δ-show-down; now = (z-grugavorn-down .1 .1 .1 .0) }), (out, tt)))) z-show-down) ⊛ raw (fact 𝓤 (shown r-show-down (z-show-down .1 .1 .1 .0) ≡ downShown (output r-grugavorn-down ((z-grugavorn-down .1 .1 .1 .0))) b (ys-out))))) (id⊢ 𝓤 _) $
-          pick ! (λ z-show-down. split ! $ move ! (1 ∷ []) $ heard ! (shown r-show-down (z-show-down .1 .1 .1 .0) ≡ downShown (output r-grugavorn-down ((z-grugavorn-down .1 .1 .1 .0))) b (ys-out)) (λ e-show-down. fsplit ! $ drop ! $
+          use1 W (some (λ (z-show-down : (Unit {0}) × ((Unit {0}) × ((Unit {0}) × ((List ℕ) × Unit {0})))). ‵ (lasts c-show-down′.ended ((ν ∷ []), (κ₃, tt)) (b, (r-grugavorn-down, ((record { ptr = (l₈, 0); name = δ-show-down; now = (z-grugavorn-down .1 .1 .1 .1 .0) }), (out, tt)))) z-show-down) ⊛ raw (fact 𝓤 (shown r-show-down (z-show-down .1 .1 .1 .0) ≡ downShown (output r-grugavorn-down ((z-grugavorn-down .1 .1 .1 .1 .0))) b (ys-out))))) (id⊢ 𝓤 _) $
+          pick ! (λ z-show-down. split ! $ move ! (1 ∷ []) $ heard ! (shown r-show-down (z-show-down .1 .1 .1 .0) ≡ downShown (output r-grugavorn-down ((z-grugavorn-down .1 .1 .1 .1 .0))) b (ys-out)) (λ e-show-down. fsplit ! $ drop ! $
           fsplit ! $ drop ! $ fsplit ! $ drop ! $ fsplit ! $ fsplit ! $ move ! (1 ∷ []) $ feqL ! (λ len-show-down-out. move ! (1 ∷ []) $ drop ! $ move ! (1 ∷ []) $ split ! $ split ! $ move ! (1 ∷ []) $ split ! $ move ! (1 ∷ []) $ drop ! $
           move ! (2 ∷ []) $ peeks ! Bench-t.the-row (Is Bench-t.the-row) (shows 𝓤 H A Bench-t.the-row) r-show-down (w-show-down ∷ []) (λ is-show-down.
-          land ! (from ! (stop !)) (init ! 38 refl (LL.lawful Bench-t.the-type Bench-l.the-laws 𝓤 H A W .typed r-show-down _ is-show-down .0)) $ drop ! $ move ! (1 ∷ []) $ lft-end ! tt $ move ! (0 ∷ 3 ∷ []) $
-          use2 W (later (given (Is (Array u8 2056) (z-grugavorn-down .1 .1 .1 .0) (array-vals (uint-vals w8) (z-grugavorn-down .1 .1 .1 .0))) (‵ (fat fullShare (tyArray (tyInt w8) 2056) l₇ 0 (only (array-vals (uint-vals w8) (z-grugavorn-down .1 .1 .1 .0))))))) (array-kept u8 2056 (uint-vals w8) (uint-tells w8) tt 𝓤 H A W (uint-makes 𝓤 H A W w8) l₇ (ν ∷ []) (z-grugavorn-down .1 .1 .1 .0) (is-grugavorn-down-out-back .1 .0 .1)) $ await ! tt $
+          land ! (from ! (stop !)) (init ! 40 refl (LL.lawful Bench-t.the-type Bench-l.the-laws 𝓤 H A W .typed r-show-down _ is-show-down .0)) $ drop ! $ move ! (1 ∷ []) $ lft-end ! tt $ move ! (0 ∷ 3 ∷ []) $
+          use2 W (later (given (Is (Array u8 2056) (z-grugavorn-down .1 .1 .1 .1 .0) (array-vals (uint-vals w8) (z-grugavorn-down .1 .1 .1 .1 .0))) (‵ (fat fullShare (tyArray (tyInt w8) 2056) l₈ 0 (only (array-vals (uint-vals w8) (z-grugavorn-down .1 .1 .1 .1 .0))))))) (array-kept u8 2056 (uint-vals w8) (uint-tells w8) tt 𝓤 H A W (uint-makes 𝓤 H A W w8) l₈ (ν ∷ []) (z-grugavorn-down .1 .1 .1 .1 .0) (is-grugavorn-down-out-back .1 .0 .1)) $ await ! tt $
           learn ! (λ is-show-down-back.
           -- return
-          returns ! (look ! 36 refl) $
-          forget ! 3 refl $ forget ! 5 refl $ forget ! 7 refl $ forget ! 9 refl $ forget ! 11 refl $ forget ! 15 refl $ forget ! 19 refl $ forget ! 21 refl $ forget ! 0 refl $ forget ! 24 refl $ forget ! 26 refl $ forget ! 28 refl $ forget ! 30 refl $ forget ! 32 refl $ forget ! 34 refl $ forget ! 36 refl $
-          move ! (36 ∷ 37 ∷ []) $ free1 ! $ move ! (34 ∷ 35 ∷ []) $ free1 ! $ move ! (32 ∷ 33 ∷ []) $ free1 ! $ move ! (30 ∷ 31 ∷ []) $ free1 ! $ move ! (28 ∷ 29 ∷ []) $ free1 ! $ move ! (26 ∷ 27 ∷ []) $ free1 ! $ move ! (24 ∷ 25 ∷ []) $ free1 ! $ move ! (0 ∷ 23 ∷ []) $ free1 ! $ move ! (20 ∷ 21 ∷ []) $ free1 ! $ move ! (18 ∷ 19 ∷ []) $ free1 ! $ move ! (16 ∷ 17 ∷ []) $ free1 ! $ move ! (14 ∷ 15 ∷ []) $ free1 ! $ move ! (12 ∷ 13 ∷ []) $ free1 ! $ move ! (10 ∷ 11 ∷ []) $ free1 ! $ move ! (8 ∷ 9 ∷ []) $ free1 ! $ move ! (6 ∷ 7 ∷ []) $ free1 ! $ move ! (4 ∷ 5 ∷ []) $ free1 ! $ move ! (2 ∷ 3 ∷ []) $ free1 ! $ free0 ! $
+          returns ! (look ! 38 refl) $
+          forget ! 3 refl $ forget ! 5 refl $ forget ! 7 refl $ forget ! 9 refl $ forget ! 11 refl $ forget ! 15 refl $ forget ! 19 refl $ forget ! 21 refl $ forget ! 0 refl $ forget ! 24 refl $ forget ! 26 refl $ forget ! 28 refl $ forget ! 30 refl $ forget ! 32 refl $ forget ! 34 refl $ forget ! 36 refl $ forget ! 38 refl $
+          move ! (38 ∷ 39 ∷ []) $ free1 ! $ move ! (36 ∷ 37 ∷ []) $ free1 ! $ move ! (34 ∷ 35 ∷ []) $ free1 ! $ move ! (32 ∷ 33 ∷ []) $ free1 ! $ move ! (30 ∷ 31 ∷ []) $ free1 ! $ move ! (28 ∷ 29 ∷ []) $ free1 ! $ move ! (26 ∷ 27 ∷ []) $ free1 ! $ move ! (24 ∷ 25 ∷ []) $ free1 ! $ move ! (0 ∷ 23 ∷ []) $ free1 ! $ move ! (20 ∷ 21 ∷ []) $ free1 ! $ move ! (18 ∷ 19 ∷ []) $ free1 ! $ move ! (16 ∷ 17 ∷ []) $ free1 ! $ move ! (14 ∷ 15 ∷ []) $ free1 ! $ move ! (12 ∷ 13 ∷ []) $ free1 ! $ move ! (10 ∷ 11 ∷ []) $ free1 ! $ move ! (8 ∷ 9 ∷ []) $ free1 ! $ move ! (6 ∷ 7 ∷ []) $ free1 ! $ move ! (4 ∷ 5 ∷ []) $ free1 ! $ move ! (2 ∷ 3 ∷ []) $ free1 ! $ free0 ! $
           move ! (4 ∷ []) $ use1 W (‵ (finally Session-t.the-row (recs .name) ys-recs)) (gives-up-slice 𝓤 H A W (named 0) κ₀ Session-t.the-row recs v-recs) $
-          owned ! Bench-t.the-row (Is Bench-t.the-row) (LL.makes Bench-t.the-type Bench-l.the-plain 𝓤 H A) r-show-down _ is-show-down $ nothing ! $ move ! (3 ∷ 0 ∷ []) $ join ! $ move ! (7 ∷ 0 ∷ []) $ join ! $ move ! (6 ∷ 0 ∷ []) $ join ! $
-          keep ! (0 ∷ 2 ∷ 3 ∷ 1 ∷ []) $
-          by ! (exits r-show-down w-show-down ys-recs (z-show-down .1 .1 .1 .0) (down-run b r-show-down ys-recs ys-out (z-show-down .1 .1 .1 .0) r-node-of r-grugavorn-down (take size (now octets)) (now r-front) (z-grugavorn-down .1 .1 .1 .0) e-node-of e-front e-grugavorn-down e-show-down) refl len-show-down-out))))))))))
+          owned ! Bench-t.the-row (Is Bench-t.the-row) (LL.makes Bench-t.the-type Bench-l.the-plain 𝓤 H A) r-show-down _ is-show-down $ nothing ! $ move ! (3 ∷ 0 ∷ []) $ join ! $ move ! (9 ∷ 0 ∷ []) $ join ! $ move ! (8 ∷ 0 ∷ []) $ join ! $
+          move ! (7 ∷ 0 ∷ []) $ join ! $ keep ! (0 ∷ 2 ∷ 3 ∷ 1 ∷ []) $
+          by ! (exits r-show-down w-show-down ys-recs (z-show-down .1 .1 .1 .0) (down-run b r-show-down ys-recs (store .now) ys-out (z-show-down .1 .1 .1 .0) r-node-of r-grugavorn-down (take size (now octets)) (now r-front) (z-grugavorn-down .1 .1 .1 .1 .0) e-node-of e-front e-grugavorn-down e-show-down) refl len-show-down-out))))))))))
 
-      part-4 : (w-front : Val) → (r-front : (RefT (List ℕ))) → (e-front : now r-front ≡ take size (octets .now)) → (is-front : Is (ShrSlice (named 1) κ₁ u8) r-front (w-front ∷ [])) → (w-node-of : Val) → (r-node-of : Node) → (e-node-of : r-node-of ≡ b .node) → (is-node-of : Is Node-t.the-row r-node-of (w-node-of ∷ [])) → Sq W (‵ (froom (sliceTy (tyRef erased mut (pointee (u8 .written)))) l₁₇ 0) ∷ ‵ (fdies (sliceTy (tyRef erased mut (pointee (u8 .written)))) l₁₇) ∷ ‵ (froom (tyRef erased mut (pointee (u8 .written))) l₁₆ 0) ∷ ‵ (fdies (tyRef erased mut (pointee (u8 .written))) l₁₆) ∷ ‵ (froom (sliceTy (tyRef erased imm (pointee (u8 .written)))) l₁₅ 0) ∷ ‵ (fdies (sliceTy (tyRef erased imm (pointee (u8 .written)))) l₁₅) ∷ ‵ (froom (tyRef erased imm (pointee ((Array u8 2056) .written))) l₁₄ 0) ∷ ‵ (fdies (tyRef erased imm (pointee ((Array u8 2056) .written))) l₁₄) ∷ ‵ (froom (sliceTy (tyRef erased mut (pointee (u8 .written)))) l₁₃ 0) ∷ ‵ (fdies (sliceTy (tyRef erased mut (pointee (u8 .written)))) l₁₃) ∷ ‵ (froom (tyRef erased mut (pointee ((Array u8 2056) .written))) l₁₂ 0) ∷ ‵ (fdies (tyRef erased mut (pointee ((Array u8 2056) .written))) l₁₂) ∷ ‵ (froom (sliceTy (tyRef erased imm (pointee (Session-t.the-row .written)))) l₁₁ 0) ∷ ‵ (fdies (sliceTy (tyRef erased imm (pointee (Session-t.the-row .written)))) l₁₁) ∷ ‵ (froom (tyRef erased imm (pointee (Session-t.the-row .written))) l₁₀ 0) ∷ ‵ (fdies (tyRef erased imm (pointee (Session-t.the-row .written))) l₁₀) ∷ ‵ (froom Written-l.mir l₉ 0) ∷ ‵ (fdies Written-l.mir l₉) ∷ ‵ (fat fullShare Node-l.mir l₈ 0 w-node-of) ∷ ‵ (fdies Node-l.mir l₈) ∷ ‵ (fat fullShare (tyArray (tyInt w8) 2056) l₇ 0 (vstruct (ofList (replicate 2056 (vint w8 0))))) ∷ ‵ (fdies (tyArray (tyInt w8) 2056) l₇) ∷ ‵ (fat fullShare (sliceTy (tyRef erased imm (pointee (u8 .written)))) l₆ 0 w-front) ∷ ‵ (fdies (sliceTy (tyRef erased imm (pointee (u8 .written)))) l₆) ∷ ‵ (fat fullShare (sliceTy (tyRef (named 2) mut (pointee (u8 .written)))) l₅ 0 v-out) ∷ ‵ (fdies (sliceTy (tyRef (named 2) mut (pointee (u8 .written)))) l₅) ∷ ‵ (fat fullShare (tyInt w64) l₄ 0 v-size) ∷ ‵ (fdies (tyInt w64) l₄) ∷ ‵ (fat fullShare (sliceTy (tyRef (named 1) imm (pointee (u8 .written)))) l₃ 0 v-octets) ∷ ‵ (fdies (sliceTy (tyRef (named 1) imm (pointee (u8 .written)))) l₃) ∷ ‵ (fat fullShare (sliceTy (tyRef (named 0) mut (pointee (Session-t.the-row .written)))) l₂ 0 v-recs) ∷ ‵ (fdies (sliceTy (tyRef (named 0) mut (pointee (Session-t.the-row .written)))) l₂) ∷ ‵ (fat fullShare Bench-l.mir l₁ 0 v-b) ∷ ‵ (fdies Bench-l.mir l₁) ∷ ‵ (froom Bench-l.mir l₀ 0) ∷ ‵ (fdies Bench-l.mir l₀) ∷ ‵ Own-octets ∷ ‵ Own-out ∷ ‵ ((ShrSlice (named 1) κ₁ u8) .own r-front (w-front ∷ [])) ∷ ‵ Own-recs ∷ ‵ (flft κ₀ q₀) ∷ ‵ (flft κ₁ q₁) ∷ ‵ (flft κ₂ q₂) ∷ []) (runs C Λ (En l₀ l₁ l₂ l₃ l₄ l₅ l₆ l₇ l₈ l₉ l₁₀ l₁₁ l₁₂ l₁₃ l₁₄ l₁₅ l₁₆ l₁₇) mir.t-4 (atRet (En l₀ l₁ l₂ l₃ l₄ l₅ l₆ l₇ l₈ l₉ l₁₀ l₁₁ l₁₂ l₁₃ l₁₄ l₁₅ l₁₆ l₁₇) Post))
+      part-4 : (w-front : Val) → (r-front : (RefT (List ℕ))) → (e-front : now r-front ≡ take size (octets .now)) → (is-front : Is (ShrSlice (named 2) κ₂ u8) r-front (w-front ∷ [])) → (w-node-of : Val) → (r-node-of : Node) → (e-node-of : r-node-of ≡ b .node) → (is-node-of : Is Node-t.the-row r-node-of (w-node-of ∷ [])) → Sq W (‵ (froom (sliceTy (tyRef erased mut (pointee (u8 .written)))) l₁₈ 0) ∷ ‵ (fdies (sliceTy (tyRef erased mut (pointee (u8 .written)))) l₁₈) ∷ ‵ (froom (tyRef erased mut (pointee (u8 .written))) l₁₇ 0) ∷ ‵ (fdies (tyRef erased mut (pointee (u8 .written))) l₁₇) ∷ ‵ (froom (sliceTy (tyRef erased imm (pointee (u8 .written)))) l₁₆ 0) ∷ ‵ (fdies (sliceTy (tyRef erased imm (pointee (u8 .written)))) l₁₆) ∷ ‵ (froom (tyRef erased imm (pointee ((Array u8 2056) .written))) l₁₅ 0) ∷ ‵ (fdies (tyRef erased imm (pointee ((Array u8 2056) .written))) l₁₅) ∷ ‵ (froom (sliceTy (tyRef erased mut (pointee (u8 .written)))) l₁₄ 0) ∷ ‵ (fdies (sliceTy (tyRef erased mut (pointee (u8 .written)))) l₁₄) ∷ ‵ (froom (tyRef erased mut (pointee ((Array u8 2056) .written))) l₁₃ 0) ∷ ‵ (fdies (tyRef erased mut (pointee ((Array u8 2056) .written))) l₁₃) ∷ ‵ (froom (sliceTy (tyRef erased imm (pointee (Session-t.the-row .written)))) l₁₂ 0) ∷ ‵ (fdies (sliceTy (tyRef erased imm (pointee (Session-t.the-row .written)))) l₁₂) ∷ ‵ (froom (tyRef erased imm (pointee (Session-t.the-row .written))) l₁₁ 0) ∷ ‵ (fdies (tyRef erased imm (pointee (Session-t.the-row .written))) l₁₁) ∷ ‵ (froom Written-l.mir l₁₀ 0) ∷ ‵ (fdies Written-l.mir l₁₀) ∷ ‵ (fat fullShare Node-l.mir l₉ 0 w-node-of) ∷ ‵ (fdies Node-l.mir l₉) ∷ ‵ (fat fullShare (tyArray (tyInt w8) 2056) l₈ 0 (vstruct (ofList (replicate 2056 (vint w8 0))))) ∷ ‵ (fdies (tyArray (tyInt w8) 2056) l₈) ∷ ‵ (fat fullShare (sliceTy (tyRef erased imm (pointee (u8 .written)))) l₇ 0 w-front) ∷ ‵ (fdies (sliceTy (tyRef erased imm (pointee (u8 .written)))) l₇) ∷ ‵ (fat fullShare (sliceTy (tyRef (named 3) mut (pointee (u8 .written)))) l₆ 0 v-out) ∷ ‵ (fdies (sliceTy (tyRef (named 3) mut (pointee (u8 .written)))) l₆) ∷ ‵ (fat fullShare (tyInt w64) l₅ 0 v-size) ∷ ‵ (fdies (tyInt w64) l₅) ∷ ‵ (fat fullShare (sliceTy (tyRef (named 2) imm (pointee (u8 .written)))) l₄ 0 v-octets) ∷ ‵ (fdies (sliceTy (tyRef (named 2) imm (pointee (u8 .written)))) l₄) ∷ ‵ (fat fullShare (sliceTy (tyRef (named 1) imm (pointee ((Array u8 139) .written)))) l₃ 0 v-store) ∷ ‵ (fdies (sliceTy (tyRef (named 1) imm (pointee ((Array u8 139) .written)))) l₃) ∷ ‵ (fat fullShare (sliceTy (tyRef (named 0) mut (pointee (Session-t.the-row .written)))) l₂ 0 v-recs) ∷ ‵ (fdies (sliceTy (tyRef (named 0) mut (pointee (Session-t.the-row .written)))) l₂) ∷ ‵ (fat fullShare Bench-l.mir l₁ 0 v-b) ∷ ‵ (fdies Bench-l.mir l₁) ∷ ‵ (froom Bench-l.mir l₀ 0) ∷ ‵ (fdies Bench-l.mir l₀) ∷ ‵ Own-octets ∷ ‵ Own-out ∷ ‵ ((ShrSlice (named 2) κ₂ u8) .own r-front (w-front ∷ [])) ∷ ‵ Own-recs ∷ ‵ Own-store ∷ ‵ (flft κ₀ q₀) ∷ ‵ (flft κ₁ q₁) ∷ ‵ (flft κ₂ q₂) ∷ ‵ (flft κ₃ q₃) ∷ []) (runs C Λ (En l₀ l₁ l₂ l₃ l₄ l₅ l₆ l₇ l₈ l₉ l₁₀ l₁₁ l₁₂ l₁₃ l₁₄ l₁₅ l₁₆ l₁₇ l₁₈) mir.t-4 (atRet (En l₀ l₁ l₂ l₃ l₄ l₅ l₆ l₇ l₈ l₉ l₁₀ l₁₁ l₁₂ l₁₃ l₁₄ l₁₅ l₁₆ l₁₇ l₁₈) Post))
       unfolding gpduMost datagramMost
       part-4 w-front r-front e-front is-front w-node-of r-node-of e-node-of is-node-of =
-          -- _10 = & _2.0.*
-          assigns ! (addr ! (from ! (fld ! refl (hop ! (look-in ! 30 (sub ! 0 refl (whole !))) (stop !))))) (from ! (stop !)) (init ! 14 refl (tt, tt)) $
-          -- _11 = {_10, _2.1}
-          assigns ! (agg ! (and-then ! (load ! (from ! (stop !)) (look ! 14 refl)) (and-then ! (load ! (from ! (fld ! refl (stop !))) (look-in ! 30 (sub ! 1 refl (whole !)))) (no-more !)))) (from ! (stop !)) (init ! 12 refl (tt, (tt, (record { fits = room-recs .0 }, tt)))) $
-          -- _12 = & _7
+          -- _11 = & _2.0.*
+          assigns ! (addr ! (from ! (fld ! refl (hop ! (look-in ! 32 (sub ! 0 refl (whole !))) (stop !))))) (from ! (stop !)) (init ! 14 refl (tt, tt)) $
+          -- _12 = {_11, _2.1}
+          assigns ! (agg ! (and-then ! (load ! (from ! (stop !)) (look ! 14 refl)) (and-then ! (load ! (from ! (fld ! refl (stop !))) (look-in ! 32 (sub ! 1 refl (whole !)))) (no-more !)))) (from ! (stop !)) (init ! 12 refl (tt, (tt, (record { fits = room-recs .0 }, tt)))) $
+          -- _13 = & _8
           assigns ! (addr ! (from ! (stop !))) (from ! (stop !)) (init ! 10 refl (tt, tt)) $
-          -- _13 = {_12, 2056}
+          -- _14 = {_13, 2056}
           assigns ! (agg ! (and-then ! (load ! (from ! (stop !)) (look ! 10 refl)) (and-then ! (big-lit ! (record { fits = lit< tt })) (no-more !)))) (from ! (stop !)) (init ! 8 refl (tt, (tt, (record { fits = lit< tt }, tt)))) $
-          -- _9 = grugavorn_down(_8, _11, _6, _13)
-          lft-new ! tt (λ ν-recs. move ! (40 ∷ 41 ∷ []) $
+          -- _10 = grugavorn_down(_9, _12, _3, _7, _14)
+          lft-new ! tt (λ ν-recs. move ! (42 ∷ 44 ∷ []) $
           use2 W (later (some (λ (δ : GName). ‵ (ShrSlice (named 0) (ν-recs ∷ []) Session-t.the-row .own (recs-at δ ys-recs) (v-recs ∷ [])) ⊛ ‵ (Away Session-t.the-row κ₀ (ν-recs ∷ []) q₀ γ-recs b-recs o-recs ys-recs)))) (goes-out Session-t.the-row κ₀ (ν-recs ∷ []) q₀ γ-recs b-recs o-recs ys-recs 𝓤 H A W (named 0) (named 0)) $ await ! tt $
-          pick ! (λ δ-grugavorn-down-recs. split ! $ move ! (41 ∷ []) $
-          use1 W (‵ ((ShrSlice (named 1) κ₁ u8) .own r-front (w-front ∷ [])) ⊛ ‵ ((ShrSlice (named 1) κ₁ u8) .own r-front (w-front ∷ []))) (shr-slice-copy 𝓤 H A W (named 1) κ₁ u8 .twice r-front (w-front ∷ [])) $ split ! $
-          lft-new ! tt (λ ν-out. move ! (26 ∷ []) $
-          use1 W (later (some (λ (δ : GName). ‵ (MutSlice (named 0) (ν-out ∷ []) u8 .own (record { ptr = (l₇, 0); name = δ; now = (replicate {A = ℕ} 2056 0) }) ((sliceVal (l₇, 0) 2056) ∷ [])) ⊛ ‵ (flent (ν-out ∷ []) (Held u8 2056 l₇ 0 δ))))) (array-lent u8 2056 (uint-vals w8) (uint-tells w8) tt 𝓤 H A W (uint-makes 𝓤 H A W w8) l₇ (lit< tt, lit< tt) (named 0) (ν-out ∷ []) (replicate {A = ℕ} 2056 0) (vstruct (ofList (replicate 2056 (vint w8 0)))) (repeat-is u8 0 (vint w8 0) (refl, lit< tt) 2056)) $ await ! tt $
-          pick ! (λ δ-grugavorn-down-out. split ! $ nothing ! $ move ! (3 ∷ 0 ∷ []) $ join ! $ move ! (45 ∷ 0 ∷ []) $ join ! $ move ! (7 ∷ 0 ∷ []) $ join ! $ nothing ! $ move ! (2 ∷ 0 ∷ []) $ fjoin ! $ move ! (4 ∷ 0 ∷ []) $ fjoin ! $
-          move ! (4 ∷ 0 ∷ []) $ fjoin ! $ owned ! Node-t.the-row (Is Node-t.the-row) (LL.makes Node-t.the-type Node-l.the-plain 𝓤 H A) r-node-of _ is-node-of $ fjoin ! $ move ! (1 ∷ 0 ∷ []) $
-          use2 W (raw (c-grugavorn-down 𝓤 H A mem run .pre ((((ν-recs ∷ []), (κ₁, ((ν-out ∷ []), tt))), (fullShare, (q₁, (fullShare, tt))), tt, (r-node-of, ((recs-at δ-grugavorn-down-recs ys-recs), (r-front, ((record { ptr = (l₇, 0); name = δ-grugavorn-down-out; now = (replicate {A = ℕ} 2056 0) }), tt)))), (w-node-of ∷ [], (v-recs ∷ [], (w-front ∷ [], ((sliceVal (l₇, 0) 2056) ∷ [], tt))))), tt))) (qed W ((‵ (flft (ν-recs ∷ []) fullShare) ⊛ ‵ (flft κ₁ q₁) ⊛ ‵ (flft (ν-out ∷ []) fullShare) ⊛ ‵ ftrue) ∷ ‵ (fsep (Node-t.the-row .own r-node-of (w-node-of ∷ [])) (fsep (ShrSlice (named 0) (ν-recs ∷ []) Session-t.the-row .own (recs-at δ-grugavorn-down-recs ys-recs) (v-recs ∷ [])) (fsep ((ShrSlice (named 1) κ₁ u8) .own r-front (w-front ∷ [])) (fsep (MutSlice (named 0) (ν-out ∷ []) u8 .own (record { ptr = (l₇, 0); name = δ-grugavorn-down-out; now = (replicate {A = ℕ} 2056 0) }) ((sliceVal (l₇, 0) 2056) ∷ [])) ftrue)))) ∷ []) ∵ join ! $ frame ! $ done !) $
-          calls-at ! fm (c-grugavorn-down 𝓤 H A mem run) known-grugavorn-down ((((ν-recs ∷ []), (κ₁, ((ν-out ∷ []), tt))), (fullShare, (q₁, (fullShare, tt))), tt, (r-node-of, ((recs-at δ-grugavorn-down-recs ys-recs), (r-front, ((record { ptr = (l₇, 0); name = δ-grugavorn-down-out; now = (replicate {A = ℕ} 2056 0) }), tt)))), (w-node-of ∷ [], (v-recs ∷ [], (w-front ∷ [], ((sliceVal (l₇, 0) 2056) ∷ [], tt))))), tt) (and-then ! (load ! (from ! (stop !)) (look ! 22 refl)) (and-then ! (load ! (from ! (stop !)) (look ! 16 refl)) (and-then ! (load ! (from ! (stop !)) (look ! 25 refl)) (and-then ! (load ! (from ! (stop !)) (look ! 12 refl)) (no-more !))))) (λ w-grugavorn-down.
-          use1 W (later (some (λ (r-grugavorn-down : Written). ((‵ (flft (ν-recs ∷ []) fullShare) ⊛ ‵ (flft κ₁ q₁) ⊛ ‵ (flft (ν-out ∷ []) fullShare) ⊛ ‵ ftrue) ⊛ ‵ (Written-t.the-row .own r-grugavorn-down (w-grugavorn-down ∷ []))) ⊛ raw (ensured 𝓤 H A c-grugavorn-down′.ended (c-grugavorn-down′.clauses 𝓤 H A mem run) ((ν-recs ∷ []), (κ₁, ((ν-out ∷ []), tt))) (r-node-of, ((recs-at δ-grugavorn-down-recs ys-recs), (r-front, ((record { ptr = (l₇, 0); name = δ-grugavorn-down-out; now = (replicate {A = ℕ} 2056 0) }), tt)))) tt r-grugavorn-down)))) (id⊢ 𝓤 _) $ await ! tt $
+          pick ! (λ δ-grugavorn-down-recs. split ! $ move ! (44 ∷ []) $ use1 W (‵ Own-store ⊛ ‵ Own-store) (shr-slice-copy 𝓤 H A W (named 1) κ₁ (Array u8 139) .twice store (v-store ∷ [])) $ split ! $ move ! (45 ∷ []) $
+          use1 W (‵ ((ShrSlice (named 2) κ₂ u8) .own r-front (w-front ∷ [])) ⊛ ‵ ((ShrSlice (named 2) κ₂ u8) .own r-front (w-front ∷ []))) (shr-slice-copy 𝓤 H A W (named 2) κ₂ u8 .twice r-front (w-front ∷ [])) $ split ! $
+          lft-new ! tt (λ ν-out. move ! (28 ∷ []) $
+          use1 W (later (some (λ (δ : GName). ‵ (MutSlice (named 0) (ν-out ∷ []) u8 .own (record { ptr = (l₈, 0); name = δ; now = (replicate {A = ℕ} 2056 0) }) ((sliceVal (l₈, 0) 2056) ∷ [])) ⊛ ‵ (flent (ν-out ∷ []) (Held u8 2056 l₈ 0 δ))))) (array-lent u8 2056 (uint-vals w8) (uint-tells w8) tt 𝓤 H A W (uint-makes 𝓤 H A W w8) l₈ (lit< tt, lit< tt) (named 0) (ν-out ∷ []) (replicate {A = ℕ} 2056 0) (vstruct (ofList (replicate 2056 (vint w8 0)))) (repeat-is u8 0 (vint w8 0) (refl, lit< tt) 2056)) $ await ! tt $
+          pick ! (λ δ-grugavorn-down-out. split ! $ nothing ! $ move ! (3 ∷ 0 ∷ []) $ join ! $ move ! (50 ∷ 0 ∷ []) $ join ! $ move ! (49 ∷ 0 ∷ []) $ join ! $ move ! (9 ∷ 0 ∷ []) $ join ! $ nothing ! $ move ! (2 ∷ 0 ∷ []) $ fjoin ! $
+          move ! (4 ∷ 0 ∷ []) $ fjoin ! $ move ! (5 ∷ 0 ∷ []) $ fjoin ! $ move ! (5 ∷ 0 ∷ []) $ fjoin ! $ owned ! Node-t.the-row (Is Node-t.the-row) (LL.makes Node-t.the-type Node-l.the-plain 𝓤 H A) r-node-of _ is-node-of $ fjoin ! $
+          move ! (1 ∷ 0 ∷ []) $
+          use2 W (raw (c-grugavorn-down 𝓤 H A mem run .pre ((((ν-recs ∷ []), (κ₁, (κ₂, ((ν-out ∷ []), tt)))), (fullShare, (q₁, (q₂, (fullShare, tt)))), tt, (r-node-of, ((recs-at δ-grugavorn-down-recs ys-recs), (store, (r-front, ((record { ptr = (l₈, 0); name = δ-grugavorn-down-out; now = (replicate {A = ℕ} 2056 0) }), tt))))), (w-node-of ∷ [], (v-recs ∷ [], (v-store ∷ [], (w-front ∷ [], ((sliceVal (l₈, 0) 2056) ∷ [], tt)))))), tt))) (qed W ((‵ (flft (ν-recs ∷ []) fullShare) ⊛ ‵ (flft κ₁ q₁) ⊛ ‵ (flft κ₂ q₂) ⊛ ‵ (flft (ν-out ∷ []) fullShare) ⊛ ‵ ftrue) ∷ ‵ (fsep (Node-t.the-row .own r-node-of (w-node-of ∷ [])) (fsep (ShrSlice (named 0) (ν-recs ∷ []) Session-t.the-row .own (recs-at δ-grugavorn-down-recs ys-recs) (v-recs ∷ [])) (fsep Own-store (fsep ((ShrSlice (named 2) κ₂ u8) .own r-front (w-front ∷ [])) (fsep (MutSlice (named 0) (ν-out ∷ []) u8 .own (record { ptr = (l₈, 0); name = δ-grugavorn-down-out; now = (replicate {A = ℕ} 2056 0) }) ((sliceVal (l₈, 0) 2056) ∷ [])) ftrue))))) ∷ []) ∵ join ! $ frame ! $ done !) $
+          calls-at ! fm (c-grugavorn-down 𝓤 H A mem run) known-grugavorn-down ((((ν-recs ∷ []), (κ₁, (κ₂, ((ν-out ∷ []), tt)))), (fullShare, (q₁, (q₂, (fullShare, tt)))), tt, (r-node-of, ((recs-at δ-grugavorn-down-recs ys-recs), (store, (r-front, ((record { ptr = (l₈, 0); name = δ-grugavorn-down-out; now = (replicate {A = ℕ} 2056 0) }), tt))))), (w-node-of ∷ [], (v-recs ∷ [], (v-store ∷ [], (w-front ∷ [], ((sliceVal (l₈, 0) 2056) ∷ [], tt)))))), tt) (and-then ! (load ! (from ! (stop !)) (look ! 23 refl)) (and-then ! (load ! (from ! (stop !)) (look ! 17 refl)) (and-then ! (load ! (from ! (stop !)) (look ! 34 refl)) (and-then ! (load ! (from ! (stop !)) (look ! 26 refl)) (and-then ! (load ! (from ! (stop !)) (look ! 13 refl)) (no-more !)))))) (λ w-grugavorn-down.
+          use1 W (later (some (λ (r-grugavorn-down : Written). ((‵ (flft (ν-recs ∷ []) fullShare) ⊛ ‵ (flft κ₁ q₁) ⊛ ‵ (flft κ₂ q₂) ⊛ ‵ (flft (ν-out ∷ []) fullShare) ⊛ ‵ ftrue) ⊛ ‵ (Written-t.the-row .own r-grugavorn-down (w-grugavorn-down ∷ []))) ⊛ raw (ensured 𝓤 H A c-grugavorn-down′.ended (c-grugavorn-down′.clauses 𝓤 H A mem run) ((ν-recs ∷ []), (κ₁, (κ₂, ((ν-out ∷ []), tt)))) (r-node-of, ((recs-at δ-grugavorn-down-recs ys-recs), (store, (r-front, ((record { ptr = (l₈, 0); name = δ-grugavorn-down-out; now = (replicate {A = ℕ} 2056 0) }), tt))))) tt r-grugavorn-down)))) (id⊢ 𝓤 _) $ await ! tt $
           pick ! (λ r-grugavorn-down. split ! $ move ! (1 ∷ []) $
-          use1 W (some (λ (z-grugavorn-down : (Unit {0}) × ((Unit {0}) × ((Unit {0}) × ((List ℕ) × Unit {0})))). ‵ (lasts c-grugavorn-down′.ended ((ν-recs ∷ []), (κ₁, ((ν-out ∷ []), tt))) (r-node-of, ((recs-at δ-grugavorn-down-recs ys-recs), (r-front, ((record { ptr = (l₇, 0); name = δ-grugavorn-down-out; now = (replicate {A = ℕ} 2056 0) }), tt)))) z-grugavorn-down) ⊛ raw (fact 𝓤 (output r-grugavorn-down (z-grugavorn-down .1 .1 .1 .0) ≡ downTaken r-node-of (ys-recs) (r-front .now) ((replicate {A = ℕ} 2056 0)))))) (id⊢ 𝓤 _) $
-          pick ! (λ z-grugavorn-down. split ! $ move ! (1 ∷ []) $ heard ! (output r-grugavorn-down (z-grugavorn-down .1 .1 .1 .0) ≡ downTaken r-node-of (ys-recs) (r-front .now) ((replicate {A = ℕ} 2056 0))) (λ e-grugavorn-down. fsplit ! $
-          drop ! $ fsplit ! $ drop ! $ fsplit ! $ drop ! $ fsplit ! $ fsplit ! $ move ! (1 ∷ []) $ feqL ! (λ len-grugavorn-down-out. move ! (1 ∷ []) $ drop ! $ move ! (1 ∷ []) $ split ! $ split ! $ move ! (1 ∷ []) $ split ! $
-          move ! (1 ∷ []) $ split ! $ move ! (1 ∷ []) $ drop ! $ move ! (3 ∷ []) $ peeks ! Written-t.the-row (Is Written-t.the-row) (shows 𝓤 H A Written-t.the-row) r-grugavorn-down (w-grugavorn-down ∷ []) (λ is-grugavorn-down.
-          land ! (from ! (stop !)) (init ! 24 refl (LL.lawful Written-t.the-type Written-l.the-laws 𝓤 H A W .typed r-grugavorn-down _ is-grugavorn-down .0)) $ drop ! $ move ! (2 ∷ []) $ lft-end ! tt $ move ! (0 ∷ 6 ∷ []) $
+          use1 W (some (λ (z-grugavorn-down : (Unit {0}) × ((Unit {0}) × ((Unit {0}) × ((Unit {0}) × ((List ℕ) × Unit {0}))))). ‵ (lasts c-grugavorn-down′.ended ((ν-recs ∷ []), (κ₁, (κ₂, ((ν-out ∷ []), tt)))) (r-node-of, ((recs-at δ-grugavorn-down-recs ys-recs), (store, (r-front, ((record { ptr = (l₈, 0); name = δ-grugavorn-down-out; now = (replicate {A = ℕ} 2056 0) }), tt))))) z-grugavorn-down) ⊛ raw (fact 𝓤 (output r-grugavorn-down (z-grugavorn-down .1 .1 .1 .1 .0) ≡ downStored r-node-of (ys-recs) (store .now) (r-front .now) ((replicate {A = ℕ} 2056 0)))))) (id⊢ 𝓤 _) $
+          pick ! (λ z-grugavorn-down. split ! $ move ! (1 ∷ []) $
+          heard ! (output r-grugavorn-down (z-grugavorn-down .1 .1 .1 .1 .0) ≡ downStored r-node-of (ys-recs) (store .now) (r-front .now) ((replicate {A = ℕ} 2056 0))) (λ e-grugavorn-down. fsplit ! $ drop ! $ fsplit ! $ drop ! $ fsplit ! $
+          drop ! $ fsplit ! $ drop ! $ fsplit ! $ fsplit ! $ move ! (1 ∷ []) $ feqL ! (λ len-grugavorn-down-out. move ! (1 ∷ []) $ drop ! $ move ! (1 ∷ []) $ split ! $ split ! $ move ! (1 ∷ []) $ split ! $ move ! (1 ∷ []) $ split ! $
+          move ! (1 ∷ []) $ split ! $ move ! (1 ∷ []) $ drop ! $ move ! (4 ∷ []) $ peeks ! Written-t.the-row (Is Written-t.the-row) (shows 𝓤 H A Written-t.the-row) r-grugavorn-down (w-grugavorn-down ∷ []) (λ is-grugavorn-down.
+          land ! (from ! (stop !)) (init ! 26 refl (LL.lawful Written-t.the-type Written-l.the-laws 𝓤 H A W .typed r-grugavorn-down _ is-grugavorn-down .0)) $ drop ! $ move ! (3 ∷ []) $ lft-end ! tt $ move ! (0 ∷ 8 ∷ []) $
           use2 W (later (‵ (MutSlice (named 0) κ₀ Session-t.the-row .own (recs-at γ-recs ys-recs) (v-recs ∷ [])) ⊛ ‵ (flft κ₀ q₀))) (comes-back Session-t.the-row κ₀ (ν-recs ∷ []) q₀ γ-recs b-recs o-recs ys-recs 𝓤 H A W (named 0) (named 0) room-recs) $ await ! tt $ split ! $
-          move ! (2 ∷ []) $ lft-end ! tt $ move ! (0 ∷ 5 ∷ 4 ∷ []) $
-          use3 W (later (given (Is (Array u8 2056) (z-grugavorn-down .1 .1 .1 .0) (array-vals (uint-vals w8) (z-grugavorn-down .1 .1 .1 .0))) (‵ (fat fullShare (tyArray (tyInt w8) 2056) l₇ 0 (only (array-vals (uint-vals w8) (z-grugavorn-down .1 .1 .1 .0))))))) (array-back u8 2056 (uint-vals w8) (uint-tells w8) tt 𝓤 H A W (uint-makes 𝓤 H A W w8) l₇ (ν-out ∷ []) (z-grugavorn-down .1 .1 .1 .0) (len-grugavorn-down-out ∙ (repeat-is u8 0 (vint w8 0) (refl, lit< tt) 2056) .1 .0 .1) δ-grugavorn-down-out) $ await ! tt $
-          learn ! (λ is-grugavorn-down-out-back. forget ! 19 refl $ forget ! 15 refl $
-          keep ! (5 ∷ 6 ∷ 7 ∷ 8 ∷ 9 ∷ 10 ∷ 11 ∷ 12 ∷ 13 ∷ 14 ∷ 15 ∷ 16 ∷ 17 ∷ 18 ∷ 19 ∷ 20 ∷ 21 ∷ 22 ∷ 23 ∷ 24 ∷ 0 ∷ 25 ∷ 26 ∷ 27 ∷ 28 ∷ 29 ∷ 30 ∷ 31 ∷ 32 ∷ 33 ∷ 34 ∷ 35 ∷ 36 ∷ 37 ∷ 38 ∷ 39 ∷ 40 ∷ 41 ∷ 4 ∷ 1 ∷ 2 ∷ 3 ∷ 42 ∷ []) $
+          move ! (2 ∷ []) $ lft-end ! tt $ move ! (0 ∷ 6 ∷ 5 ∷ []) $
+          use3 W (later (given (Is (Array u8 2056) (z-grugavorn-down .1 .1 .1 .1 .0) (array-vals (uint-vals w8) (z-grugavorn-down .1 .1 .1 .1 .0))) (‵ (fat fullShare (tyArray (tyInt w8) 2056) l₈ 0 (only (array-vals (uint-vals w8) (z-grugavorn-down .1 .1 .1 .1 .0))))))) (array-back u8 2056 (uint-vals w8) (uint-tells w8) tt 𝓤 H A W (uint-makes 𝓤 H A W w8) l₈ (ν-out ∷ []) (z-grugavorn-down .1 .1 .1 .1 .0) (len-grugavorn-down-out ∙ (repeat-is u8 0 (vint w8 0) (refl, lit< tt) 2056) .1 .0 .1) δ-grugavorn-down-out) $ await ! tt $
+          learn ! (λ is-grugavorn-down-out-back. forget ! 21 refl $ forget ! 17 refl $
+          keep ! (7 ∷ 8 ∷ 9 ∷ 10 ∷ 11 ∷ 12 ∷ 13 ∷ 14 ∷ 15 ∷ 16 ∷ 17 ∷ 18 ∷ 19 ∷ 20 ∷ 21 ∷ 22 ∷ 23 ∷ 24 ∷ 25 ∷ 26 ∷ 0 ∷ 27 ∷ 28 ∷ 29 ∷ 30 ∷ 31 ∷ 32 ∷ 33 ∷ 34 ∷ 35 ∷ 36 ∷ 37 ∷ 38 ∷ 39 ∷ 40 ∷ 41 ∷ 42 ∷ 43 ∷ 44 ∷ 45 ∷ 5 ∷ 1 ∷ 6 ∷ 2 ∷ 4 ∷ 3 ∷ 46 ∷ []) $
           part-9 w-front r-front e-front is-front w-node-of r-node-of e-node-of is-node-of w-grugavorn-down r-grugavorn-down z-grugavorn-down e-grugavorn-down is-grugavorn-down len-grugavorn-down-out is-grugavorn-down-out-back)))))))))))
 
-      part-2 : (w-front : Val) → (r-front : (RefT (List ℕ))) → (e-front : now r-front ≡ take size (octets .now)) → (is-front : Is (ShrSlice (named 1) κ₁ u8) r-front (w-front ∷ [])) → Sq W (‵ (froom (sliceTy (tyRef erased mut (pointee (u8 .written)))) l₁₇ 0) ∷ ‵ (fdies (sliceTy (tyRef erased mut (pointee (u8 .written)))) l₁₇) ∷ ‵ (froom (tyRef erased mut (pointee (u8 .written))) l₁₆ 0) ∷ ‵ (fdies (tyRef erased mut (pointee (u8 .written))) l₁₆) ∷ ‵ (froom (sliceTy (tyRef erased imm (pointee (u8 .written)))) l₁₅ 0) ∷ ‵ (fdies (sliceTy (tyRef erased imm (pointee (u8 .written)))) l₁₅) ∷ ‵ (froom (tyRef erased imm (pointee ((Array u8 2056) .written))) l₁₄ 0) ∷ ‵ (fdies (tyRef erased imm (pointee ((Array u8 2056) .written))) l₁₄) ∷ ‵ (froom (sliceTy (tyRef erased mut (pointee (u8 .written)))) l₁₃ 0) ∷ ‵ (fdies (sliceTy (tyRef erased mut (pointee (u8 .written)))) l₁₃) ∷ ‵ (froom (tyRef erased mut (pointee ((Array u8 2056) .written))) l₁₂ 0) ∷ ‵ (fdies (tyRef erased mut (pointee ((Array u8 2056) .written))) l₁₂) ∷ ‵ (froom (sliceTy (tyRef erased imm (pointee (Session-t.the-row .written)))) l₁₁ 0) ∷ ‵ (fdies (sliceTy (tyRef erased imm (pointee (Session-t.the-row .written)))) l₁₁) ∷ ‵ (froom (tyRef erased imm (pointee (Session-t.the-row .written))) l₁₀ 0) ∷ ‵ (fdies (tyRef erased imm (pointee (Session-t.the-row .written))) l₁₀) ∷ ‵ (froom Written-l.mir l₉ 0) ∷ ‵ (fdies Written-l.mir l₉) ∷ ‵ (froom Node-l.mir l₈ 0) ∷ ‵ (fdies Node-l.mir l₈) ∷ ‵ (froom (tyArray (tyInt w8) 2056) l₇ 0) ∷ ‵ (fdies (tyArray (tyInt w8) 2056) l₇) ∷ ‵ (fat fullShare (sliceTy (tyRef erased imm (pointee (u8 .written)))) l₆ 0 w-front) ∷ ‵ (fdies (sliceTy (tyRef erased imm (pointee (u8 .written)))) l₆) ∷ ‵ (fat fullShare (sliceTy (tyRef (named 2) mut (pointee (u8 .written)))) l₅ 0 v-out) ∷ ‵ (fdies (sliceTy (tyRef (named 2) mut (pointee (u8 .written)))) l₅) ∷ ‵ (fat fullShare (tyInt w64) l₄ 0 v-size) ∷ ‵ (fdies (tyInt w64) l₄) ∷ ‵ (fat fullShare (sliceTy (tyRef (named 1) imm (pointee (u8 .written)))) l₃ 0 v-octets) ∷ ‵ (fdies (sliceTy (tyRef (named 1) imm (pointee (u8 .written)))) l₃) ∷ ‵ (fat fullShare (sliceTy (tyRef (named 0) mut (pointee (Session-t.the-row .written)))) l₂ 0 v-recs) ∷ ‵ (fdies (sliceTy (tyRef (named 0) mut (pointee (Session-t.the-row .written)))) l₂) ∷ ‵ (fat fullShare Bench-l.mir l₁ 0 v-b) ∷ ‵ (fdies Bench-l.mir l₁) ∷ ‵ (froom Bench-l.mir l₀ 0) ∷ ‵ (fdies Bench-l.mir l₀) ∷ ‵ Own-octets ∷ ‵ Own-out ∷ ‵ ((ShrSlice (named 1) κ₁ u8) .own r-front (w-front ∷ [])) ∷ ‵ Own-recs ∷ ‵ (flft κ₀ q₀) ∷ ‵ (flft κ₁ q₁) ∷ ‵ (flft κ₂ q₂) ∷ []) (runs C Λ (En l₀ l₁ l₂ l₃ l₄ l₅ l₆ l₇ l₈ l₉ l₁₀ l₁₁ l₁₂ l₁₃ l₁₄ l₁₅ l₁₆ l₁₇) mir.t-2 (atRet (En l₀ l₁ l₂ l₃ l₄ l₅ l₆ l₇ l₈ l₉ l₁₀ l₁₁ l₁₂ l₁₃ l₁₄ l₁₅ l₁₆ l₁₇) Post))
+      part-2 : (w-front : Val) → (r-front : (RefT (List ℕ))) → (e-front : now r-front ≡ take size (octets .now)) → (is-front : Is (ShrSlice (named 2) κ₂ u8) r-front (w-front ∷ [])) → Sq W (‵ (froom (sliceTy (tyRef erased mut (pointee (u8 .written)))) l₁₈ 0) ∷ ‵ (fdies (sliceTy (tyRef erased mut (pointee (u8 .written)))) l₁₈) ∷ ‵ (froom (tyRef erased mut (pointee (u8 .written))) l₁₇ 0) ∷ ‵ (fdies (tyRef erased mut (pointee (u8 .written))) l₁₇) ∷ ‵ (froom (sliceTy (tyRef erased imm (pointee (u8 .written)))) l₁₆ 0) ∷ ‵ (fdies (sliceTy (tyRef erased imm (pointee (u8 .written)))) l₁₆) ∷ ‵ (froom (tyRef erased imm (pointee ((Array u8 2056) .written))) l₁₅ 0) ∷ ‵ (fdies (tyRef erased imm (pointee ((Array u8 2056) .written))) l₁₅) ∷ ‵ (froom (sliceTy (tyRef erased mut (pointee (u8 .written)))) l₁₄ 0) ∷ ‵ (fdies (sliceTy (tyRef erased mut (pointee (u8 .written)))) l₁₄) ∷ ‵ (froom (tyRef erased mut (pointee ((Array u8 2056) .written))) l₁₃ 0) ∷ ‵ (fdies (tyRef erased mut (pointee ((Array u8 2056) .written))) l₁₃) ∷ ‵ (froom (sliceTy (tyRef erased imm (pointee (Session-t.the-row .written)))) l₁₂ 0) ∷ ‵ (fdies (sliceTy (tyRef erased imm (pointee (Session-t.the-row .written)))) l₁₂) ∷ ‵ (froom (tyRef erased imm (pointee (Session-t.the-row .written))) l₁₁ 0) ∷ ‵ (fdies (tyRef erased imm (pointee (Session-t.the-row .written))) l₁₁) ∷ ‵ (froom Written-l.mir l₁₀ 0) ∷ ‵ (fdies Written-l.mir l₁₀) ∷ ‵ (froom Node-l.mir l₉ 0) ∷ ‵ (fdies Node-l.mir l₉) ∷ ‵ (froom (tyArray (tyInt w8) 2056) l₈ 0) ∷ ‵ (fdies (tyArray (tyInt w8) 2056) l₈) ∷ ‵ (fat fullShare (sliceTy (tyRef erased imm (pointee (u8 .written)))) l₇ 0 w-front) ∷ ‵ (fdies (sliceTy (tyRef erased imm (pointee (u8 .written)))) l₇) ∷ ‵ (fat fullShare (sliceTy (tyRef (named 3) mut (pointee (u8 .written)))) l₆ 0 v-out) ∷ ‵ (fdies (sliceTy (tyRef (named 3) mut (pointee (u8 .written)))) l₆) ∷ ‵ (fat fullShare (tyInt w64) l₅ 0 v-size) ∷ ‵ (fdies (tyInt w64) l₅) ∷ ‵ (fat fullShare (sliceTy (tyRef (named 2) imm (pointee (u8 .written)))) l₄ 0 v-octets) ∷ ‵ (fdies (sliceTy (tyRef (named 2) imm (pointee (u8 .written)))) l₄) ∷ ‵ (fat fullShare (sliceTy (tyRef (named 1) imm (pointee ((Array u8 139) .written)))) l₃ 0 v-store) ∷ ‵ (fdies (sliceTy (tyRef (named 1) imm (pointee ((Array u8 139) .written)))) l₃) ∷ ‵ (fat fullShare (sliceTy (tyRef (named 0) mut (pointee (Session-t.the-row .written)))) l₂ 0 v-recs) ∷ ‵ (fdies (sliceTy (tyRef (named 0) mut (pointee (Session-t.the-row .written)))) l₂) ∷ ‵ (fat fullShare Bench-l.mir l₁ 0 v-b) ∷ ‵ (fdies Bench-l.mir l₁) ∷ ‵ (froom Bench-l.mir l₀ 0) ∷ ‵ (fdies Bench-l.mir l₀) ∷ ‵ Own-octets ∷ ‵ Own-out ∷ ‵ ((ShrSlice (named 2) κ₂ u8) .own r-front (w-front ∷ [])) ∷ ‵ Own-recs ∷ ‵ Own-store ∷ ‵ (flft κ₀ q₀) ∷ ‵ (flft κ₁ q₁) ∷ ‵ (flft κ₂ q₂) ∷ ‵ (flft κ₃ q₃) ∷ []) (runs C Λ (En l₀ l₁ l₂ l₃ l₄ l₅ l₆ l₇ l₈ l₉ l₁₀ l₁₁ l₁₂ l₁₃ l₁₄ l₁₅ l₁₆ l₁₇ l₁₈) mir.t-2 (atRet (En l₀ l₁ l₂ l₃ l₄ l₅ l₆ l₇ l₈ l₉ l₁₀ l₁₁ l₁₂ l₁₃ l₁₄ l₁₅ l₁₆ l₁₇ l₁₈) Post))
       unfolding gpduMost datagramMost
       part-2 w-front r-front e-front is-front =
-          -- _7 = [0; 2056]
+          -- _8 = [0; 2056]
           assigns ! (rep ! 2056 (lit ! tt)) (from ! (stop !)) (init ! 20 refl (array-lawful 𝓤 H A W u8 (uint-lawful 𝓤 H A W w8) 2056 .typed (replicate {A = ℕ} 2056 0) _ (repeat-is u8 0 (vint w8 0) (refl, lit< tt) 2056) .0)) $
-          -- _8 = node_of(_1)
+          -- _9 = node_of(_1)
           nothing ! $ nothing ! $ owned ! Bench-t.the-row (Is Bench-t.the-row) (LL.makes Bench-t.the-type Bench-l.the-plain 𝓤 H A) b _ is-b $ fjoin ! $ move ! (1 ∷ 0 ∷ []) $
           use2 W (raw (c-node-of 𝓤 H A mem run .pre ((tt, tt, tt, (b, tt), (v-b ∷ [], tt)), tt))) (qed W ((‵ ftrue) ∷ ‵ (fsep (Bench-t.the-row .own b (v-b ∷ [])) ftrue) ∷ []) ∵ join ! $ frame ! $ done !) $
-          calls-at ! fm (c-node-of 𝓤 H A mem run) known-node-of ((tt, tt, tt, (b, tt), (v-b ∷ [], tt)), tt) (and-then ! (load ! (from ! (stop !)) (look ! 33 refl)) (no-more !)) (λ w-node-of.
+          calls-at ! fm (c-node-of 𝓤 H A mem run) known-node-of ((tt, tt, tt, (b, tt), (v-b ∷ [], tt)), tt) (and-then ! (load ! (from ! (stop !)) (look ! 35 refl)) (no-more !)) (λ w-node-of.
           use1 W (later (some (λ (r-node-of : Node). ((‵ ftrue) ⊛ ‵ (Node-t.the-row .own r-node-of (w-node-of ∷ []))) ⊛ raw (ensured 𝓤 H A c-node-of′.ended (c-node-of′.clauses 𝓤 H A mem run) tt (b, tt) tt r-node-of)))) (id⊢ 𝓤 _) $ await ! tt $
           pick ! (λ r-node-of. split ! $ move ! (1 ∷ []) $ use1 W (some (λ (z-node-of : (Unit {0}) × Unit {0}). ‵ (lasts c-node-of′.ended tt (b, tt) z-node-of) ⊛ raw (fact 𝓤 (r-node-of ≡ b .node)))) (id⊢ 𝓤 _) $ pick ! (λ z-node-of. split ! $
           move ! (1 ∷ []) $ heard ! (r-node-of ≡ b .node) (λ e-node-of. fsplit ! $ drop ! $ drop ! $ split ! $ drop ! $ peeks ! Node-t.the-row (Is Node-t.the-row) (shows 𝓤 H A Node-t.the-row) r-node-of (w-node-of ∷ []) (λ is-node-of.
           land ! (from ! (stop !)) (init ! 19 refl (LL.lawful Node-t.the-type Node-l.the-laws 𝓤 H A W .typed r-node-of _ is-node-of .0)) $ drop ! $
-          keep ! (0 ∷ 1 ∷ 2 ∷ 3 ∷ 4 ∷ 5 ∷ 6 ∷ 7 ∷ 8 ∷ 9 ∷ 10 ∷ 11 ∷ 12 ∷ 13 ∷ 14 ∷ 15 ∷ 16 ∷ 17 ∷ 18 ∷ 19 ∷ 20 ∷ 21 ∷ 22 ∷ 23 ∷ 24 ∷ 25 ∷ 26 ∷ 27 ∷ 28 ∷ 29 ∷ 30 ∷ 31 ∷ 32 ∷ 33 ∷ 34 ∷ 35 ∷ 36 ∷ 37 ∷ 38 ∷ 39 ∷ 40 ∷ 41 ∷ 42 ∷ []) $
+          keep ! (0 ∷ 1 ∷ 2 ∷ 3 ∷ 4 ∷ 5 ∷ 6 ∷ 7 ∷ 8 ∷ 9 ∷ 10 ∷ 11 ∷ 12 ∷ 13 ∷ 14 ∷ 15 ∷ 16 ∷ 17 ∷ 18 ∷ 19 ∷ 20 ∷ 21 ∷ 22 ∷ 23 ∷ 24 ∷ 25 ∷ 26 ∷ 27 ∷ 28 ∷ 29 ∷ 30 ∷ 31 ∷ 32 ∷ 33 ∷ 34 ∷ 35 ∷ 36 ∷ 37 ∷ 38 ∷ 39 ∷ 40 ∷ 41 ∷ 42 ∷ 43 ∷ 44 ∷ 45 ∷ 46 ∷ []) $
           part-4 w-front r-front e-front is-front w-node-of r-node-of e-node-of is-node-of)))))
 
-      part-1 : Sq W (‵ (froom (sliceTy (tyRef erased mut (pointee (u8 .written)))) l₁₇ 0) ∷ ‵ (fdies (sliceTy (tyRef erased mut (pointee (u8 .written)))) l₁₇) ∷ ‵ (froom (tyRef erased mut (pointee (u8 .written))) l₁₆ 0) ∷ ‵ (fdies (tyRef erased mut (pointee (u8 .written))) l₁₆) ∷ ‵ (froom (sliceTy (tyRef erased imm (pointee (u8 .written)))) l₁₅ 0) ∷ ‵ (fdies (sliceTy (tyRef erased imm (pointee (u8 .written)))) l₁₅) ∷ ‵ (froom (tyRef erased imm (pointee ((Array u8 2056) .written))) l₁₄ 0) ∷ ‵ (fdies (tyRef erased imm (pointee ((Array u8 2056) .written))) l₁₄) ∷ ‵ (froom (sliceTy (tyRef erased mut (pointee (u8 .written)))) l₁₃ 0) ∷ ‵ (fdies (sliceTy (tyRef erased mut (pointee (u8 .written)))) l₁₃) ∷ ‵ (froom (tyRef erased mut (pointee ((Array u8 2056) .written))) l₁₂ 0) ∷ ‵ (fdies (tyRef erased mut (pointee ((Array u8 2056) .written))) l₁₂) ∷ ‵ (froom (sliceTy (tyRef erased imm (pointee (Session-t.the-row .written)))) l₁₁ 0) ∷ ‵ (fdies (sliceTy (tyRef erased imm (pointee (Session-t.the-row .written)))) l₁₁) ∷ ‵ (froom (tyRef erased imm (pointee (Session-t.the-row .written))) l₁₀ 0) ∷ ‵ (fdies (tyRef erased imm (pointee (Session-t.the-row .written))) l₁₀) ∷ ‵ (froom Written-l.mir l₉ 0) ∷ ‵ (fdies Written-l.mir l₉) ∷ ‵ (froom Node-l.mir l₈ 0) ∷ ‵ (fdies Node-l.mir l₈) ∷ ‵ (froom (tyArray (tyInt w8) 2056) l₇ 0) ∷ ‵ (fdies (tyArray (tyInt w8) 2056) l₇) ∷ ‵ (froom (sliceTy (tyRef erased imm (pointee (u8 .written)))) l₆ 0) ∷ ‵ (fdies (sliceTy (tyRef erased imm (pointee (u8 .written)))) l₆) ∷ ‵ (fat fullShare (sliceTy (tyRef (named 2) mut (pointee (u8 .written)))) l₅ 0 v-out) ∷ ‵ (fdies (sliceTy (tyRef (named 2) mut (pointee (u8 .written)))) l₅) ∷ ‵ (fat fullShare (tyInt w64) l₄ 0 v-size) ∷ ‵ (fdies (tyInt w64) l₄) ∷ ‵ (fat fullShare (sliceTy (tyRef (named 1) imm (pointee (u8 .written)))) l₃ 0 v-octets) ∷ ‵ (fdies (sliceTy (tyRef (named 1) imm (pointee (u8 .written)))) l₃) ∷ ‵ (fat fullShare (sliceTy (tyRef (named 0) mut (pointee (Session-t.the-row .written)))) l₂ 0 v-recs) ∷ ‵ (fdies (sliceTy (tyRef (named 0) mut (pointee (Session-t.the-row .written)))) l₂) ∷ ‵ (fat fullShare Bench-l.mir l₁ 0 v-b) ∷ ‵ (fdies Bench-l.mir l₁) ∷ ‵ (froom Bench-l.mir l₀ 0) ∷ ‵ (fdies Bench-l.mir l₀) ∷ ‵ Own-octets ∷ ‵ Own-out ∷ ‵ Own-recs ∷ ‵ (flft κ₀ q₀) ∷ ‵ (flft κ₁ q₁) ∷ ‵ (flft κ₂ q₂) ∷ []) (runs C Λ (En l₀ l₁ l₂ l₃ l₄ l₅ l₆ l₇ l₈ l₉ l₁₀ l₁₁ l₁₂ l₁₃ l₁₄ l₁₅ l₁₆ l₁₇) mir.t-1 (atRet (En l₀ l₁ l₂ l₃ l₄ l₅ l₆ l₇ l₈ l₉ l₁₀ l₁₁ l₁₂ l₁₃ l₁₄ l₁₅ l₁₆ l₁₇) Post))
+      part-1 : Sq W (‵ (froom (sliceTy (tyRef erased mut (pointee (u8 .written)))) l₁₈ 0) ∷ ‵ (fdies (sliceTy (tyRef erased mut (pointee (u8 .written)))) l₁₈) ∷ ‵ (froom (tyRef erased mut (pointee (u8 .written))) l₁₇ 0) ∷ ‵ (fdies (tyRef erased mut (pointee (u8 .written))) l₁₇) ∷ ‵ (froom (sliceTy (tyRef erased imm (pointee (u8 .written)))) l₁₆ 0) ∷ ‵ (fdies (sliceTy (tyRef erased imm (pointee (u8 .written)))) l₁₆) ∷ ‵ (froom (tyRef erased imm (pointee ((Array u8 2056) .written))) l₁₅ 0) ∷ ‵ (fdies (tyRef erased imm (pointee ((Array u8 2056) .written))) l₁₅) ∷ ‵ (froom (sliceTy (tyRef erased mut (pointee (u8 .written)))) l₁₄ 0) ∷ ‵ (fdies (sliceTy (tyRef erased mut (pointee (u8 .written)))) l₁₄) ∷ ‵ (froom (tyRef erased mut (pointee ((Array u8 2056) .written))) l₁₃ 0) ∷ ‵ (fdies (tyRef erased mut (pointee ((Array u8 2056) .written))) l₁₃) ∷ ‵ (froom (sliceTy (tyRef erased imm (pointee (Session-t.the-row .written)))) l₁₂ 0) ∷ ‵ (fdies (sliceTy (tyRef erased imm (pointee (Session-t.the-row .written)))) l₁₂) ∷ ‵ (froom (tyRef erased imm (pointee (Session-t.the-row .written))) l₁₁ 0) ∷ ‵ (fdies (tyRef erased imm (pointee (Session-t.the-row .written))) l₁₁) ∷ ‵ (froom Written-l.mir l₁₀ 0) ∷ ‵ (fdies Written-l.mir l₁₀) ∷ ‵ (froom Node-l.mir l₉ 0) ∷ ‵ (fdies Node-l.mir l₉) ∷ ‵ (froom (tyArray (tyInt w8) 2056) l₈ 0) ∷ ‵ (fdies (tyArray (tyInt w8) 2056) l₈) ∷ ‵ (froom (sliceTy (tyRef erased imm (pointee (u8 .written)))) l₇ 0) ∷ ‵ (fdies (sliceTy (tyRef erased imm (pointee (u8 .written)))) l₇) ∷ ‵ (fat fullShare (sliceTy (tyRef (named 3) mut (pointee (u8 .written)))) l₆ 0 v-out) ∷ ‵ (fdies (sliceTy (tyRef (named 3) mut (pointee (u8 .written)))) l₆) ∷ ‵ (fat fullShare (tyInt w64) l₅ 0 v-size) ∷ ‵ (fdies (tyInt w64) l₅) ∷ ‵ (fat fullShare (sliceTy (tyRef (named 2) imm (pointee (u8 .written)))) l₄ 0 v-octets) ∷ ‵ (fdies (sliceTy (tyRef (named 2) imm (pointee (u8 .written)))) l₄) ∷ ‵ (fat fullShare (sliceTy (tyRef (named 1) imm (pointee ((Array u8 139) .written)))) l₃ 0 v-store) ∷ ‵ (fdies (sliceTy (tyRef (named 1) imm (pointee ((Array u8 139) .written)))) l₃) ∷ ‵ (fat fullShare (sliceTy (tyRef (named 0) mut (pointee (Session-t.the-row .written)))) l₂ 0 v-recs) ∷ ‵ (fdies (sliceTy (tyRef (named 0) mut (pointee (Session-t.the-row .written)))) l₂) ∷ ‵ (fat fullShare Bench-l.mir l₁ 0 v-b) ∷ ‵ (fdies Bench-l.mir l₁) ∷ ‵ (froom Bench-l.mir l₀ 0) ∷ ‵ (fdies Bench-l.mir l₀) ∷ ‵ Own-octets ∷ ‵ Own-out ∷ ‵ Own-recs ∷ ‵ Own-store ∷ ‵ (flft κ₀ q₀) ∷ ‵ (flft κ₁ q₁) ∷ ‵ (flft κ₂ q₂) ∷ ‵ (flft κ₃ q₃) ∷ []) (runs C Λ (En l₀ l₁ l₂ l₃ l₄ l₅ l₆ l₇ l₈ l₉ l₁₀ l₁₁ l₁₂ l₁₃ l₁₄ l₁₅ l₁₆ l₁₇ l₁₈) mir.t-1 (atRet (En l₀ l₁ l₂ l₃ l₄ l₅ l₆ l₇ l₈ l₉ l₁₀ l₁₁ l₁₂ l₁₃ l₁₄ l₁₅ l₁₆ l₁₇ l₁₈) Post))
       unfolding gpduMost datagramMost
       part-1 =
-          -- _6 = front(_3, _4)
-          move ! (36 ∷ []) $ use1 W (‵ Own-octets ⊛ ‵ Own-octets) (shr-slice-copy 𝓤 H A W (named 1) κ₁ u8 .twice octets (v-octets ∷ [])) $ split ! $ nothing ! $ move ! (42 ∷ 0 ∷ []) $ join ! $ nothing ! $
+          -- _7 = front(_4, _5)
+          move ! (38 ∷ []) $ use1 W (‵ Own-octets ⊛ ‵ Own-octets) (shr-slice-copy 𝓤 H A W (named 2) κ₂ u8 .twice octets (v-octets ∷ [])) $ split ! $ nothing ! $ move ! (46 ∷ 0 ∷ []) $ join ! $ nothing ! $
           owned ! usize (Is usize) (uint-makes 𝓤 H A W w64) size _ is-size $ fjoin ! $ move ! (3 ∷ 0 ∷ []) $ fjoin ! $ move ! (1 ∷ 0 ∷ []) $
-          use2 W (raw (c-front 𝓤 H A mem run .pre (((κ₁, tt), (q₁, tt), tt, (octets, (size, tt)), (v-octets ∷ [], (v-size ∷ [], tt))), tt))) (qed W ((‵ (flft κ₁ q₁) ⊛ ‵ ftrue) ∷ ‵ (fsep Own-octets (fsep (usize .own size (v-size ∷ [])) ftrue)) ∷ []) ∵ join ! $ frame ! $ done !) $
-          calls-at ! fm (c-front 𝓤 H A mem run) known-front (((κ₁, tt), (q₁, tt), tt, (octets, (size, tt)), (v-octets ∷ [], (v-size ∷ [], tt))), tt) (and-then ! (load ! (from ! (stop !)) (look ! 30 refl)) (and-then ! (load ! (from ! (stop !)) (look ! 28 refl)) (no-more !))) (λ w-front.
-          use1 W (later (some (λ (r-front : (RefT (List ℕ))). ((‵ (flft κ₁ q₁) ⊛ ‵ ftrue) ⊛ ‵ ((ShrSlice (named 1) κ₁ u8) .own r-front (w-front ∷ []))) ⊛ raw (ensured 𝓤 H A c-front′.ended (c-front′.clauses 𝓤 H A mem run) (κ₁, tt) (octets, (size, tt)) tt r-front)))) (id⊢ 𝓤 _) $ await ! tt $
+          use2 W (raw (c-front 𝓤 H A mem run .pre (((κ₂, tt), (q₂, tt), tt, (octets, (size, tt)), (v-octets ∷ [], (v-size ∷ [], tt))), tt))) (qed W ((‵ (flft κ₂ q₂) ⊛ ‵ ftrue) ∷ ‵ (fsep Own-octets (fsep (usize .own size (v-size ∷ [])) ftrue)) ∷ []) ∵ join ! $ frame ! $ done !) $
+          calls-at ! fm (c-front 𝓤 H A mem run) known-front (((κ₂, tt), (q₂, tt), tt, (octets, (size, tt)), (v-octets ∷ [], (v-size ∷ [], tt))), tt) (and-then ! (load ! (from ! (stop !)) (look ! 30 refl)) (and-then ! (load ! (from ! (stop !)) (look ! 28 refl)) (no-more !))) (λ w-front.
+          use1 W (later (some (λ (r-front : (RefT (List ℕ))). ((‵ (flft κ₂ q₂) ⊛ ‵ ftrue) ⊛ ‵ ((ShrSlice (named 2) κ₂ u8) .own r-front (w-front ∷ []))) ⊛ raw (ensured 𝓤 H A c-front′.ended (c-front′.clauses 𝓤 H A mem run) (κ₂, tt) (octets, (size, tt)) tt r-front)))) (id⊢ 𝓤 _) $ await ! tt $
           pick ! (λ r-front. split ! $ move ! (1 ∷ []) $
-          use1 W (some (λ (z-front : (Unit {0}) × ((Unit {0}) × Unit {0})). ‵ (lasts c-front′.ended (κ₁, tt) (octets, (size, tt)) z-front) ⊛ raw (fact 𝓤 (now r-front ≡ take size (octets .now))))) (id⊢ 𝓤 _) $ pick ! (λ z-front. split ! $
+          use1 W (some (λ (z-front : (Unit {0}) × ((Unit {0}) × Unit {0})). ‵ (lasts c-front′.ended (κ₂, tt) (octets, (size, tt)) z-front) ⊛ raw (fact 𝓤 (now r-front ≡ take size (octets .now))))) (id⊢ 𝓤 _) $ pick ! (λ z-front. split ! $
           move ! (1 ∷ []) $ heard ! (now r-front ≡ take size (octets .now)) (λ e-front. fsplit ! $ drop ! $ fsplit ! $ drop ! $ drop ! $ split ! $ split ! $ move ! (1 ∷ []) $ drop ! $ move ! (1 ∷ []) $
-          peeks ! (ShrSlice (named 1) κ₁ u8) (Is (ShrSlice (named 1) κ₁ u8)) (shows 𝓤 H A (ShrSlice (named 1) κ₁ u8)) r-front (w-front ∷ []) (λ is-front.
-          land ! (from ! (stop !)) (init ! 25 refl (shr-slice-lawful 𝓤 H A W (named 1) κ₁ u8 .typed r-front _ is-front .0)) $
-          keep ! (3 ∷ 4 ∷ 5 ∷ 6 ∷ 7 ∷ 8 ∷ 9 ∷ 10 ∷ 11 ∷ 12 ∷ 13 ∷ 14 ∷ 15 ∷ 16 ∷ 17 ∷ 18 ∷ 19 ∷ 20 ∷ 21 ∷ 22 ∷ 23 ∷ 24 ∷ 25 ∷ 26 ∷ 27 ∷ 28 ∷ 29 ∷ 30 ∷ 31 ∷ 32 ∷ 33 ∷ 34 ∷ 35 ∷ 36 ∷ 37 ∷ 38 ∷ 2 ∷ 39 ∷ 0 ∷ 40 ∷ 41 ∷ 1 ∷ 42 ∷ []) $
+          peeks ! (ShrSlice (named 2) κ₂ u8) (Is (ShrSlice (named 2) κ₂ u8)) (shows 𝓤 H A (ShrSlice (named 2) κ₂ u8)) r-front (w-front ∷ []) (λ is-front.
+          land ! (from ! (stop !)) (init ! 25 refl (shr-slice-lawful 𝓤 H A W (named 2) κ₂ u8 .typed r-front _ is-front .0)) $
+          keep ! (3 ∷ 4 ∷ 5 ∷ 6 ∷ 7 ∷ 8 ∷ 9 ∷ 10 ∷ 11 ∷ 12 ∷ 13 ∷ 14 ∷ 15 ∷ 16 ∷ 17 ∷ 18 ∷ 19 ∷ 20 ∷ 21 ∷ 22 ∷ 23 ∷ 24 ∷ 25 ∷ 26 ∷ 27 ∷ 28 ∷ 29 ∷ 30 ∷ 31 ∷ 32 ∷ 33 ∷ 34 ∷ 35 ∷ 36 ∷ 37 ∷ 38 ∷ 39 ∷ 40 ∷ 2 ∷ 41 ∷ 0 ∷ 42 ∷ 43 ∷ 44 ∷ 45 ∷ 1 ∷ 46 ∷ []) $
           part-2 w-front r-front e-front is-front)))))
 
-    walk : Is Bench-t.the-row b (v-b ∷ []) → Room Session-t.the-row (length (recs .now)) → Room u8 (length (octets .now)) → Is usize size (v-size ∷ []) → Room u8 (length (out .now)) → ent 𝓤 (onEntry 𝓤 H A entry′.signature (κ₀, (κ₁, (κ₂, tt))) (q₀, (q₁, (q₂, tt))) a at) (WpFn 𝓤 H C Λ code.function (v-b ∷ v-recs ∷ v-octets ∷ v-size ∷ v-out ∷ []) Post)
+    walk : Is Bench-t.the-row b (v-b ∷ []) → Room Session-t.the-row (length (recs .now)) → Room (Array u8 139) (length (store .now)) → Room u8 (length (octets .now)) → Is usize size (v-size ∷ []) → Room u8 (length (out .now)) → ent 𝓤 (onEntry 𝓤 H A entry′.signature (κ₀, (κ₁, (κ₂, (κ₃, tt)))) (q₀, (q₁, (q₂, (q₃, tt)))) a at) (WpFn 𝓤 H C Λ code.function (v-b ∷ v-recs ∷ v-store ∷ v-octets ∷ v-size ∷ v-out ∷ []) Post)
     unfolding gpduMost datagramMost
-    walk is-b room-recs room-octets is-size room-out =
-        qed W ((Toks) ∷ ‵ (owns (Bench-t.the-row ∷ (MutSlice (named 0) κ₀ Session-t.the-row) ∷ (ShrSlice (named 1) κ₁ u8) ∷ usize ∷ (MutSlice (named 2) κ₂ u8) ∷ []) a at) ∷ []) ∵ enter ! C Λ code.function (v-b ∷ v-recs ∷ v-octets ∷ v-size ∷ v-out ∷ []) _ $
+    walk is-b room-recs room-store room-octets is-size room-out =
+        qed W ((Toks) ∷ ‵ (owns (Bench-t.the-row ∷ (MutSlice (named 0) κ₀ Session-t.the-row) ∷ (ShrSlice (named 1) κ₁ (Array u8 139)) ∷ (ShrSlice (named 2) κ₂ u8) ∷ usize ∷ (MutSlice (named 3) κ₃ u8) ∷ []) a at) ∷ []) ∵ enter ! C Λ code.function (v-b ∷ v-recs ∷ v-store ∷ v-octets ∷ v-size ∷ v-out ∷ []) _ $
         alloc1 ! (λ l₀. alloc1 ! (λ l₁. alloc1 ! (λ l₂. alloc1 ! (λ l₃. alloc1 ! (λ l₄. alloc1 ! (λ l₅. alloc1 ! (λ l₆. alloc1 ! (λ l₇. alloc1 ! (λ l₈. alloc1 ! (λ l₉. alloc1 ! (λ l₁₀. alloc1 ! (λ l₁₁. alloc1 ! (λ l₁₂. alloc1 ! (λ l₁₃.
-        alloc1 ! (λ l₁₄. alloc1 ! (λ l₁₅. alloc1 ! (λ l₁₆. alloc1 ! (λ l₁₇. alloc0 ! $ params1 ! $ pass1 ! (init ! 32 refl (LL.lawful Bench-t.the-type Bench-l.the-laws 𝓤 H A W .typed b _ is-b .0)) $
-        pass1 ! (init ! 30 refl (tt, (tt, (record { fits = room-recs .0 }, tt)))) $ pass1 ! (init ! 28 refl (tt, (tt, (record { fits = room-octets .0 }, tt)))) $ pass1 ! (init ! 26 refl (uint-lawful 𝓤 H A W w64 .typed size _ is-size .0)) $
-        pass1 ! (init ! 24 refl (tt, (tt, (record { fits = room-out .0 }, tt)))) $ pass0 ! $ move ! (36 ∷ []) $ split ! $ move ! (1 ∷ []) $ split ! $ move ! (1 ∷ []) $ split ! $ move ! (1 ∷ []) $ drop ! $ move ! (39 ∷ []) $ fsplit ! $
-        drop ! $ fsplit ! $ move ! (1 ∷ []) $ fsplit ! $ move ! (1 ∷ []) $ fsplit ! $ drop ! $ fsplit ! $ move ! (1 ∷ []) $ drop ! $
-        keep ! (6 ∷ 7 ∷ 8 ∷ 9 ∷ 10 ∷ 11 ∷ 12 ∷ 13 ∷ 14 ∷ 15 ∷ 16 ∷ 17 ∷ 18 ∷ 19 ∷ 20 ∷ 21 ∷ 22 ∷ 23 ∷ 24 ∷ 25 ∷ 26 ∷ 27 ∷ 28 ∷ 29 ∷ 30 ∷ 31 ∷ 32 ∷ 33 ∷ 34 ∷ 35 ∷ 36 ∷ 37 ∷ 38 ∷ 39 ∷ 40 ∷ 41 ∷ 1 ∷ 0 ∷ 2 ∷ 5 ∷ 4 ∷ 3 ∷ []) $
-        part-1 is-b room-recs room-octets is-size room-out l₀ l₁ l₂ l₃ l₄ l₅ l₆ l₇ l₈ l₉ l₁₀ l₁₁ l₁₂ l₁₃ l₁₄ l₁₅ l₁₆ l₁₇))))))))))))))))))
+        alloc1 ! (λ l₁₄. alloc1 ! (λ l₁₅. alloc1 ! (λ l₁₆. alloc1 ! (λ l₁₇. alloc1 ! (λ l₁₈. alloc0 ! $ params1 ! $ pass1 ! (init ! 34 refl (LL.lawful Bench-t.the-type Bench-l.the-laws 𝓤 H A W .typed b _ is-b .0)) $
+        pass1 ! (init ! 32 refl (tt, (tt, (record { fits = room-recs .0 }, tt)))) $ pass1 ! (init ! 30 refl (tt, (tt, (record { fits = room-store .0 }, tt)))) $ pass1 ! (init ! 28 refl (tt, (tt, (record { fits = room-octets .0 }, tt)))) $
+        pass1 ! (init ! 26 refl (uint-lawful 𝓤 H A W w64 .typed size _ is-size .0)) $ pass1 ! (init ! 24 refl (tt, (tt, (record { fits = room-out .0 }, tt)))) $ pass0 ! $ move ! (38 ∷ []) $ split ! $ move ! (1 ∷ []) $ split ! $
+        move ! (1 ∷ []) $ split ! $ move ! (1 ∷ []) $ split ! $ move ! (1 ∷ []) $ drop ! $ move ! (42 ∷ []) $ fsplit ! $ drop ! $ fsplit ! $ move ! (1 ∷ []) $ fsplit ! $ move ! (1 ∷ []) $ fsplit ! $ move ! (1 ∷ []) $ fsplit ! $ drop ! $
+        fsplit ! $ move ! (1 ∷ []) $ drop ! $
+        keep ! (8 ∷ 9 ∷ 10 ∷ 11 ∷ 12 ∷ 13 ∷ 14 ∷ 15 ∷ 16 ∷ 17 ∷ 18 ∷ 19 ∷ 20 ∷ 21 ∷ 22 ∷ 23 ∷ 24 ∷ 25 ∷ 26 ∷ 27 ∷ 28 ∷ 29 ∷ 30 ∷ 31 ∷ 32 ∷ 33 ∷ 34 ∷ 35 ∷ 36 ∷ 37 ∷ 38 ∷ 39 ∷ 40 ∷ 41 ∷ 42 ∷ 43 ∷ 44 ∷ 45 ∷ 1 ∷ 0 ∷ 3 ∷ 2 ∷ 7 ∷ 6 ∷ 5 ∷ 4 ∷ []) $
+        part-1 is-b room-recs room-store room-octets is-size room-out l₀ l₁ l₂ l₃ l₄ l₅ l₆ l₇ l₈ l₉ l₁₀ l₁₁ l₁₂ l₁₃ l₁₄ l₁₅ l₁₆ l₁₇ l₁₈)))))))))))))))))))
 
 module _ {M : Type 1} (𝓤 : URA M) (H : Heap 𝓤) (A : Atoms 𝓤) (W : Given 𝓤 H A) (mem : Memory → SProp 𝓤) (run : Routine → Fun 𝓤) where
   run-down-walks : (C : Calls 𝓤 H) (Λ : Loops 𝓤 H) → FmC 𝓤 H (W .laws) C → Triple 𝓤 (C #bench-unit·front) (c-front 𝓤 H A mem run) → Triple 𝓤 (C #bench-unit·node-of) (c-node-of 𝓤 H A mem run) → Triple 𝓤 (C #lent-down·grugavorn-down) (c-grugavorn-down 𝓤 H A mem run) → Triple 𝓤 (C #bench-run·show-down) (c-show-down 𝓤 H A mem run)
       → Walks 𝓤 H A entry′.ended stayed (WpFn 𝓤 H C Λ code.function) (entry′.clauses 𝓤 H A mem run)
   unfolding gpduMost datagramMost
   run-down-walks C Λ fm known-front known-node-of known-grugavorn-down known-show-down = walked 𝓤 H A entry′.ended stayed (entry′.clauses 𝓤 H A mem run) (WpFn 𝓤 H C Λ code.function)
-      (λ κs. (LL.vals Bench-t.the-type Bench-l.the-laws, (slice-vals, (slice-vals, (uint-vals w64, (slice-vals, tt)))))) (λ κs. (LL.tells Bench-t.the-type Bench-l.the-laws, (mut-slice-tells (named 0) (κs .0) Session-t.the-row, (shr-slice-tells (named 1) (κs .1 .0) u8, (uint-tells w64, (mut-slice-tells (named 2) (κs .1 .1 .0) u8, tt))))))
+      (λ κs. (LL.vals Bench-t.the-type Bench-l.the-laws, (slice-vals, (slice-vals, (slice-vals, (uint-vals w64, (slice-vals, tt))))))) (λ κs. (LL.tells Bench-t.the-type Bench-l.the-laws, (mut-slice-tells (named 0) (κs .0) Session-t.the-row, (shr-slice-tells (named 1) (κs .1 .0) (Array u8 139), (shr-slice-tells (named 2) (κs .1 .1 .0) u8, (uint-tells w64, (mut-slice-tells (named 3) (κs .1 .1 .1 .0) u8, tt)))))))
       (λ κs qs bounds a g are. via 𝓤 _ (fst∗ 𝓤 _ (emp 𝓤))
-      (walk 𝓤 H A W mem run (κs .0) (κs .1 .0) (κs .1 .1 .0) (qs .0) (qs .1 .0) (qs .1 .1 .0) (a .0) (a .1 .0 .ptr .0) (a .1 .0 .ptr .1) (a .1 .0 .name) (a .1 .0 .now) (a .1 .1 .0) (a .1 .1 .1 .0) (a .1 .1 .1 .1 .0 .ptr .0) (a .1 .1 .1 .1 .0 .ptr .1) (a .1 .1 .1 .1 .0 .name) (a .1 .1 .1 .1 .0 .now) C Λ fm known-front known-node-of known-grugavorn-down known-show-down (are .0) (are .1 .0 .0 .1) (are .1 .1 .0 .0 .1) (are .1 .1 .1 .0) (are .1 .1 .1 .1 .0 .0 .1)))
+      (walk 𝓤 H A W mem run (κs .0) (κs .1 .0) (κs .1 .1 .0) (κs .1 .1 .1 .0) (qs .0) (qs .1 .0) (qs .1 .1 .0) (qs .1 .1 .1 .0) (a .0) (a .1 .0 .ptr .0) (a .1 .0 .ptr .1) (a .1 .0 .name) (a .1 .0 .now) (a .1 .1 .0) (a .1 .1 .1 .0) (a .1 .1 .1 .1 .0) (a .1 .1 .1 .1 .1 .0 .ptr .0) (a .1 .1 .1 .1 .1 .0 .ptr .1) (a .1 .1 .1 .1 .1 .0 .name) (a .1 .1 .1 .1 .1 .0 .now) C Λ fm known-front known-node-of known-grugavorn-down known-show-down (are .0) (are .1 .0 .0 .1) (are .1 .1 .0 .0 .1) (are .1 .1 .1 .0 .0 .1) (are .1 .1 .1 .1 .0) (are .1 .1 .1 .1 .1 .0 .0 .1)))
 
 run-down-meets : {M : Type 1} (𝓤 : URA M) (H : Heap 𝓤) (A : Atoms 𝓤) → Given 𝓤 H A → (mem : Memory → SProp 𝓤) (run : Routine → Fun 𝓤) (𝓣 : Tables 𝓤 H)
     → Triple 𝓤 (𝓣 .C #bench-unit·front) (c-front 𝓤 H A mem run) → Triple 𝓤 (𝓣 .C #bench-unit·node-of) (c-node-of 𝓤 H A mem run) → Triple 𝓤 (𝓣 .C #lent-down·grugavorn-down) (c-grugavorn-down 𝓤 H A mem run) → Triple 𝓤 (𝓣 .C #bench-run·show-down) (c-show-down 𝓤 H A mem run)
     → Meets 𝓤 H A entry′.signature (WpFn 𝓤 H (𝓣 .C) (𝓣 .Λ) code.function) (entry′.spec 𝓤 H A mem run)
 unfolding gpduMost datagramMost
 run-down-meets 𝓤 H A W mem run 𝓣 known-front known-node-of known-grugavorn-down known-show-down =
-    walk-meets 𝓤 H A entry′.ended stayed W (goes-dropped 𝓤 H A W 3 (plain (λ _. Bench-t.the-row)) yes (λ κs x f. refl), (goes-gave-slice 𝓤 H A W 3 0 tt (plain (λ _. Session-t.the-row)), (goes-dropped 𝓤 H A W 3 (shrSliceOf (1 ∷ []) tt (plain (λ _. u8))) yes (λ κs x f. refl), (goes-dropped 𝓤 H A W 3 (plain (λ _. usize)) yes (λ κs x f. refl), (goes-gave-slice 𝓤 H A W 3 2 tt (plain (λ _. u8)), tt))))) (entry′.clauses 𝓤 H A mem run)
+    walk-meets 𝓤 H A entry′.ended stayed W (goes-dropped 𝓤 H A W 4 (plain (λ _. Bench-t.the-row)) yes (λ κs x f. refl), (goes-gave-slice 𝓤 H A W 4 0 tt (plain (λ _. Session-t.the-row)), (goes-dropped 𝓤 H A W 4 (shrSliceOf (1 ∷ []) tt (plain (λ _. (Array u8 139)))) yes (λ κs x f. refl), (goes-dropped 𝓤 H A W 4 (shrSliceOf (2 ∷ []) tt (plain (λ _. u8))) yes (λ κs x f. refl), (goes-dropped 𝓤 H A W 4 (plain (λ _. usize)) yes (λ κs x f. refl), (goes-gave-slice 𝓤 H A W 4 3 tt (plain (λ _. u8)), tt)))))) (entry′.clauses 𝓤 H A mem run)
     (WpFn 𝓤 H (𝓣 .C) (𝓣 .Λ) code.function) (WpFn-mono 𝓤 H (W .laws) 𝓣 code.function) (run-down-walks 𝓤 H A W mem run (𝓣 .C) (𝓣 .Λ) (fmOf 𝓤 H (W .laws) 𝓣) known-front known-node-of known-grugavorn-down known-show-down)
 
 pub run-down-spec : {M : Type 1} → stated.statement M

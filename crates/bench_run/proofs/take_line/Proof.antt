@@ -53,7 +53,7 @@ use Rattle.bench_run.proofs.take_line.Code as code
 use Rattle.bench_run.proofs.take_line.Code.Mir as mir
 
 abbrev stayed : Stays (entry′.ended .signature .params) (entry′.ended .kept)
-stayed = (stay-dropped (plain (λ _. Bench-t.the-row)) yes, (gave-slice (0 ∷ []) tt (plain (λ _. Session-t.the-row)), (stay-dropped (shrSliceOf (1 ∷ []) tt (plain (λ _. u8))) yes, (gave-slice (2 ∷ []) tt (plain (λ _. u8)), tt))))
+stayed = (stay-dropped (plain (λ _. Bench-t.the-row)) yes, (gave-slice (0 ∷ []) tt (plain (λ _. Session-t.the-row)), (gave-slice (1 ∷ []) tt (plain (λ _. (Array u8 139))), (stay-dropped (shrSliceOf (2 ∷ []) tt (plain (λ _. u8))) yes, (gave-slice (3 ∷ []) tt (plain (λ _. u8)), tt)))))
 
 module _ {M : Type 1} (𝓤 : URA M) (H : Heap 𝓤) (A : Atoms 𝓤) (mem : Memory → SProp 𝓤) (run : Routine → Fun 𝓤) where
   abbrev c-read-line : Contract 𝓤
@@ -77,12 +77,18 @@ module _ {M : Type 1} (𝓤 : URA M) (H : Heap 𝓤) (A : Atoms 𝓤) (mem : Mem
   abbrev c-early-line : Contract 𝓤
   c-early-line = tripleOf 𝓤 H A c-early-line′.signature (c-early-line′.spec 𝓤 H A mem run)
 
-module _ {M : Type 1} (𝓤 : URA M) (H : Heap 𝓤) (A : Atoms 𝓤) (W : Given 𝓤 H A) (mem : Memory → SProp 𝓤) (run : Routine → Fun 𝓤) (κ₀ κ₁ κ₂ : Lft) (q₀ q₁ q₂ : Share) (b : Bench) (b-recs o-recs : ℕ) (γ-recs : GName) (ys-recs : List Session) (text : (RefT (List ℕ))) (b-out o-out : ℕ) (γ-out : GName) (ys-out : List ℕ) where
+module _ {M : Type 1} (𝓤 : URA M) (H : Heap 𝓤) (A : Atoms 𝓤) (W : Given 𝓤 H A) (mem : Memory → SProp 𝓤) (run : Routine → Fun 𝓤) (κ₀ κ₁ κ₂ κ₃ : Lft) (q₀ q₁ q₂ q₃ : Share) (b : Bench) (b-recs o-recs : ℕ) (γ-recs : GName) (ys-recs : List Session) (b-store o-store : ℕ) (γ-store : GName) (ys-store : List (List ℕ)) (text : (RefT (List ℕ))) (b-out o-out : ℕ) (γ-out : GName) (ys-out : List ℕ) where
   abbrev recs-at : GName → List Session → RefT (List Session)
   recs-at δ l = record { ptr = (b-recs, o-recs); name = δ; now = l }
 
   abbrev recs : RefT (List Session)
   recs = recs-at γ-recs ys-recs
+
+  abbrev store-at : GName → List (List ℕ) → RefT (List (List ℕ))
+  store-at δ l = record { ptr = (b-store, o-store); name = δ; now = l }
+
+  abbrev store : RefT (List (List ℕ))
+  store = store-at γ-store ys-store
 
   abbrev out-at : GName → List ℕ → RefT (List ℕ)
   out-at δ l = record { ptr = (b-out, o-out); name = δ; now = l }
@@ -99,259 +105,277 @@ module _ {M : Type 1} (𝓤 : URA M) (H : Heap 𝓤) (A : Atoms 𝓤) (W : Given
   abbrev Own-recs : Fml
   Own-recs = (MutSlice (named 0) κ₀ Session-t.the-row) .own recs (v-recs ∷ [])
 
+  abbrev v-store : Val
+  v-store = sliceVal (store .ptr) (length (store .now))
+
+  abbrev Own-store : Fml
+  Own-store = (MutSlice (named 1) κ₁ (Array u8 139)) .own store (v-store ∷ [])
+
   abbrev v-text : Val
   v-text = sliceVal (text .ptr) (length (text .now))
 
   abbrev Own-text : Fml
-  Own-text = (ShrSlice (named 1) κ₁ u8) .own text (v-text ∷ [])
+  Own-text = (ShrSlice (named 2) κ₂ u8) .own text (v-text ∷ [])
 
   abbrev v-out : Val
   v-out = sliceVal (out .ptr) (length (out .now))
 
   abbrev Own-out : Fml
-  Own-out = (MutSlice (named 2) κ₂ u8) .own out (v-out ∷ [])
+  Own-out = (MutSlice (named 3) κ₃ u8) .own out (v-out ∷ [])
 
   abbrev Arg : Type 0
-  Arg = Bench × ((RefT (List Session)) × ((RefT (List ℕ)) × ((RefT (List ℕ)) × Unit {0})))
+  Arg = Bench × ((RefT (List Session)) × ((RefT (List (List ℕ))) × ((RefT (List ℕ)) × ((RefT (List ℕ)) × Unit {0}))))
 
   abbrev a : Arg
-  a = (b, (recs, (text, (out, tt))))
+  a = (b, (recs, (store, (text, (out, tt)))))
 
-  abbrev at : Vals entry′.signature (κ₀, (κ₁, (κ₂, tt)))
-  at = (v-b ∷ [], (v-recs ∷ [], (v-text ∷ [], (v-out ∷ [], tt))))
+  abbrev at : Vals entry′.signature (κ₀, (κ₁, (κ₂, (κ₃, tt))))
+  at = (v-b ∷ [], (v-recs ∷ [], (v-store ∷ [], (v-text ∷ [], (v-out ∷ [], tt)))))
 
   abbrev bound : walkOf 𝓤 H A entry′.ended stayed (entry′.clauses 𝓤 H A mem run) .Ghost
-  bound = (((κ₀, (κ₁, (κ₂, tt))), (q₀, (q₁, (q₂, tt))), tt, a, at), tt)
+  bound = (((κ₀, (κ₁, (κ₂, (κ₃, tt)))), (q₀, (q₁, (q₂, (q₃, tt)))), tt, a, at), tt)
 
   abbrev Post : Val → SProp 𝓤
   Post = walkOf 𝓤 H A entry′.ended stayed (entry′.clauses 𝓤 H A mem run) .post bound
 
   abbrev Toks : Item 𝓤
-  Toks = ‵ (flft κ₀ q₀) ⊛ ‵ (flft κ₁ q₁) ⊛ ‵ (flft κ₂ q₂) ⊛ ‵ ftrue
+  Toks = ‵ (flft κ₀ q₀) ⊛ ‵ (flft κ₁ q₁) ⊛ ‵ (flft κ₂ q₂) ⊛ ‵ (flft κ₃ q₃) ⊛ ‵ ftrue
 
-  abbrev En : (l₀ l₁ l₂ l₃ l₄ l₅ l₆ l₇ l₈ l₉ l₁₀ l₁₁ l₁₂ l₁₃ l₁₄ l₁₅ l₁₆ l₁₇ l₁₈ l₁₉ l₂₀ l₂₁ l₂₂ l₂₃ l₂₄ l₂₅ l₂₆ l₂₇ l₂₈ : ℕ) → Env 𝓤 H
-  En l₀ l₁ l₂ l₃ l₄ l₅ l₆ l₇ l₈ l₉ l₁₀ l₁₁ l₁₂ l₁₃ l₁₄ l₁₅ l₁₆ l₁₇ l₁₈ l₁₉ l₂₀ l₂₁ l₂₂ l₂₃ l₂₄ l₂₅ l₂₆ l₂₇ l₂₈ = (Bench-l.mir, l₀) ∷ (Bench-l.mir, l₁) ∷ ((sliceTy (tyRef (named 0) mut (pointee (Session-t.the-row .written)))), l₂) ∷ ((sliceTy (tyRef (named 1) imm (pointee (u8 .written)))), l₃) ∷ ((sliceTy (tyRef (named 2) mut (pointee (u8 .written)))), l₄) ∷ ((tyArray (tyInt w8) 2048), l₅) ∷ (Line-l.mir, l₆) ∷ (Bench-l.mir, l₇) ∷ ((tyInt w8), l₈) ∷ (tyBool, l₉) ∷ ((tyRef erased mut (pointee ((Array u8 2048) .written))), l₁₀) ∷ ((sliceTy (tyRef erased mut (pointee (u8 .written)))), l₁₁) ∷ (tyBool, l₁₂) ∷ ((tyRef erased mut (pointee (Session-t.the-row .written))), l₁₃) ∷ ((sliceTy (tyRef erased mut (pointee (Session-t.the-row .written)))), l₁₄) ∷ ((tyRef erased imm (pointee ((Array u8 2048) .written))), l₁₅) ∷ ((sliceTy (tyRef erased imm (pointee (u8 .written)))), l₁₆) ∷ ((tyRef erased mut (pointee (u8 .written))), l₁₇) ∷ ((sliceTy (tyRef erased mut (pointee (u8 .written)))), l₁₈) ∷ ((tyRef erased mut (pointee (Session-t.the-row .written))), l₁₉) ∷ ((sliceTy (tyRef erased mut (pointee (Session-t.the-row .written)))), l₂₀) ∷ ((tyRef erased imm (pointee ((Array u8 2048) .written))), l₂₁) ∷ ((sliceTy (tyRef erased imm (pointee (u8 .written)))), l₂₂) ∷ ((tyRef erased mut (pointee (u8 .written))), l₂₃) ∷ ((sliceTy (tyRef erased mut (pointee (u8 .written)))), l₂₄) ∷ ((tyRef erased imm (pointee ((Array u8 2048) .written))), l₂₅) ∷ ((sliceTy (tyRef erased imm (pointee (u8 .written)))), l₂₆) ∷ ((tyRef erased mut (pointee (u8 .written))), l₂₇) ∷ ((sliceTy (tyRef erased mut (pointee (u8 .written)))), l₂₈) ∷ []
+  abbrev En : (l₀ l₁ l₂ l₃ l₄ l₅ l₆ l₇ l₈ l₉ l₁₀ l₁₁ l₁₂ l₁₃ l₁₄ l₁₅ l₁₆ l₁₇ l₁₈ l₁₉ l₂₀ l₂₁ l₂₂ l₂₃ l₂₄ l₂₅ l₂₆ l₂₇ l₂₈ l₂₉ l₃₀ l₃₁ l₃₂ l₃₃ : ℕ) → Env 𝓤 H
+  En l₀ l₁ l₂ l₃ l₄ l₅ l₆ l₇ l₈ l₉ l₁₀ l₁₁ l₁₂ l₁₃ l₁₄ l₁₅ l₁₆ l₁₇ l₁₈ l₁₉ l₂₀ l₂₁ l₂₂ l₂₃ l₂₄ l₂₅ l₂₆ l₂₇ l₂₈ l₂₉ l₃₀ l₃₁ l₃₂ l₃₃ = (Bench-l.mir, l₀) ∷ (Bench-l.mir, l₁) ∷ ((sliceTy (tyRef (named 0) mut (pointee (Session-t.the-row .written)))), l₂) ∷ ((sliceTy (tyRef (named 1) mut (pointee ((Array u8 139) .written)))), l₃) ∷ ((sliceTy (tyRef (named 2) imm (pointee (u8 .written)))), l₄) ∷ ((sliceTy (tyRef (named 3) mut (pointee (u8 .written)))), l₅) ∷ ((tyArray (tyInt w8) 2048), l₆) ∷ (Line-l.mir, l₇) ∷ (Bench-l.mir, l₈) ∷ ((tyInt w8), l₉) ∷ (tyBool, l₁₀) ∷ ((tyRef erased mut (pointee ((Array u8 2048) .written))), l₁₁) ∷ ((sliceTy (tyRef erased mut (pointee (u8 .written)))), l₁₂) ∷ (tyBool, l₁₃) ∷ ((tyRef erased mut (pointee (Session-t.the-row .written))), l₁₄) ∷ ((sliceTy (tyRef erased mut (pointee (Session-t.the-row .written)))), l₁₅) ∷ ((tyRef erased mut (pointee ((Array u8 139) .written))), l₁₆) ∷ ((sliceTy (tyRef erased mut (pointee ((Array u8 139) .written)))), l₁₇) ∷ ((tyRef erased imm (pointee ((Array u8 2048) .written))), l₁₈) ∷ ((sliceTy (tyRef erased imm (pointee (u8 .written)))), l₁₉) ∷ ((tyRef erased mut (pointee (u8 .written))), l₂₀) ∷ ((sliceTy (tyRef erased mut (pointee (u8 .written)))), l₂₁) ∷ ((tyRef erased mut (pointee (Session-t.the-row .written))), l₂₂) ∷ ((sliceTy (tyRef erased mut (pointee (Session-t.the-row .written)))), l₂₃) ∷ ((tyRef erased mut (pointee ((Array u8 139) .written))), l₂₄) ∷ ((sliceTy (tyRef erased mut (pointee ((Array u8 139) .written)))), l₂₅) ∷ ((tyRef erased imm (pointee ((Array u8 2048) .written))), l₂₆) ∷ ((sliceTy (tyRef erased imm (pointee (u8 .written)))), l₂₇) ∷ ((tyRef erased mut (pointee (u8 .written))), l₂₈) ∷ ((sliceTy (tyRef erased mut (pointee (u8 .written)))), l₂₉) ∷ ((tyRef erased imm (pointee ((Array u8 2048) .written))), l₃₀) ∷ ((sliceTy (tyRef erased imm (pointee (u8 .written)))), l₃₁) ∷ ((tyRef erased mut (pointee (u8 .written))), l₃₂) ∷ ((sliceTy (tyRef erased mut (pointee (u8 .written)))), l₃₃) ∷ []
 
   -- what the contract says of the answer and of the last values
-  abbrev Said : Bench → List Session → List ℕ → Type 0
-  Said r w-recs w-out = ran r w-recs w-out ≡ lineTaken (text .now) b (recs .now) (out .now)
+  abbrev Said : Bench → List Session → List (List ℕ) → List ℕ → Type 0
+  Said r w-recs w-store w-out = ran r w-recs w-store w-out ≡ lineTaken (text .now) b (recs .now) (store .now) (out .now)
 
-  exits : (r : Bench) (w : Val) (w-recs : List Session) (w-out : List ℕ) → Said r w-recs w-out → length w-recs ≡ length (recs .now) → length w-out ≡ length (out .now)
-      → ent 𝓤 (⋆ 𝓤 H A (Toks ∷ ‵ (finally Session-t.the-row (recs .name) w-recs) ∷ ‵ (finally u8 (out .name) w-out) ∷ ‵ (Bench-t.the-row .own r (w ∷ [])) ∷ [])) (Post w)
-  exits r w w-recs w-out e l-recs l-out =
-      qed W (Toks ∷ ‵ (finally Session-t.the-row (recs .name) w-recs) ∷ ‵ (finally u8 (out .name) w-out) ∷ ‵ (Bench-t.the-row .own r (w ∷ [])) ∷ []) ∵
-      suffices ! _ (ends-at 𝓤 H A entry′.ended stayed (entry′.clauses 𝓤 H A mem run) W bound w r (tt, (w-recs, (tt, (w-out, tt)))) (tt, (l-recs, (tt, (l-out, tt))))) $ says ! e $ frame ! $
-      nothing ! $ move ! (2 ∷ 0 ∷ []) $ fjoin ! $ nothing ! $ fjoin ! $ move ! (1 ∷ 0 ∷ []) $ fjoin ! $ nothing ! $ fjoin ! $ done !
+  exits : (r : Bench) (w : Val) (w-recs : List Session) (w-store : List (List ℕ)) (w-out : List ℕ) → Said r w-recs w-store w-out → length w-recs ≡ length (recs .now) → length w-store ≡ length (store .now) → length w-out ≡ length (out .now)
+      → ent 𝓤 (⋆ 𝓤 H A (Toks ∷ ‵ (finally Session-t.the-row (recs .name) w-recs) ∷ ‵ (finally (Array u8 139) (store .name) w-store) ∷ ‵ (finally u8 (out .name) w-out) ∷ ‵ (Bench-t.the-row .own r (w ∷ [])) ∷ [])) (Post w)
+  exits r w w-recs w-store w-out e l-recs l-store l-out =
+      qed W (Toks ∷ ‵ (finally Session-t.the-row (recs .name) w-recs) ∷ ‵ (finally (Array u8 139) (store .name) w-store) ∷ ‵ (finally u8 (out .name) w-out) ∷ ‵ (Bench-t.the-row .own r (w ∷ [])) ∷ []) ∵
+      suffices ! _ (ends-at 𝓤 H A entry′.ended stayed (entry′.clauses 𝓤 H A mem run) W bound w r (tt, (w-recs, (w-store, (tt, (w-out, tt))))) (tt, (l-recs, (l-store, (tt, (l-out, tt)))))) $ says ! e $ frame ! $
+      nothing ! $ move ! (3 ∷ 0 ∷ []) $ fjoin ! $ nothing ! $ fjoin ! $ move ! (2 ∷ 0 ∷ []) $ fjoin ! $ move ! (1 ∷ 0 ∷ []) $ fjoin ! $ nothing ! $ fjoin ! $ done !
 
   module _ (C : Calls 𝓤 H) (Λ : Loops 𝓤 H) (fm : FmC 𝓤 H (W .laws) C) (known-read-line : Triple 𝓤 (C #bench-text·read-line) (c-read-line 𝓤 H A mem run)) (known-with-line : Triple 𝓤 (C #bench-unit·with-line) (c-with-line 𝓤 H A mem run)) (known-phase-of : Triple 𝓤 (C #bench-unit·phase-of) (c-phase-of 𝓤 H A mem run)) (known-run-line : Triple 𝓤 (C #bench-run·run-line) (c-run-line 𝓤 H A mem run)) (known-leaves-plan : Triple 𝓤 (C #bench-run·leaves-plan) (c-leaves-plan 𝓤 H A mem run)) (known-leave-plan : Triple 𝓤 (C #bench-run·leave-plan) (c-leave-plan 𝓤 H A mem run)) (known-early-line : Triple 𝓤 (C #bench-run·early-line) (c-early-line 𝓤 H A mem run)) where
-    module _ (is-b : Is Bench-t.the-row b (v-b ∷ [])) (room-recs : Room Session-t.the-row (length (recs .now))) (room-text : Room u8 (length (text .now))) (room-out : Room u8 (length (out .now))) (l₀ l₁ l₂ l₃ l₄ l₅ l₆ l₇ l₈ l₉ l₁₀ l₁₁ l₁₂ l₁₃ l₁₄ l₁₅ l₁₆ l₁₇ l₁₈ l₁₉ l₂₀ l₂₁ l₂₂ l₂₃ l₂₄ l₂₅ l₂₆ l₂₇ l₂₈ : ℕ) where
-      part-12 : (w-read-line : Val) → (r-read-line : Line) → (z-read-line : (Unit {0}) × ((List ℕ) × Unit {0})) → (e-read-line : told r-read-line (z-read-line .1 .0) ≡ lineRead (text .now) ((replicate {A = ℕ} 2048 0))) → (is-read-line : Is Line-t.the-row r-read-line (w-read-line ∷ [])) → (len-read-line-octets : length (z-read-line .1 .0) ≡ length ((replicate {A = ℕ} 2048 0))) → (is-read-line-back : Is (Array u8 2048) (z-read-line .1 .0) (array-vals (uint-vals w8) (z-read-line .1 .0))) → (w-with-line : Val) → (r-with-line : Bench) → (e-with-line : r-with-line ≡ withLine b) → (is-with-line : Is Bench-t.the-row r-with-line (w-with-line ∷ [])) → (w-phase-of : Val) → (r-phase-of : ℕ) → (e-phase-of : r-phase-of ≡ b .phase) → (is-phase-of : Is u8 r-phase-of (w-phase-of ∷ [])) → (t : (eqb r-phase-of 2) ≡ false) → (w-leaves-plan : Val) → (r-leaves-plan : Bool) → (e-leaves-plan : r-leaves-plan ≡ (eqb (b .phase) plans && not (isPoint r-read-line))) → (is-leaves-plan : Is bool r-leaves-plan (w-leaves-plan ∷ [])) → (t2 : r-leaves-plan ≡ false) → Sq W (‵ (froom (sliceTy (tyRef erased mut (pointee (u8 .written)))) l₂₈ 0) ∷ ‵ (fdies (sliceTy (tyRef erased mut (pointee (u8 .written)))) l₂₈) ∷ ‵ (froom (tyRef erased mut (pointee (u8 .written))) l₂₇ 0) ∷ ‵ (fdies (tyRef erased mut (pointee (u8 .written))) l₂₇) ∷ ‵ (froom (sliceTy (tyRef erased imm (pointee (u8 .written)))) l₂₆ 0) ∷ ‵ (fdies (sliceTy (tyRef erased imm (pointee (u8 .written)))) l₂₆) ∷ ‵ (froom (tyRef erased imm (pointee ((Array u8 2048) .written))) l₂₅ 0) ∷ ‵ (fdies (tyRef erased imm (pointee ((Array u8 2048) .written))) l₂₅) ∷ ‵ (froom (sliceTy (tyRef erased mut (pointee (u8 .written)))) l₂₄ 0) ∷ ‵ (fdies (sliceTy (tyRef erased mut (pointee (u8 .written)))) l₂₄) ∷ ‵ (froom (tyRef erased mut (pointee (u8 .written))) l₂₃ 0) ∷ ‵ (fdies (tyRef erased mut (pointee (u8 .written))) l₂₃) ∷ ‵ (froom (sliceTy (tyRef erased imm (pointee (u8 .written)))) l₂₂ 0) ∷ ‵ (fdies (sliceTy (tyRef erased imm (pointee (u8 .written)))) l₂₂) ∷ ‵ (froom (tyRef erased imm (pointee ((Array u8 2048) .written))) l₂₁ 0) ∷ ‵ (fdies (tyRef erased imm (pointee ((Array u8 2048) .written))) l₂₁) ∷ ‵ (froom (sliceTy (tyRef erased mut (pointee (Session-t.the-row .written)))) l₂₀ 0) ∷ ‵ (fdies (sliceTy (tyRef erased mut (pointee (Session-t.the-row .written)))) l₂₀) ∷ ‵ (froom (tyRef erased mut (pointee (Session-t.the-row .written))) l₁₉ 0) ∷ ‵ (fdies (tyRef erased mut (pointee (Session-t.the-row .written))) l₁₉) ∷ ‵ (froom (sliceTy (tyRef erased mut (pointee (u8 .written)))) l₁₈ 0) ∷ ‵ (fdies (sliceTy (tyRef erased mut (pointee (u8 .written)))) l₁₈) ∷ ‵ (froom (tyRef erased mut (pointee (u8 .written))) l₁₇ 0) ∷ ‵ (fdies (tyRef erased mut (pointee (u8 .written))) l₁₇) ∷ ‵ (froom (sliceTy (tyRef erased imm (pointee (u8 .written)))) l₁₆ 0) ∷ ‵ (fdies (sliceTy (tyRef erased imm (pointee (u8 .written)))) l₁₆) ∷ ‵ (froom (tyRef erased imm (pointee ((Array u8 2048) .written))) l₁₅ 0) ∷ ‵ (fdies (tyRef erased imm (pointee ((Array u8 2048) .written))) l₁₅) ∷ ‵ (froom (sliceTy (tyRef erased mut (pointee (Session-t.the-row .written)))) l₁₄ 0) ∷ ‵ (fdies (sliceTy (tyRef erased mut (pointee (Session-t.the-row .written)))) l₁₄) ∷ ‵ (froom (tyRef erased mut (pointee (Session-t.the-row .written))) l₁₃ 0) ∷ ‵ (fdies (tyRef erased mut (pointee (Session-t.the-row .written))) l₁₃) ∷ ‵ (fat fullShare tyBool l₁₂ 0 (vbool r-leaves-plan)) ∷ ‵ (fdies tyBool l₁₂) ∷ ‵ (fat fullShare (sliceTy (tyRef erased mut (pointee (u8 .written)))) l₁₁ 0 (sliceVal (l₅, 0) 2048)) ∷ ‵ (fdies (sliceTy (tyRef erased mut (pointee (u8 .written)))) l₁₁) ∷ ‵ (froom (tyRef erased mut (pointee ((Array u8 2048) .written))) l₁₀ 0) ∷ ‵ (fdies (tyRef erased mut (pointee ((Array u8 2048) .written))) l₁₀) ∷ ‵ (fat fullShare tyBool l₉ 0 w-leaves-plan) ∷ ‵ (fdies tyBool l₉) ∷ ‵ (fat fullShare (tyInt w8) l₈ 0 (vint w8 r-phase-of)) ∷ ‵ (fdies (tyInt w8) l₈) ∷ ‵ (fat fullShare Bench-l.mir l₇ 0 w-with-line) ∷ ‵ (fdies Bench-l.mir l₇) ∷ ‵ (fat fullShare Line-l.mir l₆ 0 w-read-line) ∷ ‵ (fdies Line-l.mir l₆) ∷ ‵ (fat fullShare (tyArray (tyInt w8) 2048) l₅ 0 (only (array-vals (uint-vals w8) (z-read-line .1 .0)))) ∷ ‵ (fdies (tyArray (tyInt w8) 2048) l₅) ∷ ‵ (fat fullShare (sliceTy (tyRef (named 2) mut (pointee (u8 .written)))) l₄ 0 v-out) ∷ ‵ (fdies (sliceTy (tyRef (named 2) mut (pointee (u8 .written)))) l₄) ∷ ‵ (fat fullShare (sliceTy (tyRef (named 1) imm (pointee (u8 .written)))) l₃ 0 v-text) ∷ ‵ (fdies (sliceTy (tyRef (named 1) imm (pointee (u8 .written)))) l₃) ∷ ‵ (fat fullShare (sliceTy (tyRef (named 0) mut (pointee (Session-t.the-row .written)))) l₂ 0 v-recs) ∷ ‵ (fdies (sliceTy (tyRef (named 0) mut (pointee (Session-t.the-row .written)))) l₂) ∷ ‵ (fat fullShare Bench-l.mir l₁ 0 v-b) ∷ ‵ (fdies Bench-l.mir l₁) ∷ ‵ (froom Bench-l.mir l₀ 0) ∷ ‵ (fdies Bench-l.mir l₀) ∷ ‵ Own-out ∷ ‵ Own-recs ∷ ‵ Own-text ∷ ‵ (flft κ₀ q₀) ∷ ‵ (flft κ₁ q₁) ∷ ‵ (flft κ₂ q₂) ∷ []) (runs C Λ (En l₀ l₁ l₂ l₃ l₄ l₅ l₆ l₇ l₈ l₉ l₁₀ l₁₁ l₁₂ l₁₃ l₁₄ l₁₅ l₁₆ l₁₇ l₁₈ l₁₉ l₂₀ l₂₁ l₂₂ l₂₃ l₂₄ l₂₅ l₂₆ l₂₇ l₂₈) mir.t-12 (atRet (En l₀ l₁ l₂ l₃ l₄ l₅ l₆ l₇ l₈ l₉ l₁₀ l₁₁ l₁₂ l₁₃ l₁₄ l₁₅ l₁₆ l₁₇ l₁₈ l₁₉ l₂₀ l₂₁ l₂₂ l₂₃ l₂₄ l₂₅ l₂₆ l₂₇ l₂₈) Post))
+    module _ (is-b : Is Bench-t.the-row b (v-b ∷ [])) (room-recs : Room Session-t.the-row (length (recs .now))) (room-store : Room (Array u8 139) (length (store .now))) (room-text : Room u8 (length (text .now))) (room-out : Room u8 (length (out .now))) (l₀ l₁ l₂ l₃ l₄ l₅ l₆ l₇ l₈ l₉ l₁₀ l₁₁ l₁₂ l₁₃ l₁₄ l₁₅ l₁₆ l₁₇ l₁₈ l₁₉ l₂₀ l₂₁ l₂₂ l₂₃ l₂₄ l₂₅ l₂₆ l₂₇ l₂₈ l₂₉ l₃₀ l₃₁ l₃₂ l₃₃ : ℕ) where
+      part-12 : (w-read-line : Val) → (r-read-line : Line) → (z-read-line : (Unit {0}) × ((List ℕ) × Unit {0})) → (e-read-line : told r-read-line (z-read-line .1 .0) ≡ lineRead (text .now) ((replicate {A = ℕ} 2048 0))) → (is-read-line : Is Line-t.the-row r-read-line (w-read-line ∷ [])) → (len-read-line-octets : length (z-read-line .1 .0) ≡ length ((replicate {A = ℕ} 2048 0))) → (is-read-line-back : Is (Array u8 2048) (z-read-line .1 .0) (array-vals (uint-vals w8) (z-read-line .1 .0))) → (w-with-line : Val) → (r-with-line : Bench) → (e-with-line : r-with-line ≡ withLine b) → (is-with-line : Is Bench-t.the-row r-with-line (w-with-line ∷ [])) → (w-phase-of : Val) → (r-phase-of : ℕ) → (e-phase-of : r-phase-of ≡ b .phase) → (is-phase-of : Is u8 r-phase-of (w-phase-of ∷ [])) → (t : (eqb r-phase-of 2) ≡ false) → (w-leaves-plan : Val) → (r-leaves-plan : Bool) → (e-leaves-plan : r-leaves-plan ≡ (eqb (b .phase) plans && not (isPoint r-read-line))) → (is-leaves-plan : Is bool r-leaves-plan (w-leaves-plan ∷ [])) → (t2 : r-leaves-plan ≡ false) → Sq W (‵ (froom (sliceTy (tyRef erased mut (pointee (u8 .written)))) l₃₃ 0) ∷ ‵ (fdies (sliceTy (tyRef erased mut (pointee (u8 .written)))) l₃₃) ∷ ‵ (froom (tyRef erased mut (pointee (u8 .written))) l₃₂ 0) ∷ ‵ (fdies (tyRef erased mut (pointee (u8 .written))) l₃₂) ∷ ‵ (froom (sliceTy (tyRef erased imm (pointee (u8 .written)))) l₃₁ 0) ∷ ‵ (fdies (sliceTy (tyRef erased imm (pointee (u8 .written)))) l₃₁) ∷ ‵ (froom (tyRef erased imm (pointee ((Array u8 2048) .written))) l₃₀ 0) ∷ ‵ (fdies (tyRef erased imm (pointee ((Array u8 2048) .written))) l₃₀) ∷ ‵ (froom (sliceTy (tyRef erased mut (pointee (u8 .written)))) l₂₉ 0) ∷ ‵ (fdies (sliceTy (tyRef erased mut (pointee (u8 .written)))) l₂₉) ∷ ‵ (froom (tyRef erased mut (pointee (u8 .written))) l₂₈ 0) ∷ ‵ (fdies (tyRef erased mut (pointee (u8 .written))) l₂₈) ∷ ‵ (froom (sliceTy (tyRef erased imm (pointee (u8 .written)))) l₂₇ 0) ∷ ‵ (fdies (sliceTy (tyRef erased imm (pointee (u8 .written)))) l₂₇) ∷ ‵ (froom (tyRef erased imm (pointee ((Array u8 2048) .written))) l₂₆ 0) ∷ ‵ (fdies (tyRef erased imm (pointee ((Array u8 2048) .written))) l₂₆) ∷ ‵ (froom (sliceTy (tyRef erased mut (pointee ((Array u8 139) .written)))) l₂₅ 0) ∷ ‵ (fdies (sliceTy (tyRef erased mut (pointee ((Array u8 139) .written)))) l₂₅) ∷ ‵ (froom (tyRef erased mut (pointee ((Array u8 139) .written))) l₂₄ 0) ∷ ‵ (fdies (tyRef erased mut (pointee ((Array u8 139) .written))) l₂₄) ∷ ‵ (froom (sliceTy (tyRef erased mut (pointee (Session-t.the-row .written)))) l₂₃ 0) ∷ ‵ (fdies (sliceTy (tyRef erased mut (pointee (Session-t.the-row .written)))) l₂₃) ∷ ‵ (froom (tyRef erased mut (pointee (Session-t.the-row .written))) l₂₂ 0) ∷ ‵ (fdies (tyRef erased mut (pointee (Session-t.the-row .written))) l₂₂) ∷ ‵ (froom (sliceTy (tyRef erased mut (pointee (u8 .written)))) l₂₁ 0) ∷ ‵ (fdies (sliceTy (tyRef erased mut (pointee (u8 .written)))) l₂₁) ∷ ‵ (froom (tyRef erased mut (pointee (u8 .written))) l₂₀ 0) ∷ ‵ (fdies (tyRef erased mut (pointee (u8 .written))) l₂₀) ∷ ‵ (froom (sliceTy (tyRef erased imm (pointee (u8 .written)))) l₁₉ 0) ∷ ‵ (fdies (sliceTy (tyRef erased imm (pointee (u8 .written)))) l₁₉) ∷ ‵ (froom (tyRef erased imm (pointee ((Array u8 2048) .written))) l₁₈ 0) ∷ ‵ (fdies (tyRef erased imm (pointee ((Array u8 2048) .written))) l₁₈) ∷ ‵ (froom (sliceTy (tyRef erased mut (pointee ((Array u8 139) .written)))) l₁₇ 0) ∷ ‵ (fdies (sliceTy (tyRef erased mut (pointee ((Array u8 139) .written)))) l₁₇) ∷ ‵ (froom (tyRef erased mut (pointee ((Array u8 139) .written))) l₁₆ 0) ∷ ‵ (fdies (tyRef erased mut (pointee ((Array u8 139) .written))) l₁₆) ∷ ‵ (froom (sliceTy (tyRef erased mut (pointee (Session-t.the-row .written)))) l₁₅ 0) ∷ ‵ (fdies (sliceTy (tyRef erased mut (pointee (Session-t.the-row .written)))) l₁₅) ∷ ‵ (froom (tyRef erased mut (pointee (Session-t.the-row .written))) l₁₄ 0) ∷ ‵ (fdies (tyRef erased mut (pointee (Session-t.the-row .written))) l₁₄) ∷ ‵ (fat fullShare tyBool l₁₃ 0 (vbool r-leaves-plan)) ∷ ‵ (fdies tyBool l₁₃) ∷ ‵ (fat fullShare (sliceTy (tyRef erased mut (pointee (u8 .written)))) l₁₂ 0 (sliceVal (l₆, 0) 2048)) ∷ ‵ (fdies (sliceTy (tyRef erased mut (pointee (u8 .written)))) l₁₂) ∷ ‵ (froom (tyRef erased mut (pointee ((Array u8 2048) .written))) l₁₁ 0) ∷ ‵ (fdies (tyRef erased mut (pointee ((Array u8 2048) .written))) l₁₁) ∷ ‵ (fat fullShare tyBool l₁₀ 0 w-leaves-plan) ∷ ‵ (fdies tyBool l₁₀) ∷ ‵ (fat fullShare (tyInt w8) l₉ 0 (vint w8 r-phase-of)) ∷ ‵ (fdies (tyInt w8) l₉) ∷ ‵ (fat fullShare Bench-l.mir l₈ 0 w-with-line) ∷ ‵ (fdies Bench-l.mir l₈) ∷ ‵ (fat fullShare Line-l.mir l₇ 0 w-read-line) ∷ ‵ (fdies Line-l.mir l₇) ∷ ‵ (fat fullShare (tyArray (tyInt w8) 2048) l₆ 0 (only (array-vals (uint-vals w8) (z-read-line .1 .0)))) ∷ ‵ (fdies (tyArray (tyInt w8) 2048) l₆) ∷ ‵ (fat fullShare (sliceTy (tyRef (named 3) mut (pointee (u8 .written)))) l₅ 0 v-out) ∷ ‵ (fdies (sliceTy (tyRef (named 3) mut (pointee (u8 .written)))) l₅) ∷ ‵ (fat fullShare (sliceTy (tyRef (named 2) imm (pointee (u8 .written)))) l₄ 0 v-text) ∷ ‵ (fdies (sliceTy (tyRef (named 2) imm (pointee (u8 .written)))) l₄) ∷ ‵ (fat fullShare (sliceTy (tyRef (named 1) mut (pointee ((Array u8 139) .written)))) l₃ 0 v-store) ∷ ‵ (fdies (sliceTy (tyRef (named 1) mut (pointee ((Array u8 139) .written)))) l₃) ∷ ‵ (fat fullShare (sliceTy (tyRef (named 0) mut (pointee (Session-t.the-row .written)))) l₂ 0 v-recs) ∷ ‵ (fdies (sliceTy (tyRef (named 0) mut (pointee (Session-t.the-row .written)))) l₂) ∷ ‵ (fat fullShare Bench-l.mir l₁ 0 v-b) ∷ ‵ (fdies Bench-l.mir l₁) ∷ ‵ (froom Bench-l.mir l₀ 0) ∷ ‵ (fdies Bench-l.mir l₀) ∷ ‵ Own-out ∷ ‵ Own-recs ∷ ‵ Own-store ∷ ‵ Own-text ∷ ‵ (flft κ₀ q₀) ∷ ‵ (flft κ₁ q₁) ∷ ‵ (flft κ₂ q₂) ∷ ‵ (flft κ₃ q₃) ∷ []) (runs C Λ (En l₀ l₁ l₂ l₃ l₄ l₅ l₆ l₇ l₈ l₉ l₁₀ l₁₁ l₁₂ l₁₃ l₁₄ l₁₅ l₁₆ l₁₇ l₁₈ l₁₉ l₂₀ l₂₁ l₂₂ l₂₃ l₂₄ l₂₅ l₂₆ l₂₇ l₂₈ l₂₉ l₃₀ l₃₁ l₃₂ l₃₃) mir.t-12 (atRet (En l₀ l₁ l₂ l₃ l₄ l₅ l₆ l₇ l₈ l₉ l₁₀ l₁₁ l₁₂ l₁₃ l₁₄ l₁₅ l₁₆ l₁₇ l₁₈ l₁₉ l₂₀ l₂₁ l₂₂ l₂₃ l₂₄ l₂₅ l₂₆ l₂₇ l₂₈ l₂₉ l₃₀ l₃₁ l₃₂ l₃₃) Post))
       part-12 w-read-line r-read-line z-read-line e-read-line is-read-line len-read-line-octets is-read-line-back w-with-line r-with-line e-with-line is-with-line w-phase-of r-phase-of e-phase-of is-phase-of t w-leaves-plan r-leaves-plan e-leaves-plan is-leaves-plan t2 =
-          -- _25 = & _5
+          -- _30 = & _6
           assigns ! (addr ! (from ! (stop !))) (from ! (stop !)) (init ! 6 refl (tt, tt)) $
-          -- _26 = {_25, 2048}
+          -- _31 = {_30, 2048}
           assigns ! (agg ! (and-then ! (load ! (from ! (stop !)) (look ! 6 refl)) (and-then ! (big-lit ! (record { fits = lit< tt })) (no-more !)))) (from ! (stop !)) (init ! 4 refl (tt, (tt, (record { fits = lit< tt }, tt)))) $
-          -- _27 = & _4.0.*
-          assigns ! (addr ! (from ! (fld ! refl (hop ! (look-in ! 48 (sub ! 0 refl (whole !))) (stop !))))) (from ! (stop !)) (init ! 2 refl (tt, tt)) $
-          -- _28 = {_27, _4.1}
-          assigns ! (agg ! (and-then ! (load ! (from ! (stop !)) (look ! 2 refl)) (and-then ! (load ! (from ! (fld ! refl (stop !))) (look-in ! 48 (sub ! 1 refl (whole !)))) (no-more !)))) (from ! (stop !)) (init ! 0 refl (tt, (tt, (record { fits = room-out .0 }, tt)))) $
-          -- _0 = early_line(_1, _6, _26, _28)
-          lft-new ! tt (λ ν. move ! (47 ∷ []) $
-          use1 W (later (some (λ (δ : GName). ‵ (ShrSlice (named 0) (ν ∷ []) u8 .own (record { ptr = (l₅, 0); name = δ; now = (z-read-line .1 .0) }) ((sliceVal (l₅, 0) 2048) ∷ [])) ⊛ ‵ (flent (ν ∷ []) (arr-parts (shares u8) 2048 .part fullShare (z-read-line .1 .0) l₅ 0))))) (array-shown u8 2048 (uint-vals w8) (uint-tells w8) tt 𝓤 H A W (uint-makes 𝓤 H A W w8) l₅ (lit< tt, lit< tt) (named 0) (ν ∷ []) (z-read-line .1 .0) (only (array-vals (uint-vals w8) (z-read-line .1 .0))) is-read-line-back) $ await ! tt $
-          pick ! (λ δ-early-line. split ! $ nothing ! $ move ! (66 ∷ 0 ∷ []) $ join ! $ move ! (3 ∷ 0 ∷ []) $ join ! $ nothing ! $ move ! (61 ∷ 0 ∷ []) $ fjoin ! $ move ! (2 ∷ 0 ∷ []) $ fjoin ! $
+          -- _32 = & _5.0.*
+          assigns ! (addr ! (from ! (fld ! refl (hop ! (look-in ! 56 (sub ! 0 refl (whole !))) (stop !))))) (from ! (stop !)) (init ! 2 refl (tt, tt)) $
+          -- _33 = {_32, _5.1}
+          assigns ! (agg ! (and-then ! (load ! (from ! (stop !)) (look ! 2 refl)) (and-then ! (load ! (from ! (fld ! refl (stop !))) (look-in ! 56 (sub ! 1 refl (whole !)))) (no-more !)))) (from ! (stop !)) (init ! 0 refl (tt, (tt, (record { fits = room-out .0 }, tt)))) $
+          -- _0 = early_line(_1, _7, _31, _33)
+          lft-new ! tt (λ ν. move ! (55 ∷ []) $
+          use1 W (later (some (λ (δ : GName). ‵ (ShrSlice (named 0) (ν ∷ []) u8 .own (record { ptr = (l₆, 0); name = δ; now = (z-read-line .1 .0) }) ((sliceVal (l₆, 0) 2048) ∷ [])) ⊛ ‵ (flent (ν ∷ []) (arr-parts (shares u8) 2048 .part fullShare (z-read-line .1 .0) l₆ 0))))) (array-shown u8 2048 (uint-vals w8) (uint-tells w8) tt 𝓤 H A W (uint-makes 𝓤 H A W w8) l₆ (lit< tt, lit< tt) (named 0) (ν ∷ []) (z-read-line .1 .0) (only (array-vals (uint-vals w8) (z-read-line .1 .0))) is-read-line-back) $ await ! tt $
+          pick ! (λ δ-early-line. split ! $ nothing ! $ move ! (78 ∷ 0 ∷ []) $ join ! $ move ! (3 ∷ 0 ∷ []) $ join ! $ nothing ! $ move ! (71 ∷ 0 ∷ []) $ fjoin ! $ move ! (2 ∷ 0 ∷ []) $ fjoin ! $
           owned ! Line-t.the-row (Is Line-t.the-row) (EL.makes Line-t.the-type Line-l.the-plain 𝓤 H A) r-read-line _ is-read-line $ fjoin ! $
           owned ! Bench-t.the-row (Is Bench-t.the-row) (LL.makes Bench-t.the-type Bench-l.the-plain 𝓤 H A) b _ is-b $ fjoin ! $ move ! (1 ∷ 0 ∷ []) $
-          use2 W (raw (c-early-line 𝓤 H A mem run .pre ((((ν ∷ []), (κ₂, tt)), (fullShare, (q₂, tt)), tt, (b, (r-read-line, ((record { ptr = (l₅, 0); name = δ-early-line; now = (z-read-line .1 .0) }), (out, tt)))), (v-b ∷ [], (w-read-line ∷ [], ((sliceVal (l₅, 0) 2048) ∷ [], (v-out ∷ [], tt))))), tt))) (qed W ((‵ (flft (ν ∷ []) fullShare) ⊛ ‵ (flft κ₂ q₂) ⊛ ‵ ftrue) ∷ ‵ (fsep (Bench-t.the-row .own b (v-b ∷ [])) (fsep (Line-t.the-row .own r-read-line (w-read-line ∷ [])) (fsep (ShrSlice (named 0) (ν ∷ []) u8 .own (record { ptr = (l₅, 0); name = δ-early-line; now = (z-read-line .1 .0) }) ((sliceVal (l₅, 0) 2048) ∷ [])) (fsep Own-out ftrue)))) ∷ []) ∵ join ! $ frame ! $ done !) $
-          calls-at ! fm (c-early-line 𝓤 H A mem run) known-early-line ((((ν ∷ []), (κ₂, tt)), (fullShare, (q₂, tt)), tt, (b, (r-read-line, ((record { ptr = (l₅, 0); name = δ-early-line; now = (z-read-line .1 .0) }), (out, tt)))), (v-b ∷ [], (w-read-line ∷ [], ((sliceVal (l₅, 0) 2048) ∷ [], (v-out ∷ [], tt))))), tt) (and-then ! (load ! (from ! (stop !)) (look ! 55 refl)) (and-then ! (load ! (from ! (stop !)) (look ! 46 refl)) (and-then ! (load ! (from ! (stop !)) (look ! 6 refl)) (and-then ! (load ! (from ! (stop !)) (look ! 2 refl)) (no-more !))))) (λ w-early-line.
-          use1 W (later (some (λ (r-early-line : Bench). ((‵ (flft (ν ∷ []) fullShare) ⊛ ‵ (flft κ₂ q₂) ⊛ ‵ ftrue) ⊛ ‵ (Bench-t.the-row .own r-early-line (w-early-line ∷ []))) ⊛ raw (ensured 𝓤 H A c-early-line′.ended (c-early-line′.clauses 𝓤 H A mem run) ((ν ∷ []), (κ₂, tt)) (b, (r-read-line, ((record { ptr = (l₅, 0); name = δ-early-line; now = (z-read-line .1 .0) }), (out, tt)))) tt r-early-line)))) (id⊢ 𝓤 _) $ await ! tt $
+          use2 W (raw (c-early-line 𝓤 H A mem run .pre ((((ν ∷ []), (κ₃, tt)), (fullShare, (q₃, tt)), tt, (b, (r-read-line, ((record { ptr = (l₆, 0); name = δ-early-line; now = (z-read-line .1 .0) }), (out, tt)))), (v-b ∷ [], (w-read-line ∷ [], ((sliceVal (l₆, 0) 2048) ∷ [], (v-out ∷ [], tt))))), tt))) (qed W ((‵ (flft (ν ∷ []) fullShare) ⊛ ‵ (flft κ₃ q₃) ⊛ ‵ ftrue) ∷ ‵ (fsep (Bench-t.the-row .own b (v-b ∷ [])) (fsep (Line-t.the-row .own r-read-line (w-read-line ∷ [])) (fsep (ShrSlice (named 0) (ν ∷ []) u8 .own (record { ptr = (l₆, 0); name = δ-early-line; now = (z-read-line .1 .0) }) ((sliceVal (l₆, 0) 2048) ∷ [])) (fsep Own-out ftrue)))) ∷ []) ∵ join ! $ frame ! $ done !) $
+          calls-at ! fm (c-early-line 𝓤 H A mem run) known-early-line ((((ν ∷ []), (κ₃, tt)), (fullShare, (q₃, tt)), tt, (b, (r-read-line, ((record { ptr = (l₆, 0); name = δ-early-line; now = (z-read-line .1 .0) }), (out, tt)))), (v-b ∷ [], (w-read-line ∷ [], ((sliceVal (l₆, 0) 2048) ∷ [], (v-out ∷ [], tt))))), tt) (and-then ! (load ! (from ! (stop !)) (look ! 65 refl)) (and-then ! (load ! (from ! (stop !)) (look ! 54 refl)) (and-then ! (load ! (from ! (stop !)) (look ! 6 refl)) (and-then ! (load ! (from ! (stop !)) (look ! 2 refl)) (no-more !))))) (λ w-early-line.
+          use1 W (later (some (λ (r-early-line : Bench). ((‵ (flft (ν ∷ []) fullShare) ⊛ ‵ (flft κ₃ q₃) ⊛ ‵ ftrue) ⊛ ‵ (Bench-t.the-row .own r-early-line (w-early-line ∷ []))) ⊛ raw (ensured 𝓤 H A c-early-line′.ended (c-early-line′.clauses 𝓤 H A mem run) ((ν ∷ []), (κ₃, tt)) (b, (r-read-line, ((record { ptr = (l₆, 0); name = δ-early-line; now = (z-read-line .1 .0) }), (out, tt)))) tt r-early-line)))) (id⊢ 𝓤 _) $ await ! tt $
           pick ! (λ r-early-line. split ! $ move ! (1 ∷ []) $
-          use1 W (some (λ (z-early-line : (Unit {0}) × ((Unit {0}) × ((Unit {0}) × ((List ℕ) × Unit {0})))). ‵ (lasts c-early-line′.ended ((ν ∷ []), (κ₂, tt)) (b, (r-read-line, ((record { ptr = (l₅, 0); name = δ-early-line; now = (z-read-line .1 .0) }), (out, tt)))) z-early-line) ⊛ raw (fact 𝓤 (shown r-early-line (z-early-line .1 .1 .1 .0) ≡ earlyLine r-read-line ((z-read-line .1 .0)) b (ys-out))))) (id⊢ 𝓤 _) $
+          use1 W (some (λ (z-early-line : (Unit {0}) × ((Unit {0}) × ((Unit {0}) × ((List ℕ) × Unit {0})))). ‵ (lasts c-early-line′.ended ((ν ∷ []), (κ₃, tt)) (b, (r-read-line, ((record { ptr = (l₆, 0); name = δ-early-line; now = (z-read-line .1 .0) }), (out, tt)))) z-early-line) ⊛ raw (fact 𝓤 (shown r-early-line (z-early-line .1 .1 .1 .0) ≡ earlyLine r-read-line ((z-read-line .1 .0)) b (ys-out))))) (id⊢ 𝓤 _) $
           pick ! (λ z-early-line. split ! $ move ! (1 ∷ []) $ heard ! (shown r-early-line (z-early-line .1 .1 .1 .0) ≡ earlyLine r-read-line ((z-read-line .1 .0)) b (ys-out)) (λ e-early-line. fsplit ! $ drop ! $ fsplit ! $ drop ! $
           fsplit ! $ drop ! $ fsplit ! $ fsplit ! $ move ! (1 ∷ []) $ feqL ! (λ len-early-line-out. move ! (1 ∷ []) $ drop ! $ move ! (1 ∷ []) $ split ! $ split ! $ move ! (1 ∷ []) $ split ! $ move ! (1 ∷ []) $ drop ! $ move ! (2 ∷ []) $
           peeks ! Bench-t.the-row (Is Bench-t.the-row) (shows 𝓤 H A Bench-t.the-row) r-early-line (w-early-line ∷ []) (λ is-early-line.
-          land ! (from ! (stop !)) (init ! 60 refl (LL.lawful Bench-t.the-type Bench-l.the-laws 𝓤 H A W .typed r-early-line _ is-early-line .0)) $ drop ! $ move ! (1 ∷ []) $ lft-end ! tt $ move ! (0 ∷ 3 ∷ []) $
-          use2 W (later (given (Is (Array u8 2048) (z-read-line .1 .0) (array-vals (uint-vals w8) (z-read-line .1 .0))) (‵ (fat fullShare (tyArray (tyInt w8) 2048) l₅ 0 (only (array-vals (uint-vals w8) (z-read-line .1 .0))))))) (array-kept u8 2048 (uint-vals w8) (uint-tells w8) tt 𝓤 H A W (uint-makes 𝓤 H A W w8) l₅ (ν ∷ []) (z-read-line .1 .0) (is-read-line-back .1 .0 .1)) $ await ! tt $
+          land ! (from ! (stop !)) (init ! 70 refl (LL.lawful Bench-t.the-type Bench-l.the-laws 𝓤 H A W .typed r-early-line _ is-early-line .0)) $ drop ! $ move ! (1 ∷ []) $ lft-end ! tt $ move ! (0 ∷ 3 ∷ []) $
+          use2 W (later (given (Is (Array u8 2048) (z-read-line .1 .0) (array-vals (uint-vals w8) (z-read-line .1 .0))) (‵ (fat fullShare (tyArray (tyInt w8) 2048) l₆ 0 (only (array-vals (uint-vals w8) (z-read-line .1 .0))))))) (array-kept u8 2048 (uint-vals w8) (uint-tells w8) tt 𝓤 H A W (uint-makes 𝓤 H A W w8) l₆ (ν ∷ []) (z-read-line .1 .0) (is-read-line-back .1 .0 .1)) $ await ! tt $
           learn ! (λ is-early-line-back.
           -- return
-          returns ! (look ! 58 refl) $
-          forget ! 3 refl $ forget ! 5 refl $ forget ! 7 refl $ forget ! 9 refl $ forget ! 35 refl $ forget ! 37 refl $ forget ! 41 refl $ forget ! 43 refl $ forget ! 45 refl $ forget ! 47 refl $ forget ! 0 refl $ forget ! 50 refl $ forget ! 52 refl $ forget ! 54 refl $ forget ! 56 refl $ forget ! 58 refl $
-          move ! (58 ∷ 59 ∷ []) $ free1 ! $ move ! (56 ∷ 57 ∷ []) $ free1 ! $ move ! (54 ∷ 55 ∷ []) $ free1 ! $ move ! (52 ∷ 53 ∷ []) $ free1 ! $ move ! (50 ∷ 51 ∷ []) $ free1 ! $ move ! (0 ∷ 49 ∷ []) $ free1 ! $ move ! (46 ∷ 47 ∷ []) $ free1 ! $ move ! (44 ∷ 45 ∷ []) $ free1 ! $ move ! (42 ∷ 43 ∷ []) $ free1 ! $ move ! (40 ∷ 41 ∷ []) $ free1 ! $ move ! (38 ∷ 39 ∷ []) $ free1 ! $ move ! (36 ∷ 37 ∷ []) $ free1 ! $ move ! (34 ∷ 35 ∷ []) $ free1 ! $ move ! (32 ∷ 33 ∷ []) $ free1 ! $ move ! (30 ∷ 31 ∷ []) $ free1 ! $ move ! (28 ∷ 29 ∷ []) $ free1 ! $ move ! (26 ∷ 27 ∷ []) $ free1 ! $ move ! (24 ∷ 25 ∷ []) $ free1 ! $ move ! (22 ∷ 23 ∷ []) $ free1 ! $ move ! (20 ∷ 21 ∷ []) $ free1 ! $ move ! (18 ∷ 19 ∷ []) $ free1 ! $ move ! (16 ∷ 17 ∷ []) $ free1 ! $ move ! (14 ∷ 15 ∷ []) $ free1 ! $ move ! (12 ∷ 13 ∷ []) $ free1 ! $ move ! (10 ∷ 11 ∷ []) $ free1 ! $ move ! (8 ∷ 9 ∷ []) $ free1 ! $ move ! (6 ∷ 7 ∷ []) $ free1 ! $ move ! (4 ∷ 5 ∷ []) $ free1 ! $ move ! (2 ∷ 3 ∷ []) $ free1 ! $ free0 ! $
-          move ! (2 ∷ []) $ use1 W (‵ (finally Session-t.the-row (recs .name) ys-recs)) (gives-up-slice 𝓤 H A W (named 0) κ₀ Session-t.the-row recs v-recs) $
-          owned ! Bench-t.the-row (Is Bench-t.the-row) (LL.makes Bench-t.the-type Bench-l.the-plain 𝓤 H A) r-early-line _ is-early-line $ nothing ! $ move ! (3 ∷ 0 ∷ []) $ join ! $ move ! (6 ∷ 0 ∷ []) $ join ! $ move ! (5 ∷ 0 ∷ []) $
-          join ! $ keep ! (0 ∷ 2 ∷ 3 ∷ 1 ∷ []) $
-          by ! (exits r-early-line w-early-line ys-recs (z-early-line .1 .1 .1 .0) (line-early (now text) (z-read-line .1 .0) b r-with-line ys-recs ys-out (ran r-early-line ys-recs (z-early-line .1 .1 .1 .0)) r-read-line r-phase-of e-read-line e-with-line e-phase-of r-leaves-plan r-early-line (z-early-line .1 .1 .1 .0) e-leaves-plan t t2 e-early-line) refl len-early-line-out))))))))))
+          returns ! (look ! 68 refl) $
+          forget ! 3 refl $ forget ! 5 refl $ forget ! 7 refl $ forget ! 9 refl $ forget ! 43 refl $ forget ! 45 refl $ forget ! 49 refl $ forget ! 51 refl $ forget ! 53 refl $ forget ! 55 refl $ forget ! 0 refl $ forget ! 58 refl $ forget ! 60 refl $ forget ! 62 refl $ forget ! 64 refl $ forget ! 66 refl $ forget ! 68 refl $
+          move ! (68 ∷ 69 ∷ []) $ free1 ! $ move ! (66 ∷ 67 ∷ []) $ free1 ! $ move ! (64 ∷ 65 ∷ []) $ free1 ! $ move ! (62 ∷ 63 ∷ []) $ free1 ! $ move ! (60 ∷ 61 ∷ []) $ free1 ! $ move ! (58 ∷ 59 ∷ []) $ free1 ! $ move ! (0 ∷ 57 ∷ []) $ free1 ! $ move ! (54 ∷ 55 ∷ []) $ free1 ! $ move ! (52 ∷ 53 ∷ []) $ free1 ! $ move ! (50 ∷ 51 ∷ []) $ free1 ! $ move ! (48 ∷ 49 ∷ []) $ free1 ! $ move ! (46 ∷ 47 ∷ []) $ free1 ! $ move ! (44 ∷ 45 ∷ []) $ free1 ! $ move ! (42 ∷ 43 ∷ []) $ free1 ! $ move ! (40 ∷ 41 ∷ []) $ free1 ! $ move ! (38 ∷ 39 ∷ []) $ free1 ! $ move ! (36 ∷ 37 ∷ []) $ free1 ! $ move ! (34 ∷ 35 ∷ []) $ free1 ! $ move ! (32 ∷ 33 ∷ []) $ free1 ! $ move ! (30 ∷ 31 ∷ []) $ free1 ! $ move ! (28 ∷ 29 ∷ []) $ free1 ! $ move ! (26 ∷ 27 ∷ []) $ free1 ! $ move ! (24 ∷ 25 ∷ []) $ free1 ! $ move ! (22 ∷ 23 ∷ []) $ free1 ! $ move ! (20 ∷ 21 ∷ []) $ free1 ! $ move ! (18 ∷ 19 ∷ []) $ free1 ! $ move ! (16 ∷ 17 ∷ []) $ free1 ! $ move ! (14 ∷ 15 ∷ []) $ free1 ! $ move ! (12 ∷ 13 ∷ []) $ free1 ! $ move ! (10 ∷ 11 ∷ []) $ free1 ! $ move ! (8 ∷ 9 ∷ []) $ free1 ! $ move ! (6 ∷ 7 ∷ []) $ free1 ! $ move ! (4 ∷ 5 ∷ []) $ free1 ! $ move ! (2 ∷ 3 ∷ []) $ free1 ! $ free0 ! $
+          move ! (2 ∷ []) $ use1 W (‵ (finally Session-t.the-row (recs .name) ys-recs)) (gives-up-slice 𝓤 H A W (named 0) κ₀ Session-t.the-row recs v-recs) $ move ! (3 ∷ []) $
+          use1 W (‵ (finally (Array u8 139) (store .name) ys-store)) (gives-up-slice 𝓤 H A W (named 1) κ₁ (Array u8 139) store v-store) $
+          owned ! Bench-t.the-row (Is Bench-t.the-row) (LL.makes Bench-t.the-type Bench-l.the-plain 𝓤 H A) r-early-line _ is-early-line $ nothing ! $ move ! (4 ∷ 0 ∷ []) $ join ! $ move ! (8 ∷ 0 ∷ []) $ join ! $ move ! (7 ∷ 0 ∷ []) $
+          join ! $ move ! (6 ∷ 0 ∷ []) $ join ! $ keep ! (0 ∷ 3 ∷ 2 ∷ 4 ∷ 1 ∷ []) $
+          by ! (exits r-early-line w-early-line ys-recs ys-store (z-early-line .1 .1 .1 .0) (line-early (now text) (z-read-line .1 .0) b r-with-line ys-recs ys-store ys-out (ran r-early-line ys-recs ys-store (z-early-line .1 .1 .1 .0)) r-read-line r-phase-of e-read-line e-with-line e-phase-of r-leaves-plan r-early-line (z-early-line .1 .1 .1 .0) e-leaves-plan t t2 e-early-line) refl refl len-early-line-out))))))))))
 
-      part-9 : (w-read-line : Val) → (r-read-line : Line) → (z-read-line : (Unit {0}) × ((List ℕ) × Unit {0})) → (e-read-line : told r-read-line (z-read-line .1 .0) ≡ lineRead (text .now) ((replicate {A = ℕ} 2048 0))) → (is-read-line : Is Line-t.the-row r-read-line (w-read-line ∷ [])) → (len-read-line-octets : length (z-read-line .1 .0) ≡ length ((replicate {A = ℕ} 2048 0))) → (is-read-line-back : Is (Array u8 2048) (z-read-line .1 .0) (array-vals (uint-vals w8) (z-read-line .1 .0))) → (w-with-line : Val) → (r-with-line : Bench) → (e-with-line : r-with-line ≡ withLine b) → (is-with-line : Is Bench-t.the-row r-with-line (w-with-line ∷ [])) → (w-phase-of : Val) → (r-phase-of : ℕ) → (e-phase-of : r-phase-of ≡ b .phase) → (is-phase-of : Is u8 r-phase-of (w-phase-of ∷ [])) → (t : (eqb r-phase-of 2) ≡ false) → Sq W (‵ (froom (sliceTy (tyRef erased mut (pointee (u8 .written)))) l₂₈ 0) ∷ ‵ (fdies (sliceTy (tyRef erased mut (pointee (u8 .written)))) l₂₈) ∷ ‵ (froom (tyRef erased mut (pointee (u8 .written))) l₂₇ 0) ∷ ‵ (fdies (tyRef erased mut (pointee (u8 .written))) l₂₇) ∷ ‵ (froom (sliceTy (tyRef erased imm (pointee (u8 .written)))) l₂₆ 0) ∷ ‵ (fdies (sliceTy (tyRef erased imm (pointee (u8 .written)))) l₂₆) ∷ ‵ (froom (tyRef erased imm (pointee ((Array u8 2048) .written))) l₂₅ 0) ∷ ‵ (fdies (tyRef erased imm (pointee ((Array u8 2048) .written))) l₂₅) ∷ ‵ (froom (sliceTy (tyRef erased mut (pointee (u8 .written)))) l₂₄ 0) ∷ ‵ (fdies (sliceTy (tyRef erased mut (pointee (u8 .written)))) l₂₄) ∷ ‵ (froom (tyRef erased mut (pointee (u8 .written))) l₂₃ 0) ∷ ‵ (fdies (tyRef erased mut (pointee (u8 .written))) l₂₃) ∷ ‵ (froom (sliceTy (tyRef erased imm (pointee (u8 .written)))) l₂₂ 0) ∷ ‵ (fdies (sliceTy (tyRef erased imm (pointee (u8 .written)))) l₂₂) ∷ ‵ (froom (tyRef erased imm (pointee ((Array u8 2048) .written))) l₂₁ 0) ∷ ‵ (fdies (tyRef erased imm (pointee ((Array u8 2048) .written))) l₂₁) ∷ ‵ (froom (sliceTy (tyRef erased mut (pointee (Session-t.the-row .written)))) l₂₀ 0) ∷ ‵ (fdies (sliceTy (tyRef erased mut (pointee (Session-t.the-row .written)))) l₂₀) ∷ ‵ (froom (tyRef erased mut (pointee (Session-t.the-row .written))) l₁₉ 0) ∷ ‵ (fdies (tyRef erased mut (pointee (Session-t.the-row .written))) l₁₉) ∷ ‵ (froom (sliceTy (tyRef erased mut (pointee (u8 .written)))) l₁₈ 0) ∷ ‵ (fdies (sliceTy (tyRef erased mut (pointee (u8 .written)))) l₁₈) ∷ ‵ (froom (tyRef erased mut (pointee (u8 .written))) l₁₇ 0) ∷ ‵ (fdies (tyRef erased mut (pointee (u8 .written))) l₁₇) ∷ ‵ (froom (sliceTy (tyRef erased imm (pointee (u8 .written)))) l₁₆ 0) ∷ ‵ (fdies (sliceTy (tyRef erased imm (pointee (u8 .written)))) l₁₆) ∷ ‵ (froom (tyRef erased imm (pointee ((Array u8 2048) .written))) l₁₅ 0) ∷ ‵ (fdies (tyRef erased imm (pointee ((Array u8 2048) .written))) l₁₅) ∷ ‵ (froom (sliceTy (tyRef erased mut (pointee (Session-t.the-row .written)))) l₁₄ 0) ∷ ‵ (fdies (sliceTy (tyRef erased mut (pointee (Session-t.the-row .written)))) l₁₄) ∷ ‵ (froom (tyRef erased mut (pointee (Session-t.the-row .written))) l₁₃ 0) ∷ ‵ (fdies (tyRef erased mut (pointee (Session-t.the-row .written))) l₁₃) ∷ ‵ (fat fullShare tyBool l₁₂ 0 (vbool (eqb r-phase-of 2))) ∷ ‵ (fdies tyBool l₁₂) ∷ ‵ (fat fullShare (sliceTy (tyRef erased mut (pointee (u8 .written)))) l₁₁ 0 (sliceVal (l₅, 0) 2048)) ∷ ‵ (fdies (sliceTy (tyRef erased mut (pointee (u8 .written)))) l₁₁) ∷ ‵ (froom (tyRef erased mut (pointee ((Array u8 2048) .written))) l₁₀ 0) ∷ ‵ (fdies (tyRef erased mut (pointee ((Array u8 2048) .written))) l₁₀) ∷ ‵ (froom tyBool l₉ 0) ∷ ‵ (fdies tyBool l₉) ∷ ‵ (fat fullShare (tyInt w8) l₈ 0 (vint w8 r-phase-of)) ∷ ‵ (fdies (tyInt w8) l₈) ∷ ‵ (fat fullShare Bench-l.mir l₇ 0 w-with-line) ∷ ‵ (fdies Bench-l.mir l₇) ∷ ‵ (fat fullShare Line-l.mir l₆ 0 w-read-line) ∷ ‵ (fdies Line-l.mir l₆) ∷ ‵ (fat fullShare (tyArray (tyInt w8) 2048) l₅ 0 (only (array-vals (uint-vals w8) (z-read-line .1 .0)))) ∷ ‵ (fdies (tyArray (tyInt w8) 2048) l₅) ∷ ‵ (fat fullShare (sliceTy (tyRef (named 2) mut (pointee (u8 .written)))) l₄ 0 v-out) ∷ ‵ (fdies (sliceTy (tyRef (named 2) mut (pointee (u8 .written)))) l₄) ∷ ‵ (fat fullShare (sliceTy (tyRef (named 1) imm (pointee (u8 .written)))) l₃ 0 v-text) ∷ ‵ (fdies (sliceTy (tyRef (named 1) imm (pointee (u8 .written)))) l₃) ∷ ‵ (fat fullShare (sliceTy (tyRef (named 0) mut (pointee (Session-t.the-row .written)))) l₂ 0 v-recs) ∷ ‵ (fdies (sliceTy (tyRef (named 0) mut (pointee (Session-t.the-row .written)))) l₂) ∷ ‵ (fat fullShare Bench-l.mir l₁ 0 v-b) ∷ ‵ (fdies Bench-l.mir l₁) ∷ ‵ (froom Bench-l.mir l₀ 0) ∷ ‵ (fdies Bench-l.mir l₀) ∷ ‵ Own-out ∷ ‵ Own-recs ∷ ‵ Own-text ∷ ‵ (flft κ₀ q₀) ∷ ‵ (flft κ₁ q₁) ∷ ‵ (flft κ₂ q₂) ∷ []) (runs C Λ (En l₀ l₁ l₂ l₃ l₄ l₅ l₆ l₇ l₈ l₉ l₁₀ l₁₁ l₁₂ l₁₃ l₁₄ l₁₅ l₁₆ l₁₇ l₁₈ l₁₉ l₂₀ l₂₁ l₂₂ l₂₃ l₂₄ l₂₅ l₂₆ l₂₇ l₂₈) mir.t-9 (atRet (En l₀ l₁ l₂ l₃ l₄ l₅ l₆ l₇ l₈ l₉ l₁₀ l₁₁ l₁₂ l₁₃ l₁₄ l₁₅ l₁₆ l₁₇ l₁₈ l₁₉ l₂₀ l₂₁ l₂₂ l₂₃ l₂₄ l₂₅ l₂₆ l₂₇ l₂₈) Post))
+      part-9 : (w-read-line : Val) → (r-read-line : Line) → (z-read-line : (Unit {0}) × ((List ℕ) × Unit {0})) → (e-read-line : told r-read-line (z-read-line .1 .0) ≡ lineRead (text .now) ((replicate {A = ℕ} 2048 0))) → (is-read-line : Is Line-t.the-row r-read-line (w-read-line ∷ [])) → (len-read-line-octets : length (z-read-line .1 .0) ≡ length ((replicate {A = ℕ} 2048 0))) → (is-read-line-back : Is (Array u8 2048) (z-read-line .1 .0) (array-vals (uint-vals w8) (z-read-line .1 .0))) → (w-with-line : Val) → (r-with-line : Bench) → (e-with-line : r-with-line ≡ withLine b) → (is-with-line : Is Bench-t.the-row r-with-line (w-with-line ∷ [])) → (w-phase-of : Val) → (r-phase-of : ℕ) → (e-phase-of : r-phase-of ≡ b .phase) → (is-phase-of : Is u8 r-phase-of (w-phase-of ∷ [])) → (t : (eqb r-phase-of 2) ≡ false) → Sq W (‵ (froom (sliceTy (tyRef erased mut (pointee (u8 .written)))) l₃₃ 0) ∷ ‵ (fdies (sliceTy (tyRef erased mut (pointee (u8 .written)))) l₃₃) ∷ ‵ (froom (tyRef erased mut (pointee (u8 .written))) l₃₂ 0) ∷ ‵ (fdies (tyRef erased mut (pointee (u8 .written))) l₃₂) ∷ ‵ (froom (sliceTy (tyRef erased imm (pointee (u8 .written)))) l₃₁ 0) ∷ ‵ (fdies (sliceTy (tyRef erased imm (pointee (u8 .written)))) l₃₁) ∷ ‵ (froom (tyRef erased imm (pointee ((Array u8 2048) .written))) l₃₀ 0) ∷ ‵ (fdies (tyRef erased imm (pointee ((Array u8 2048) .written))) l₃₀) ∷ ‵ (froom (sliceTy (tyRef erased mut (pointee (u8 .written)))) l₂₉ 0) ∷ ‵ (fdies (sliceTy (tyRef erased mut (pointee (u8 .written)))) l₂₉) ∷ ‵ (froom (tyRef erased mut (pointee (u8 .written))) l₂₈ 0) ∷ ‵ (fdies (tyRef erased mut (pointee (u8 .written))) l₂₈) ∷ ‵ (froom (sliceTy (tyRef erased imm (pointee (u8 .written)))) l₂₇ 0) ∷ ‵ (fdies (sliceTy (tyRef erased imm (pointee (u8 .written)))) l₂₇) ∷ ‵ (froom (tyRef erased imm (pointee ((Array u8 2048) .written))) l₂₆ 0) ∷ ‵ (fdies (tyRef erased imm (pointee ((Array u8 2048) .written))) l₂₆) ∷ ‵ (froom (sliceTy (tyRef erased mut (pointee ((Array u8 139) .written)))) l₂₅ 0) ∷ ‵ (fdies (sliceTy (tyRef erased mut (pointee ((Array u8 139) .written)))) l₂₅) ∷ ‵ (froom (tyRef erased mut (pointee ((Array u8 139) .written))) l₂₄ 0) ∷ ‵ (fdies (tyRef erased mut (pointee ((Array u8 139) .written))) l₂₄) ∷ ‵ (froom (sliceTy (tyRef erased mut (pointee (Session-t.the-row .written)))) l₂₃ 0) ∷ ‵ (fdies (sliceTy (tyRef erased mut (pointee (Session-t.the-row .written)))) l₂₃) ∷ ‵ (froom (tyRef erased mut (pointee (Session-t.the-row .written))) l₂₂ 0) ∷ ‵ (fdies (tyRef erased mut (pointee (Session-t.the-row .written))) l₂₂) ∷ ‵ (froom (sliceTy (tyRef erased mut (pointee (u8 .written)))) l₂₁ 0) ∷ ‵ (fdies (sliceTy (tyRef erased mut (pointee (u8 .written)))) l₂₁) ∷ ‵ (froom (tyRef erased mut (pointee (u8 .written))) l₂₀ 0) ∷ ‵ (fdies (tyRef erased mut (pointee (u8 .written))) l₂₀) ∷ ‵ (froom (sliceTy (tyRef erased imm (pointee (u8 .written)))) l₁₉ 0) ∷ ‵ (fdies (sliceTy (tyRef erased imm (pointee (u8 .written)))) l₁₉) ∷ ‵ (froom (tyRef erased imm (pointee ((Array u8 2048) .written))) l₁₈ 0) ∷ ‵ (fdies (tyRef erased imm (pointee ((Array u8 2048) .written))) l₁₈) ∷ ‵ (froom (sliceTy (tyRef erased mut (pointee ((Array u8 139) .written)))) l₁₇ 0) ∷ ‵ (fdies (sliceTy (tyRef erased mut (pointee ((Array u8 139) .written)))) l₁₇) ∷ ‵ (froom (tyRef erased mut (pointee ((Array u8 139) .written))) l₁₆ 0) ∷ ‵ (fdies (tyRef erased mut (pointee ((Array u8 139) .written))) l₁₆) ∷ ‵ (froom (sliceTy (tyRef erased mut (pointee (Session-t.the-row .written)))) l₁₅ 0) ∷ ‵ (fdies (sliceTy (tyRef erased mut (pointee (Session-t.the-row .written)))) l₁₅) ∷ ‵ (froom (tyRef erased mut (pointee (Session-t.the-row .written))) l₁₄ 0) ∷ ‵ (fdies (tyRef erased mut (pointee (Session-t.the-row .written))) l₁₄) ∷ ‵ (fat fullShare tyBool l₁₃ 0 (vbool (eqb r-phase-of 2))) ∷ ‵ (fdies tyBool l₁₃) ∷ ‵ (fat fullShare (sliceTy (tyRef erased mut (pointee (u8 .written)))) l₁₂ 0 (sliceVal (l₆, 0) 2048)) ∷ ‵ (fdies (sliceTy (tyRef erased mut (pointee (u8 .written)))) l₁₂) ∷ ‵ (froom (tyRef erased mut (pointee ((Array u8 2048) .written))) l₁₁ 0) ∷ ‵ (fdies (tyRef erased mut (pointee ((Array u8 2048) .written))) l₁₁) ∷ ‵ (froom tyBool l₁₀ 0) ∷ ‵ (fdies tyBool l₁₀) ∷ ‵ (fat fullShare (tyInt w8) l₉ 0 (vint w8 r-phase-of)) ∷ ‵ (fdies (tyInt w8) l₉) ∷ ‵ (fat fullShare Bench-l.mir l₈ 0 w-with-line) ∷ ‵ (fdies Bench-l.mir l₈) ∷ ‵ (fat fullShare Line-l.mir l₇ 0 w-read-line) ∷ ‵ (fdies Line-l.mir l₇) ∷ ‵ (fat fullShare (tyArray (tyInt w8) 2048) l₆ 0 (only (array-vals (uint-vals w8) (z-read-line .1 .0)))) ∷ ‵ (fdies (tyArray (tyInt w8) 2048) l₆) ∷ ‵ (fat fullShare (sliceTy (tyRef (named 3) mut (pointee (u8 .written)))) l₅ 0 v-out) ∷ ‵ (fdies (sliceTy (tyRef (named 3) mut (pointee (u8 .written)))) l₅) ∷ ‵ (fat fullShare (sliceTy (tyRef (named 2) imm (pointee (u8 .written)))) l₄ 0 v-text) ∷ ‵ (fdies (sliceTy (tyRef (named 2) imm (pointee (u8 .written)))) l₄) ∷ ‵ (fat fullShare (sliceTy (tyRef (named 1) mut (pointee ((Array u8 139) .written)))) l₃ 0 v-store) ∷ ‵ (fdies (sliceTy (tyRef (named 1) mut (pointee ((Array u8 139) .written)))) l₃) ∷ ‵ (fat fullShare (sliceTy (tyRef (named 0) mut (pointee (Session-t.the-row .written)))) l₂ 0 v-recs) ∷ ‵ (fdies (sliceTy (tyRef (named 0) mut (pointee (Session-t.the-row .written)))) l₂) ∷ ‵ (fat fullShare Bench-l.mir l₁ 0 v-b) ∷ ‵ (fdies Bench-l.mir l₁) ∷ ‵ (froom Bench-l.mir l₀ 0) ∷ ‵ (fdies Bench-l.mir l₀) ∷ ‵ Own-out ∷ ‵ Own-recs ∷ ‵ Own-store ∷ ‵ Own-text ∷ ‵ (flft κ₀ q₀) ∷ ‵ (flft κ₁ q₁) ∷ ‵ (flft κ₂ q₂) ∷ ‵ (flft κ₃ q₃) ∷ []) (runs C Λ (En l₀ l₁ l₂ l₃ l₄ l₅ l₆ l₇ l₈ l₉ l₁₀ l₁₁ l₁₂ l₁₃ l₁₄ l₁₅ l₁₆ l₁₇ l₁₈ l₁₉ l₂₀ l₂₁ l₂₂ l₂₃ l₂₄ l₂₅ l₂₆ l₂₇ l₂₈ l₂₉ l₃₀ l₃₁ l₃₂ l₃₃) mir.t-9 (atRet (En l₀ l₁ l₂ l₃ l₄ l₅ l₆ l₇ l₈ l₉ l₁₀ l₁₁ l₁₂ l₁₃ l₁₄ l₁₅ l₁₆ l₁₇ l₁₈ l₁₉ l₂₀ l₂₁ l₂₂ l₂₃ l₂₄ l₂₅ l₂₆ l₂₇ l₂₈ l₂₉ l₃₀ l₃₁ l₃₂ l₃₃) Post))
       part-9 w-read-line r-read-line z-read-line e-read-line is-read-line len-read-line-octets is-read-line-back w-with-line r-with-line e-with-line is-with-line w-phase-of r-phase-of e-phase-of is-phase-of t =
-          -- _9 = leaves_plan(_1, _6)
+          -- _10 = leaves_plan(_1, _7)
           nothing ! $ nothing ! $ owned ! Line-t.the-row (Is Line-t.the-row) (EL.makes Line-t.the-type Line-l.the-plain 𝓤 H A) r-read-line _ is-read-line $ fjoin ! $
           owned ! Bench-t.the-row (Is Bench-t.the-row) (LL.makes Bench-t.the-type Bench-l.the-plain 𝓤 H A) b _ is-b $ fjoin ! $ move ! (1 ∷ 0 ∷ []) $
           use2 W (raw (c-leaves-plan 𝓤 H A mem run .pre ((tt, tt, tt, (b, (r-read-line, tt)), (v-b ∷ [], (w-read-line ∷ [], tt))), tt))) (qed W ((‵ ftrue) ∷ ‵ (fsep (Bench-t.the-row .own b (v-b ∷ [])) (fsep (Line-t.the-row .own r-read-line (w-read-line ∷ [])) ftrue)) ∷ []) ∵ join ! $ frame ! $ done !) $
-          calls-at ! fm (c-leaves-plan 𝓤 H A mem run) known-leaves-plan ((tt, tt, tt, (b, (r-read-line, tt)), (v-b ∷ [], (w-read-line ∷ [], tt))), tt) (and-then ! (load ! (from ! (stop !)) (look ! 55 refl)) (and-then ! (load ! (from ! (stop !)) (look ! 45 refl)) (no-more !))) (λ w-leaves-plan.
+          calls-at ! fm (c-leaves-plan 𝓤 H A mem run) known-leaves-plan ((tt, tt, tt, (b, (r-read-line, tt)), (v-b ∷ [], (w-read-line ∷ [], tt))), tt) (and-then ! (load ! (from ! (stop !)) (look ! 65 refl)) (and-then ! (load ! (from ! (stop !)) (look ! 53 refl)) (no-more !))) (λ w-leaves-plan.
           use1 W (later (some (λ (r-leaves-plan : Bool). ((‵ ftrue) ⊛ ‵ (bool .own r-leaves-plan (w-leaves-plan ∷ []))) ⊛ raw (ensured 𝓤 H A c-leaves-plan′.ended (c-leaves-plan′.clauses 𝓤 H A mem run) tt (b, (r-read-line, tt)) tt r-leaves-plan)))) (id⊢ 𝓤 _) $ await ! tt $
           pick ! (λ r-leaves-plan. split ! $ move ! (1 ∷ []) $
           use1 W (some (λ (z-leaves-plan : (Unit {0}) × ((Unit {0}) × Unit {0})). ‵ (lasts c-leaves-plan′.ended tt (b, (r-read-line, tt)) z-leaves-plan) ⊛ raw (fact 𝓤 (r-leaves-plan ≡ (eqb (b .phase) plans && not (isPoint r-read-line)))))) (id⊢ 𝓤 _) $
           pick ! (λ z-leaves-plan. split ! $ move ! (1 ∷ []) $ heard ! (r-leaves-plan ≡ (eqb (b .phase) plans && not (isPoint r-read-line))) (λ e-leaves-plan. fsplit ! $ drop ! $ fsplit ! $ drop ! $ drop ! $ split ! $ drop ! $
-          peeks ! bool (Is bool) (shows 𝓤 H A bool) r-leaves-plan (w-leaves-plan ∷ []) (λ is-leaves-plan. land ! (from ! (stop !)) (init ! 39 refl (bool-lawful 𝓤 H A W .typed r-leaves-plan _ is-leaves-plan .0)) $ drop ! $
-          -- _12 = _9
-          assigns ! (of-opd ! (load ! (from ! (stop !)) (look ! 38 refl))) (from ! (stop !)) (overwrite ! 32 refl (bool-lawful 𝓤 H A W .typed r-leaves-plan _ is-leaves-plan .0)) $
-          -- if _12
-          rewrite ! 32 (λ (v : Val). ‵ (fat fullShare tyBool l₁₂ 0 v)) (ap only is-leaves-plan) refl $ first ! $ branches ! (load ! (from ! (stop !)) (look ! 32 refl)) (λ on2. let t2 = on-true r-leaves-plan on2 in
-          -- _19 = & _2.0.*
-          assigns ! (addr ! (from ! (fld ! refl (hop ! (look-in ! 52 (sub ! 0 refl (whole !))) (stop !))))) (from ! (stop !)) (init ! 18 refl (tt, tt)) $
-          -- _20 = {_19, _2.1}
-          assigns ! (agg ! (and-then ! (load ! (from ! (stop !)) (look ! 18 refl)) (and-then ! (load ! (from ! (fld ! refl (stop !))) (look-in ! 52 (sub ! 1 refl (whole !)))) (no-more !)))) (from ! (stop !)) (init ! 16 refl (tt, (tt, (record { fits = room-recs .0 }, tt)))) $
-          -- _21 = & _5
+          peeks ! bool (Is bool) (shows 𝓤 H A bool) r-leaves-plan (w-leaves-plan ∷ []) (λ is-leaves-plan. land ! (from ! (stop !)) (init ! 47 refl (bool-lawful 𝓤 H A W .typed r-leaves-plan _ is-leaves-plan .0)) $ drop ! $
+          -- _13 = _10
+          assigns ! (of-opd ! (load ! (from ! (stop !)) (look ! 46 refl))) (from ! (stop !)) (overwrite ! 40 refl (bool-lawful 𝓤 H A W .typed r-leaves-plan _ is-leaves-plan .0)) $
+          -- if _13
+          rewrite ! 40 (λ (v : Val). ‵ (fat fullShare tyBool l₁₃ 0 v)) (ap only is-leaves-plan) refl $ first ! $ branches ! (load ! (from ! (stop !)) (look ! 40 refl)) (λ on2. let t2 = on-true r-leaves-plan on2 in
+          -- _22 = & _2.0.*
+          assigns ! (addr ! (from ! (fld ! refl (hop ! (look-in ! 62 (sub ! 0 refl (whole !))) (stop !))))) (from ! (stop !)) (init ! 22 refl (tt, tt)) $
+          -- _23 = {_22, _2.1}
+          assigns ! (agg ! (and-then ! (load ! (from ! (stop !)) (look ! 22 refl)) (and-then ! (load ! (from ! (fld ! refl (stop !))) (look-in ! 62 (sub ! 1 refl (whole !)))) (no-more !)))) (from ! (stop !)) (init ! 20 refl (tt, (tt, (record { fits = room-recs .0 }, tt)))) $
+          -- _24 = & _3.0.*
+          assigns ! (addr ! (from ! (fld ! refl (hop ! (look-in ! 60 (sub ! 0 refl (whole !))) (stop !))))) (from ! (stop !)) (init ! 18 refl (tt, tt)) $
+          -- _25 = {_24, _3.1}
+          assigns ! (agg ! (and-then ! (load ! (from ! (stop !)) (look ! 18 refl)) (and-then ! (load ! (from ! (fld ! refl (stop !))) (look-in ! 60 (sub ! 1 refl (whole !)))) (no-more !)))) (from ! (stop !)) (init ! 16 refl (tt, (tt, (record { fits = room-store .0 }, tt)))) $
+          -- _26 = & _6
           assigns ! (addr ! (from ! (stop !))) (from ! (stop !)) (init ! 14 refl (tt, tt)) $
-          -- _22 = {_21, 2048}
+          -- _27 = {_26, 2048}
           assigns ! (agg ! (and-then ! (load ! (from ! (stop !)) (look ! 14 refl)) (and-then ! (big-lit ! (record { fits = lit< tt })) (no-more !)))) (from ! (stop !)) (init ! 12 refl (tt, (tt, (record { fits = lit< tt }, tt)))) $
-          -- _23 = & _4.0.*
-          assigns ! (addr ! (from ! (fld ! refl (hop ! (look-in ! 48 (sub ! 0 refl (whole !))) (stop !))))) (from ! (stop !)) (init ! 10 refl (tt, tt)) $
-          -- _24 = {_23, _4.1}
-          assigns ! (agg ! (and-then ! (load ! (from ! (stop !)) (look ! 10 refl)) (and-then ! (load ! (from ! (fld ! refl (stop !))) (look-in ! 48 (sub ! 1 refl (whole !)))) (no-more !)))) (from ! (stop !)) (init ! 8 refl (tt, (tt, (record { fits = room-out .0 }, tt)))) $
-          -- _0 = leave_plan(_7, _20, _6, _22, _24)
-          lft-new ! tt (λ ν. move ! (47 ∷ []) $
-          use1 W (later (some (λ (δ : GName). ‵ (ShrSlice (named 0) (ν ∷ []) u8 .own (record { ptr = (l₅, 0); name = δ; now = (z-read-line .1 .0) }) ((sliceVal (l₅, 0) 2048) ∷ [])) ⊛ ‵ (flent (ν ∷ []) (arr-parts (shares u8) 2048 .part fullShare (z-read-line .1 .0) l₅ 0))))) (array-shown u8 2048 (uint-vals w8) (uint-tells w8) tt 𝓤 H A W (uint-makes 𝓤 H A W w8) l₅ (lit< tt, lit< tt) (named 0) (ν ∷ []) (z-read-line .1 .0) (only (array-vals (uint-vals w8) (z-read-line .1 .0))) is-read-line-back) $ await ! tt $
-          pick ! (λ δ-leave-plan. split ! $ nothing ! $ move ! (66 ∷ 0 ∷ []) $ join ! $ move ! (3 ∷ 0 ∷ []) $ join ! $ move ! (63 ∷ 0 ∷ []) $ join ! $ nothing ! $ move ! (61 ∷ 0 ∷ []) $ fjoin ! $ move ! (2 ∷ 0 ∷ []) $ fjoin ! $
-          owned ! Line-t.the-row (Is Line-t.the-row) (EL.makes Line-t.the-type Line-l.the-plain 𝓤 H A) r-read-line _ is-read-line $ fjoin ! $ move ! (60 ∷ 0 ∷ []) $ fjoin ! $
+          -- _28 = & _5.0.*
+          assigns ! (addr ! (from ! (fld ! refl (hop ! (look-in ! 56 (sub ! 0 refl (whole !))) (stop !))))) (from ! (stop !)) (init ! 10 refl (tt, tt)) $
+          -- _29 = {_28, _5.1}
+          assigns ! (agg ! (and-then ! (load ! (from ! (stop !)) (look ! 10 refl)) (and-then ! (load ! (from ! (fld ! refl (stop !))) (look-in ! 56 (sub ! 1 refl (whole !)))) (no-more !)))) (from ! (stop !)) (init ! 8 refl (tt, (tt, (record { fits = room-out .0 }, tt)))) $
+          -- _0 = leave_plan(_8, _23, _25, _7, _27, _29)
+          lft-new ! tt (λ ν. move ! (55 ∷ []) $
+          use1 W (later (some (λ (δ : GName). ‵ (ShrSlice (named 0) (ν ∷ []) u8 .own (record { ptr = (l₆, 0); name = δ; now = (z-read-line .1 .0) }) ((sliceVal (l₆, 0) 2048) ∷ [])) ⊛ ‵ (flent (ν ∷ []) (arr-parts (shares u8) 2048 .part fullShare (z-read-line .1 .0) l₆ 0))))) (array-shown u8 2048 (uint-vals w8) (uint-tells w8) tt 𝓤 H A W (uint-makes 𝓤 H A W w8) l₆ (lit< tt, lit< tt) (named 0) (ν ∷ []) (z-read-line .1 .0) (only (array-vals (uint-vals w8) (z-read-line .1 .0))) is-read-line-back) $ await ! tt $
+          pick ! (λ δ-leave-plan. split ! $ nothing ! $ move ! (78 ∷ 0 ∷ []) $ join ! $ move ! (3 ∷ 0 ∷ []) $ join ! $ move ! (75 ∷ 0 ∷ []) $ join ! $ move ! (74 ∷ 0 ∷ []) $ join ! $ nothing ! $ move ! (71 ∷ 0 ∷ []) $ fjoin ! $
+          move ! (2 ∷ 0 ∷ []) $ fjoin ! $ owned ! Line-t.the-row (Is Line-t.the-row) (EL.makes Line-t.the-type Line-l.the-plain 𝓤 H A) r-read-line _ is-read-line $ fjoin ! $ move ! (71 ∷ 0 ∷ []) $ fjoin ! $ move ! (70 ∷ 0 ∷ []) $ fjoin ! $
           owned ! Bench-t.the-row (Is Bench-t.the-row) (LL.makes Bench-t.the-type Bench-l.the-plain 𝓤 H A) r-with-line _ is-with-line $ fjoin ! $ move ! (1 ∷ 0 ∷ []) $
-          use2 W (raw (c-leave-plan 𝓤 H A mem run .pre (((κ₀, ((ν ∷ []), (κ₂, tt))), (q₀, (fullShare, (q₂, tt))), tt, (r-with-line, (recs, (r-read-line, ((record { ptr = (l₅, 0); name = δ-leave-plan; now = (z-read-line .1 .0) }), (out, tt))))), (w-with-line ∷ [], (v-recs ∷ [], (w-read-line ∷ [], ((sliceVal (l₅, 0) 2048) ∷ [], (v-out ∷ [], tt)))))), tt))) (qed W ((‵ (flft κ₀ q₀) ⊛ ‵ (flft (ν ∷ []) fullShare) ⊛ ‵ (flft κ₂ q₂) ⊛ ‵ ftrue) ∷ ‵ (fsep (Bench-t.the-row .own r-with-line (w-with-line ∷ [])) (fsep Own-recs (fsep (Line-t.the-row .own r-read-line (w-read-line ∷ [])) (fsep (ShrSlice (named 0) (ν ∷ []) u8 .own (record { ptr = (l₅, 0); name = δ-leave-plan; now = (z-read-line .1 .0) }) ((sliceVal (l₅, 0) 2048) ∷ [])) (fsep Own-out ftrue))))) ∷ []) ∵ join ! $ frame ! $ done !) $
-          calls-at ! fm (c-leave-plan 𝓤 H A mem run) known-leave-plan (((κ₀, ((ν ∷ []), (κ₂, tt))), (q₀, (fullShare, (q₂, tt))), tt, (r-with-line, (recs, (r-read-line, ((record { ptr = (l₅, 0); name = δ-leave-plan; now = (z-read-line .1 .0) }), (out, tt))))), (w-with-line ∷ [], (v-recs ∷ [], (w-read-line ∷ [], ((sliceVal (l₅, 0) 2048) ∷ [], (v-out ∷ [], tt)))))), tt) (and-then ! (load ! (from ! (stop !)) (look ! 44 refl)) (and-then ! (load ! (from ! (stop !)) (look ! 18 refl)) (and-then ! (load ! (from ! (stop !)) (look ! 46 refl)) (and-then ! (load ! (from ! (stop !)) (look ! 14 refl)) (and-then ! (load ! (from ! (stop !)) (look ! 10 refl)) (no-more !)))))) (λ w-leave-plan.
-          use1 W (later (some (λ (r-leave-plan : Bench). ((‵ (flft κ₀ q₀) ⊛ ‵ (flft (ν ∷ []) fullShare) ⊛ ‵ (flft κ₂ q₂) ⊛ ‵ ftrue) ⊛ ‵ (Bench-t.the-row .own r-leave-plan (w-leave-plan ∷ []))) ⊛ raw (ensured 𝓤 H A c-leave-plan′.ended (c-leave-plan′.clauses 𝓤 H A mem run) (κ₀, ((ν ∷ []), (κ₂, tt))) (r-with-line, (recs, (r-read-line, ((record { ptr = (l₅, 0); name = δ-leave-plan; now = (z-read-line .1 .0) }), (out, tt))))) tt r-leave-plan)))) (id⊢ 𝓤 _) $ await ! tt $
+          use2 W (raw (c-leave-plan 𝓤 H A mem run .pre (((κ₀, (κ₁, ((ν ∷ []), (κ₃, tt)))), (q₀, (q₁, (fullShare, (q₃, tt)))), tt, (r-with-line, (recs, (store, (r-read-line, ((record { ptr = (l₆, 0); name = δ-leave-plan; now = (z-read-line .1 .0) }), (out, tt)))))), (w-with-line ∷ [], (v-recs ∷ [], (v-store ∷ [], (w-read-line ∷ [], ((sliceVal (l₆, 0) 2048) ∷ [], (v-out ∷ [], tt))))))), tt))) (qed W ((‵ (flft κ₀ q₀) ⊛ ‵ (flft κ₁ q₁) ⊛ ‵ (flft (ν ∷ []) fullShare) ⊛ ‵ (flft κ₃ q₃) ⊛ ‵ ftrue) ∷ ‵ (fsep (Bench-t.the-row .own r-with-line (w-with-line ∷ [])) (fsep Own-recs (fsep Own-store (fsep (Line-t.the-row .own r-read-line (w-read-line ∷ [])) (fsep (ShrSlice (named 0) (ν ∷ []) u8 .own (record { ptr = (l₆, 0); name = δ-leave-plan; now = (z-read-line .1 .0) }) ((sliceVal (l₆, 0) 2048) ∷ [])) (fsep Own-out ftrue)))))) ∷ []) ∵ join ! $ frame ! $ done !) $
+          calls-at ! fm (c-leave-plan 𝓤 H A mem run) known-leave-plan (((κ₀, (κ₁, ((ν ∷ []), (κ₃, tt)))), (q₀, (q₁, (fullShare, (q₃, tt)))), tt, (r-with-line, (recs, (store, (r-read-line, ((record { ptr = (l₆, 0); name = δ-leave-plan; now = (z-read-line .1 .0) }), (out, tt)))))), (w-with-line ∷ [], (v-recs ∷ [], (v-store ∷ [], (w-read-line ∷ [], ((sliceVal (l₆, 0) 2048) ∷ [], (v-out ∷ [], tt))))))), tt) (and-then ! (load ! (from ! (stop !)) (look ! 52 refl)) (and-then ! (load ! (from ! (stop !)) (look ! 22 refl)) (and-then ! (load ! (from ! (stop !)) (look ! 18 refl)) (and-then ! (load ! (from ! (stop !)) (look ! 54 refl)) (and-then ! (load ! (from ! (stop !)) (look ! 14 refl)) (and-then ! (load ! (from ! (stop !)) (look ! 10 refl)) (no-more !))))))) (λ w-leave-plan.
+          use1 W (later (some (λ (r-leave-plan : Bench). ((‵ (flft κ₀ q₀) ⊛ ‵ (flft κ₁ q₁) ⊛ ‵ (flft (ν ∷ []) fullShare) ⊛ ‵ (flft κ₃ q₃) ⊛ ‵ ftrue) ⊛ ‵ (Bench-t.the-row .own r-leave-plan (w-leave-plan ∷ []))) ⊛ raw (ensured 𝓤 H A c-leave-plan′.ended (c-leave-plan′.clauses 𝓤 H A mem run) (κ₀, (κ₁, ((ν ∷ []), (κ₃, tt)))) (r-with-line, (recs, (store, (r-read-line, ((record { ptr = (l₆, 0); name = δ-leave-plan; now = (z-read-line .1 .0) }), (out, tt)))))) tt r-leave-plan)))) (id⊢ 𝓤 _) $ await ! tt $
           pick ! (λ r-leave-plan. split ! $ move ! (1 ∷ []) $
-          use1 W (some (λ (z-leave-plan : (Unit {0}) × ((List Session) × ((Unit {0}) × ((Unit {0}) × ((List ℕ) × Unit {0}))))). ‵ (lasts c-leave-plan′.ended (κ₀, ((ν ∷ []), (κ₂, tt))) (r-with-line, (recs, (r-read-line, ((record { ptr = (l₅, 0); name = δ-leave-plan; now = (z-read-line .1 .0) }), (out, tt))))) z-leave-plan) ⊛ raw (fact 𝓤 (ran r-leave-plan (z-leave-plan .1 .0) (z-leave-plan .1 .1 .1 .1 .0) ≡ leavePlan r-read-line ((z-read-line .1 .0)) r-with-line (ys-recs) (ys-out))))) (id⊢ 𝓤 _) $
-          pick ! (λ z-leave-plan. split ! $ move ! (1 ∷ []) $ heard ! (ran r-leave-plan (z-leave-plan .1 .0) (z-leave-plan .1 .1 .1 .1 .0) ≡ leavePlan r-read-line ((z-read-line .1 .0)) r-with-line (ys-recs) (ys-out)) (λ e-leave-plan.
-          fsplit ! $ drop ! $ fsplit ! $ fsplit ! $ move ! (1 ∷ []) $ feqL ! (λ len-leave-plan-recs. move ! (1 ∷ []) $ fsplit ! $ drop ! $ fsplit ! $ drop ! $ fsplit ! $ fsplit ! $ move ! (1 ∷ []) $ feqL ! (λ len-leave-plan-out.
-          move ! (1 ∷ []) $ drop ! $ move ! (2 ∷ []) $ split ! $ split ! $ move ! (1 ∷ []) $ split ! $ move ! (1 ∷ []) $ split ! $ move ! (1 ∷ []) $ drop ! $ move ! (3 ∷ []) $
-          peeks ! Bench-t.the-row (Is Bench-t.the-row) (shows 𝓤 H A Bench-t.the-row) r-leave-plan (w-leave-plan ∷ []) (λ is-leave-plan.
-          land ! (from ! (stop !)) (init ! 62 refl (LL.lawful Bench-t.the-type Bench-l.the-laws 𝓤 H A W .typed r-leave-plan _ is-leave-plan .0)) $ drop ! $ move ! (1 ∷ []) $ lft-end ! tt $ move ! (0 ∷ 5 ∷ []) $
-          use2 W (later (given (Is (Array u8 2048) (z-read-line .1 .0) (array-vals (uint-vals w8) (z-read-line .1 .0))) (‵ (fat fullShare (tyArray (tyInt w8) 2048) l₅ 0 (only (array-vals (uint-vals w8) (z-read-line .1 .0))))))) (array-kept u8 2048 (uint-vals w8) (uint-tells w8) tt 𝓤 H A W (uint-makes 𝓤 H A W w8) l₅ (ν ∷ []) (z-read-line .1 .0) (is-read-line-back .1 .0 .1)) $ await ! tt $
+          use1 W (some (λ (z-leave-plan : (Unit {0}) × ((List Session) × ((List (List ℕ)) × ((Unit {0}) × ((Unit {0}) × ((List ℕ) × Unit {0})))))). ‵ (lasts c-leave-plan′.ended (κ₀, (κ₁, ((ν ∷ []), (κ₃, tt)))) (r-with-line, (recs, (store, (r-read-line, ((record { ptr = (l₆, 0); name = δ-leave-plan; now = (z-read-line .1 .0) }), (out, tt)))))) z-leave-plan) ⊛ raw (fact 𝓤 (ran r-leave-plan (z-leave-plan .1 .0) (z-leave-plan .1 .1 .0) (z-leave-plan .1 .1 .1 .1 .1 .0) ≡ leavePlan r-read-line ((z-read-line .1 .0)) r-with-line (ys-recs) (ys-store) (ys-out))))) (id⊢ 𝓤 _) $
+          pick ! (λ z-leave-plan. split ! $ move ! (1 ∷ []) $
+          heard ! (ran r-leave-plan (z-leave-plan .1 .0) (z-leave-plan .1 .1 .0) (z-leave-plan .1 .1 .1 .1 .1 .0) ≡ leavePlan r-read-line ((z-read-line .1 .0)) r-with-line (ys-recs) (ys-store) (ys-out)) (λ e-leave-plan. fsplit ! $ drop ! $
+          fsplit ! $ fsplit ! $ move ! (1 ∷ []) $ feqL ! (λ len-leave-plan-recs. move ! (1 ∷ []) $ fsplit ! $ fsplit ! $ move ! (1 ∷ []) $ feqL ! (λ len-leave-plan-store. move ! (1 ∷ []) $ fsplit ! $ drop ! $ fsplit ! $ drop ! $ fsplit ! $
+          fsplit ! $ move ! (1 ∷ []) $ feqL ! (λ len-leave-plan-out. move ! (1 ∷ []) $ drop ! $ move ! (3 ∷ []) $ split ! $ split ! $ move ! (1 ∷ []) $ split ! $ move ! (1 ∷ []) $ split ! $ move ! (1 ∷ []) $ split ! $ move ! (1 ∷ []) $
+          drop ! $ move ! (4 ∷ []) $ peeks ! Bench-t.the-row (Is Bench-t.the-row) (shows 𝓤 H A Bench-t.the-row) r-leave-plan (w-leave-plan ∷ []) (λ is-leave-plan.
+          land ! (from ! (stop !)) (init ! 74 refl (LL.lawful Bench-t.the-type Bench-l.the-laws 𝓤 H A W .typed r-leave-plan _ is-leave-plan .0)) $ drop ! $ move ! (1 ∷ []) $ lft-end ! tt $ move ! (0 ∷ 7 ∷ []) $
+          use2 W (later (given (Is (Array u8 2048) (z-read-line .1 .0) (array-vals (uint-vals w8) (z-read-line .1 .0))) (‵ (fat fullShare (tyArray (tyInt w8) 2048) l₆ 0 (only (array-vals (uint-vals w8) (z-read-line .1 .0))))))) (array-kept u8 2048 (uint-vals w8) (uint-tells w8) tt 𝓤 H A W (uint-makes 𝓤 H A W w8) l₆ (ν ∷ []) (z-read-line .1 .0) (is-read-line-back .1 .0 .1)) $ await ! tt $
           learn ! (λ is-leave-plan-back.
           -- return
-          returns-within ! Post refl (look ! 60 refl) $
-          forget ! 13 refl $ forget ! 15 refl $ forget ! 17 refl $ forget ! 19 refl $ forget ! 21 refl $ forget ! 23 refl $ forget ! 37 refl $ forget ! 39 refl $ forget ! 43 refl $ forget ! 45 refl $ forget ! 47 refl $ forget ! 49 refl $ forget ! 0 refl $ forget ! 52 refl $ forget ! 54 refl $ forget ! 56 refl $ forget ! 58 refl $ forget ! 60 refl $
-          move ! (60 ∷ 61 ∷ []) $ free1 ! $ move ! (58 ∷ 59 ∷ []) $ free1 ! $ move ! (56 ∷ 57 ∷ []) $ free1 ! $ move ! (54 ∷ 55 ∷ []) $ free1 ! $ move ! (52 ∷ 53 ∷ []) $ free1 ! $ move ! (0 ∷ 51 ∷ []) $ free1 ! $ move ! (48 ∷ 49 ∷ []) $ free1 ! $ move ! (46 ∷ 47 ∷ []) $ free1 ! $ move ! (44 ∷ 45 ∷ []) $ free1 ! $ move ! (42 ∷ 43 ∷ []) $ free1 ! $ move ! (40 ∷ 41 ∷ []) $ free1 ! $ move ! (38 ∷ 39 ∷ []) $ free1 ! $ move ! (36 ∷ 37 ∷ []) $ free1 ! $ move ! (34 ∷ 35 ∷ []) $ free1 ! $ move ! (32 ∷ 33 ∷ []) $ free1 ! $ move ! (30 ∷ 31 ∷ []) $ free1 ! $ move ! (28 ∷ 29 ∷ []) $ free1 ! $ move ! (26 ∷ 27 ∷ []) $ free1 ! $ move ! (24 ∷ 25 ∷ []) $ free1 ! $ move ! (22 ∷ 23 ∷ []) $ free1 ! $ move ! (20 ∷ 21 ∷ []) $ free1 ! $ move ! (18 ∷ 19 ∷ []) $ free1 ! $ move ! (16 ∷ 17 ∷ []) $ free1 ! $ move ! (14 ∷ 15 ∷ []) $ free1 ! $ move ! (12 ∷ 13 ∷ []) $ free1 ! $ move ! (10 ∷ 11 ∷ []) $ free1 ! $ move ! (8 ∷ 9 ∷ []) $ free1 ! $ move ! (6 ∷ 7 ∷ []) $ free1 ! $ move ! (4 ∷ 5 ∷ []) $ free1 ! $ free0 ! $
-          owned ! Bench-t.the-row (Is Bench-t.the-row) (LL.makes Bench-t.the-type Bench-l.the-plain 𝓤 H A) r-leave-plan _ is-leave-plan $ nothing ! $ move ! (2 ∷ 0 ∷ []) $ join ! $ move ! (6 ∷ 0 ∷ []) $ join ! $ move ! (2 ∷ 0 ∷ []) $
-          join ! $ keep ! (0 ∷ 3 ∷ 2 ∷ 1 ∷ []) $
-          by ! (exits r-leave-plan w-leave-plan (z-leave-plan .1 .0) (z-leave-plan .1 .1 .1 .1 .0) (line-leaves (now text) (z-read-line .1 .0) b r-with-line ys-recs ys-out (ran r-leave-plan (z-leave-plan .1 .0) (z-leave-plan .1 .1 .1 .1 .0)) r-read-line r-phase-of e-read-line e-with-line e-phase-of r-leaves-plan e-leaves-plan t t2 e-leave-plan) len-leave-plan-recs len-leave-plan-out))))))))))))
+          returns-within ! Post refl (look ! 72 refl) $
+          forget ! 15 refl $ forget ! 17 refl $ forget ! 19 refl $ forget ! 21 refl $ forget ! 23 refl $ forget ! 25 refl $ forget ! 27 refl $ forget ! 29 refl $ forget ! 47 refl $ forget ! 49 refl $ forget ! 53 refl $ forget ! 55 refl $ forget ! 57 refl $ forget ! 59 refl $ forget ! 0 refl $ forget ! 62 refl $ forget ! 64 refl $ forget ! 66 refl $ forget ! 68 refl $ forget ! 70 refl $ forget ! 72 refl $
+          move ! (72 ∷ 73 ∷ []) $ free1 ! $ move ! (70 ∷ 71 ∷ []) $ free1 ! $ move ! (68 ∷ 69 ∷ []) $ free1 ! $ move ! (66 ∷ 67 ∷ []) $ free1 ! $ move ! (64 ∷ 65 ∷ []) $ free1 ! $ move ! (62 ∷ 63 ∷ []) $ free1 ! $ move ! (0 ∷ 61 ∷ []) $ free1 ! $ move ! (58 ∷ 59 ∷ []) $ free1 ! $ move ! (56 ∷ 57 ∷ []) $ free1 ! $ move ! (54 ∷ 55 ∷ []) $ free1 ! $ move ! (52 ∷ 53 ∷ []) $ free1 ! $ move ! (50 ∷ 51 ∷ []) $ free1 ! $ move ! (48 ∷ 49 ∷ []) $ free1 ! $ move ! (46 ∷ 47 ∷ []) $ free1 ! $ move ! (44 ∷ 45 ∷ []) $ free1 ! $ move ! (42 ∷ 43 ∷ []) $ free1 ! $ move ! (40 ∷ 41 ∷ []) $ free1 ! $ move ! (38 ∷ 39 ∷ []) $ free1 ! $ move ! (36 ∷ 37 ∷ []) $ free1 ! $ move ! (34 ∷ 35 ∷ []) $ free1 ! $ move ! (32 ∷ 33 ∷ []) $ free1 ! $ move ! (30 ∷ 31 ∷ []) $ free1 ! $ move ! (28 ∷ 29 ∷ []) $ free1 ! $ move ! (26 ∷ 27 ∷ []) $ free1 ! $ move ! (24 ∷ 25 ∷ []) $ free1 ! $ move ! (22 ∷ 23 ∷ []) $ free1 ! $ move ! (20 ∷ 21 ∷ []) $ free1 ! $ move ! (18 ∷ 19 ∷ []) $ free1 ! $ move ! (16 ∷ 17 ∷ []) $ free1 ! $ move ! (14 ∷ 15 ∷ []) $ free1 ! $ move ! (12 ∷ 13 ∷ []) $ free1 ! $ move ! (10 ∷ 11 ∷ []) $ free1 ! $ move ! (8 ∷ 9 ∷ []) $ free1 ! $ move ! (6 ∷ 7 ∷ []) $ free1 ! $ free0 ! $
+          owned ! Bench-t.the-row (Is Bench-t.the-row) (LL.makes Bench-t.the-type Bench-l.the-plain 𝓤 H A) r-leave-plan _ is-leave-plan $ nothing ! $ move ! (2 ∷ 0 ∷ []) $ join ! $ move ! (8 ∷ 0 ∷ []) $ join ! $ move ! (2 ∷ 0 ∷ []) $
+          join ! $ move ! (2 ∷ 0 ∷ []) $ join ! $ keep ! (0 ∷ 4 ∷ 3 ∷ 2 ∷ 1 ∷ []) $
+          by ! (exits r-leave-plan w-leave-plan (z-leave-plan .1 .0) (z-leave-plan .1 .1 .0) (z-leave-plan .1 .1 .1 .1 .1 .0) (line-leaves (now text) (z-read-line .1 .0) b r-with-line ys-recs ys-store ys-out (ran r-leave-plan (z-leave-plan .1 .0) (z-leave-plan .1 .1 .0) (z-leave-plan .1 .1 .1 .1 .1 .0)) r-read-line r-phase-of e-read-line e-with-line e-phase-of r-leaves-plan e-leaves-plan t t2 e-leave-plan) len-leave-plan-recs len-leave-plan-store len-leave-plan-out)))))))))))))
           (λ off2. let t2 = off-false r-leaves-plan off2 in
-          skips ! $ exec ! C Λ (En l₀ l₁ l₂ l₃ l₄ l₅ l₆ l₇ l₈ l₉ l₁₀ l₁₁ l₁₂ l₁₃ l₁₄ l₁₅ l₁₆ l₁₇ l₁₈ l₁₉ l₂₀ l₂₁ l₂₂ l₂₃ l₂₄ l₂₅ l₂₆ l₂₇ l₂₈) mir.t-12 (atRet (En l₀ l₁ l₂ l₃ l₄ l₅ l₆ l₇ l₈ l₉ l₁₀ l₁₁ l₁₂ l₁₃ l₁₄ l₁₅ l₁₆ l₁₇ l₁₈ l₁₉ l₂₀ l₂₁ l₂₂ l₂₃ l₂₄ l₂₅ l₂₆ l₂₇ l₂₈) Post) $
-          keep ! (0 ∷ 1 ∷ 2 ∷ 3 ∷ 4 ∷ 5 ∷ 6 ∷ 7 ∷ 8 ∷ 9 ∷ 10 ∷ 11 ∷ 12 ∷ 13 ∷ 14 ∷ 15 ∷ 16 ∷ 17 ∷ 18 ∷ 19 ∷ 20 ∷ 21 ∷ 22 ∷ 23 ∷ 24 ∷ 25 ∷ 26 ∷ 27 ∷ 28 ∷ 29 ∷ 30 ∷ 31 ∷ 32 ∷ 33 ∷ 34 ∷ 35 ∷ 36 ∷ 37 ∷ 38 ∷ 39 ∷ 40 ∷ 41 ∷ 42 ∷ 43 ∷ 44 ∷ 45 ∷ 46 ∷ 47 ∷ 48 ∷ 49 ∷ 50 ∷ 51 ∷ 52 ∷ 53 ∷ 54 ∷ 55 ∷ 56 ∷ 57 ∷ 58 ∷ 59 ∷ 60 ∷ 61 ∷ 62 ∷ 63 ∷ []) $
+          skips ! $ exec ! C Λ (En l₀ l₁ l₂ l₃ l₄ l₅ l₆ l₇ l₈ l₉ l₁₀ l₁₁ l₁₂ l₁₃ l₁₄ l₁₅ l₁₆ l₁₇ l₁₈ l₁₉ l₂₀ l₂₁ l₂₂ l₂₃ l₂₄ l₂₅ l₂₆ l₂₇ l₂₈ l₂₉ l₃₀ l₃₁ l₃₂ l₃₃) mir.t-12 (atRet (En l₀ l₁ l₂ l₃ l₄ l₅ l₆ l₇ l₈ l₉ l₁₀ l₁₁ l₁₂ l₁₃ l₁₄ l₁₅ l₁₆ l₁₇ l₁₈ l₁₉ l₂₀ l₂₁ l₂₂ l₂₃ l₂₄ l₂₅ l₂₆ l₂₇ l₂₈ l₂₉ l₃₀ l₃₁ l₃₂ l₃₃) Post) $
+          keep ! (0 ∷ 1 ∷ 2 ∷ 3 ∷ 4 ∷ 5 ∷ 6 ∷ 7 ∷ 8 ∷ 9 ∷ 10 ∷ 11 ∷ 12 ∷ 13 ∷ 14 ∷ 15 ∷ 16 ∷ 17 ∷ 18 ∷ 19 ∷ 20 ∷ 21 ∷ 22 ∷ 23 ∷ 24 ∷ 25 ∷ 26 ∷ 27 ∷ 28 ∷ 29 ∷ 30 ∷ 31 ∷ 32 ∷ 33 ∷ 34 ∷ 35 ∷ 36 ∷ 37 ∷ 38 ∷ 39 ∷ 40 ∷ 41 ∷ 42 ∷ 43 ∷ 44 ∷ 45 ∷ 46 ∷ 47 ∷ 48 ∷ 49 ∷ 50 ∷ 51 ∷ 52 ∷ 53 ∷ 54 ∷ 55 ∷ 56 ∷ 57 ∷ 58 ∷ 59 ∷ 60 ∷ 61 ∷ 62 ∷ 63 ∷ 64 ∷ 65 ∷ 66 ∷ 67 ∷ 68 ∷ 69 ∷ 70 ∷ 71 ∷ 72 ∷ 73 ∷ 74 ∷ 75 ∷ []) $
           part-12 w-read-line r-read-line z-read-line e-read-line is-read-line len-read-line-octets is-read-line-back w-with-line r-with-line e-with-line is-with-line w-phase-of r-phase-of e-phase-of is-phase-of t w-leaves-plan r-leaves-plan e-leaves-plan is-leaves-plan t2))))))
 
-      part-1 : Sq W (‵ (froom (sliceTy (tyRef erased mut (pointee (u8 .written)))) l₂₈ 0) ∷ ‵ (fdies (sliceTy (tyRef erased mut (pointee (u8 .written)))) l₂₈) ∷ ‵ (froom (tyRef erased mut (pointee (u8 .written))) l₂₇ 0) ∷ ‵ (fdies (tyRef erased mut (pointee (u8 .written))) l₂₇) ∷ ‵ (froom (sliceTy (tyRef erased imm (pointee (u8 .written)))) l₂₆ 0) ∷ ‵ (fdies (sliceTy (tyRef erased imm (pointee (u8 .written)))) l₂₆) ∷ ‵ (froom (tyRef erased imm (pointee ((Array u8 2048) .written))) l₂₅ 0) ∷ ‵ (fdies (tyRef erased imm (pointee ((Array u8 2048) .written))) l₂₅) ∷ ‵ (froom (sliceTy (tyRef erased mut (pointee (u8 .written)))) l₂₄ 0) ∷ ‵ (fdies (sliceTy (tyRef erased mut (pointee (u8 .written)))) l₂₄) ∷ ‵ (froom (tyRef erased mut (pointee (u8 .written))) l₂₃ 0) ∷ ‵ (fdies (tyRef erased mut (pointee (u8 .written))) l₂₃) ∷ ‵ (froom (sliceTy (tyRef erased imm (pointee (u8 .written)))) l₂₂ 0) ∷ ‵ (fdies (sliceTy (tyRef erased imm (pointee (u8 .written)))) l₂₂) ∷ ‵ (froom (tyRef erased imm (pointee ((Array u8 2048) .written))) l₂₁ 0) ∷ ‵ (fdies (tyRef erased imm (pointee ((Array u8 2048) .written))) l₂₁) ∷ ‵ (froom (sliceTy (tyRef erased mut (pointee (Session-t.the-row .written)))) l₂₀ 0) ∷ ‵ (fdies (sliceTy (tyRef erased mut (pointee (Session-t.the-row .written)))) l₂₀) ∷ ‵ (froom (tyRef erased mut (pointee (Session-t.the-row .written))) l₁₉ 0) ∷ ‵ (fdies (tyRef erased mut (pointee (Session-t.the-row .written))) l₁₉) ∷ ‵ (froom (sliceTy (tyRef erased mut (pointee (u8 .written)))) l₁₈ 0) ∷ ‵ (fdies (sliceTy (tyRef erased mut (pointee (u8 .written)))) l₁₈) ∷ ‵ (froom (tyRef erased mut (pointee (u8 .written))) l₁₇ 0) ∷ ‵ (fdies (tyRef erased mut (pointee (u8 .written))) l₁₇) ∷ ‵ (froom (sliceTy (tyRef erased imm (pointee (u8 .written)))) l₁₆ 0) ∷ ‵ (fdies (sliceTy (tyRef erased imm (pointee (u8 .written)))) l₁₆) ∷ ‵ (froom (tyRef erased imm (pointee ((Array u8 2048) .written))) l₁₅ 0) ∷ ‵ (fdies (tyRef erased imm (pointee ((Array u8 2048) .written))) l₁₅) ∷ ‵ (froom (sliceTy (tyRef erased mut (pointee (Session-t.the-row .written)))) l₁₄ 0) ∷ ‵ (fdies (sliceTy (tyRef erased mut (pointee (Session-t.the-row .written)))) l₁₄) ∷ ‵ (froom (tyRef erased mut (pointee (Session-t.the-row .written))) l₁₃ 0) ∷ ‵ (fdies (tyRef erased mut (pointee (Session-t.the-row .written))) l₁₃) ∷ ‵ (froom tyBool l₁₂ 0) ∷ ‵ (fdies tyBool l₁₂) ∷ ‵ (froom (sliceTy (tyRef erased mut (pointee (u8 .written)))) l₁₁ 0) ∷ ‵ (fdies (sliceTy (tyRef erased mut (pointee (u8 .written)))) l₁₁) ∷ ‵ (froom (tyRef erased mut (pointee ((Array u8 2048) .written))) l₁₀ 0) ∷ ‵ (fdies (tyRef erased mut (pointee ((Array u8 2048) .written))) l₁₀) ∷ ‵ (froom tyBool l₉ 0) ∷ ‵ (fdies tyBool l₉) ∷ ‵ (froom (tyInt w8) l₈ 0) ∷ ‵ (fdies (tyInt w8) l₈) ∷ ‵ (froom Bench-l.mir l₇ 0) ∷ ‵ (fdies Bench-l.mir l₇) ∷ ‵ (froom Line-l.mir l₆ 0) ∷ ‵ (fdies Line-l.mir l₆) ∷ ‵ (froom (tyArray (tyInt w8) 2048) l₅ 0) ∷ ‵ (fdies (tyArray (tyInt w8) 2048) l₅) ∷ ‵ (fat fullShare (sliceTy (tyRef (named 2) mut (pointee (u8 .written)))) l₄ 0 v-out) ∷ ‵ (fdies (sliceTy (tyRef (named 2) mut (pointee (u8 .written)))) l₄) ∷ ‵ (fat fullShare (sliceTy (tyRef (named 1) imm (pointee (u8 .written)))) l₃ 0 v-text) ∷ ‵ (fdies (sliceTy (tyRef (named 1) imm (pointee (u8 .written)))) l₃) ∷ ‵ (fat fullShare (sliceTy (tyRef (named 0) mut (pointee (Session-t.the-row .written)))) l₂ 0 v-recs) ∷ ‵ (fdies (sliceTy (tyRef (named 0) mut (pointee (Session-t.the-row .written)))) l₂) ∷ ‵ (fat fullShare Bench-l.mir l₁ 0 v-b) ∷ ‵ (fdies Bench-l.mir l₁) ∷ ‵ (froom Bench-l.mir l₀ 0) ∷ ‵ (fdies Bench-l.mir l₀) ∷ ‵ Own-out ∷ ‵ Own-recs ∷ ‵ Own-text ∷ ‵ (flft κ₀ q₀) ∷ ‵ (flft κ₁ q₁) ∷ ‵ (flft κ₂ q₂) ∷ []) (runs C Λ (En l₀ l₁ l₂ l₃ l₄ l₅ l₆ l₇ l₈ l₉ l₁₀ l₁₁ l₁₂ l₁₃ l₁₄ l₁₅ l₁₆ l₁₇ l₁₈ l₁₉ l₂₀ l₂₁ l₂₂ l₂₃ l₂₄ l₂₅ l₂₆ l₂₇ l₂₈) mir.t-1 (atRet (En l₀ l₁ l₂ l₃ l₄ l₅ l₆ l₇ l₈ l₉ l₁₀ l₁₁ l₁₂ l₁₃ l₁₄ l₁₅ l₁₆ l₁₇ l₁₈ l₁₉ l₂₀ l₂₁ l₂₂ l₂₃ l₂₄ l₂₅ l₂₆ l₂₇ l₂₈) Post))
+      part-1 : Sq W (‵ (froom (sliceTy (tyRef erased mut (pointee (u8 .written)))) l₃₃ 0) ∷ ‵ (fdies (sliceTy (tyRef erased mut (pointee (u8 .written)))) l₃₃) ∷ ‵ (froom (tyRef erased mut (pointee (u8 .written))) l₃₂ 0) ∷ ‵ (fdies (tyRef erased mut (pointee (u8 .written))) l₃₂) ∷ ‵ (froom (sliceTy (tyRef erased imm (pointee (u8 .written)))) l₃₁ 0) ∷ ‵ (fdies (sliceTy (tyRef erased imm (pointee (u8 .written)))) l₃₁) ∷ ‵ (froom (tyRef erased imm (pointee ((Array u8 2048) .written))) l₃₀ 0) ∷ ‵ (fdies (tyRef erased imm (pointee ((Array u8 2048) .written))) l₃₀) ∷ ‵ (froom (sliceTy (tyRef erased mut (pointee (u8 .written)))) l₂₉ 0) ∷ ‵ (fdies (sliceTy (tyRef erased mut (pointee (u8 .written)))) l₂₉) ∷ ‵ (froom (tyRef erased mut (pointee (u8 .written))) l₂₈ 0) ∷ ‵ (fdies (tyRef erased mut (pointee (u8 .written))) l₂₈) ∷ ‵ (froom (sliceTy (tyRef erased imm (pointee (u8 .written)))) l₂₇ 0) ∷ ‵ (fdies (sliceTy (tyRef erased imm (pointee (u8 .written)))) l₂₇) ∷ ‵ (froom (tyRef erased imm (pointee ((Array u8 2048) .written))) l₂₆ 0) ∷ ‵ (fdies (tyRef erased imm (pointee ((Array u8 2048) .written))) l₂₆) ∷ ‵ (froom (sliceTy (tyRef erased mut (pointee ((Array u8 139) .written)))) l₂₅ 0) ∷ ‵ (fdies (sliceTy (tyRef erased mut (pointee ((Array u8 139) .written)))) l₂₅) ∷ ‵ (froom (tyRef erased mut (pointee ((Array u8 139) .written))) l₂₄ 0) ∷ ‵ (fdies (tyRef erased mut (pointee ((Array u8 139) .written))) l₂₄) ∷ ‵ (froom (sliceTy (tyRef erased mut (pointee (Session-t.the-row .written)))) l₂₃ 0) ∷ ‵ (fdies (sliceTy (tyRef erased mut (pointee (Session-t.the-row .written)))) l₂₃) ∷ ‵ (froom (tyRef erased mut (pointee (Session-t.the-row .written))) l₂₂ 0) ∷ ‵ (fdies (tyRef erased mut (pointee (Session-t.the-row .written))) l₂₂) ∷ ‵ (froom (sliceTy (tyRef erased mut (pointee (u8 .written)))) l₂₁ 0) ∷ ‵ (fdies (sliceTy (tyRef erased mut (pointee (u8 .written)))) l₂₁) ∷ ‵ (froom (tyRef erased mut (pointee (u8 .written))) l₂₀ 0) ∷ ‵ (fdies (tyRef erased mut (pointee (u8 .written))) l₂₀) ∷ ‵ (froom (sliceTy (tyRef erased imm (pointee (u8 .written)))) l₁₉ 0) ∷ ‵ (fdies (sliceTy (tyRef erased imm (pointee (u8 .written)))) l₁₉) ∷ ‵ (froom (tyRef erased imm (pointee ((Array u8 2048) .written))) l₁₈ 0) ∷ ‵ (fdies (tyRef erased imm (pointee ((Array u8 2048) .written))) l₁₈) ∷ ‵ (froom (sliceTy (tyRef erased mut (pointee ((Array u8 139) .written)))) l₁₇ 0) ∷ ‵ (fdies (sliceTy (tyRef erased mut (pointee ((Array u8 139) .written)))) l₁₇) ∷ ‵ (froom (tyRef erased mut (pointee ((Array u8 139) .written))) l₁₆ 0) ∷ ‵ (fdies (tyRef erased mut (pointee ((Array u8 139) .written))) l₁₆) ∷ ‵ (froom (sliceTy (tyRef erased mut (pointee (Session-t.the-row .written)))) l₁₅ 0) ∷ ‵ (fdies (sliceTy (tyRef erased mut (pointee (Session-t.the-row .written)))) l₁₅) ∷ ‵ (froom (tyRef erased mut (pointee (Session-t.the-row .written))) l₁₄ 0) ∷ ‵ (fdies (tyRef erased mut (pointee (Session-t.the-row .written))) l₁₄) ∷ ‵ (froom tyBool l₁₃ 0) ∷ ‵ (fdies tyBool l₁₃) ∷ ‵ (froom (sliceTy (tyRef erased mut (pointee (u8 .written)))) l₁₂ 0) ∷ ‵ (fdies (sliceTy (tyRef erased mut (pointee (u8 .written)))) l₁₂) ∷ ‵ (froom (tyRef erased mut (pointee ((Array u8 2048) .written))) l₁₁ 0) ∷ ‵ (fdies (tyRef erased mut (pointee ((Array u8 2048) .written))) l₁₁) ∷ ‵ (froom tyBool l₁₀ 0) ∷ ‵ (fdies tyBool l₁₀) ∷ ‵ (froom (tyInt w8) l₉ 0) ∷ ‵ (fdies (tyInt w8) l₉) ∷ ‵ (froom Bench-l.mir l₈ 0) ∷ ‵ (fdies Bench-l.mir l₈) ∷ ‵ (froom Line-l.mir l₇ 0) ∷ ‵ (fdies Line-l.mir l₇) ∷ ‵ (froom (tyArray (tyInt w8) 2048) l₆ 0) ∷ ‵ (fdies (tyArray (tyInt w8) 2048) l₆) ∷ ‵ (fat fullShare (sliceTy (tyRef (named 3) mut (pointee (u8 .written)))) l₅ 0 v-out) ∷ ‵ (fdies (sliceTy (tyRef (named 3) mut (pointee (u8 .written)))) l₅) ∷ ‵ (fat fullShare (sliceTy (tyRef (named 2) imm (pointee (u8 .written)))) l₄ 0 v-text) ∷ ‵ (fdies (sliceTy (tyRef (named 2) imm (pointee (u8 .written)))) l₄) ∷ ‵ (fat fullShare (sliceTy (tyRef (named 1) mut (pointee ((Array u8 139) .written)))) l₃ 0 v-store) ∷ ‵ (fdies (sliceTy (tyRef (named 1) mut (pointee ((Array u8 139) .written)))) l₃) ∷ ‵ (fat fullShare (sliceTy (tyRef (named 0) mut (pointee (Session-t.the-row .written)))) l₂ 0 v-recs) ∷ ‵ (fdies (sliceTy (tyRef (named 0) mut (pointee (Session-t.the-row .written)))) l₂) ∷ ‵ (fat fullShare Bench-l.mir l₁ 0 v-b) ∷ ‵ (fdies Bench-l.mir l₁) ∷ ‵ (froom Bench-l.mir l₀ 0) ∷ ‵ (fdies Bench-l.mir l₀) ∷ ‵ Own-out ∷ ‵ Own-recs ∷ ‵ Own-store ∷ ‵ Own-text ∷ ‵ (flft κ₀ q₀) ∷ ‵ (flft κ₁ q₁) ∷ ‵ (flft κ₂ q₂) ∷ ‵ (flft κ₃ q₃) ∷ []) (runs C Λ (En l₀ l₁ l₂ l₃ l₄ l₅ l₆ l₇ l₈ l₉ l₁₀ l₁₁ l₁₂ l₁₃ l₁₄ l₁₅ l₁₆ l₁₇ l₁₈ l₁₉ l₂₀ l₂₁ l₂₂ l₂₃ l₂₄ l₂₅ l₂₆ l₂₇ l₂₈ l₂₉ l₃₀ l₃₁ l₃₂ l₃₃) mir.t-1 (atRet (En l₀ l₁ l₂ l₃ l₄ l₅ l₆ l₇ l₈ l₉ l₁₀ l₁₁ l₁₂ l₁₃ l₁₄ l₁₅ l₁₆ l₁₇ l₁₈ l₁₉ l₂₀ l₂₁ l₂₂ l₂₃ l₂₄ l₂₅ l₂₆ l₂₇ l₂₈ l₂₉ l₃₀ l₃₁ l₃₂ l₃₃) Post))
       part-1 =
-          -- _5 = [0; 2048]
-          assigns ! (rep ! 2048 (lit ! tt)) (from ! (stop !)) (init ! 46 refl (array-lawful 𝓤 H A W u8 (uint-lawful 𝓤 H A W w8) 2048 .typed (replicate {A = ℕ} 2048 0) _ (repeat-is u8 0 (vint w8 0) (refl, lit< tt) 2048) .0)) $
-          -- _10 = & _5
-          assigns ! (addr ! (from ! (stop !))) (from ! (stop !)) (init ! 36 refl (tt, tt)) $
-          -- _11 = {_10, 2048}
-          assigns ! (agg ! (and-then ! (load ! (from ! (stop !)) (look ! 36 refl)) (and-then ! (big-lit ! (record { fits = lit< tt })) (no-more !)))) (from ! (stop !)) (init ! 34 refl (tt, (tt, (record { fits = lit< tt }, tt)))) $
-          -- _6 = read_line(_3, _11)
-          move ! (60 ∷ []) $ use1 W (‵ Own-text ⊛ ‵ Own-text) (shr-slice-copy 𝓤 H A W (named 1) κ₁ u8 .twice text (v-text ∷ [])) $ split ! $ lft-new ! tt (λ ν. move ! (49 ∷ []) $
-          use1 W (later (some (λ (δ : GName). ‵ (MutSlice (named 0) (ν ∷ []) u8 .own (record { ptr = (l₅, 0); name = δ; now = (replicate {A = ℕ} 2048 0) }) ((sliceVal (l₅, 0) 2048) ∷ [])) ⊛ ‵ (flent (ν ∷ []) (Held u8 2048 l₅ 0 δ))))) (array-lent u8 2048 (uint-vals w8) (uint-tells w8) tt 𝓤 H A W (uint-makes 𝓤 H A W w8) l₅ (lit< tt, lit< tt) (named 0) (ν ∷ []) (replicate {A = ℕ} 2048 0) (vstruct (ofList (replicate 2048 (vint w8 0)))) (repeat-is u8 0 (vint w8 0) (refl, lit< tt) 2048)) $ await ! tt $
-          pick ! (λ δ-read-line. split ! $ nothing ! $ move ! (3 ∷ 0 ∷ []) $ join ! $ move ! (65 ∷ 0 ∷ []) $ join ! $ nothing ! $ move ! (2 ∷ 0 ∷ []) $ fjoin ! $ move ! (4 ∷ 0 ∷ []) $ fjoin ! $ move ! (1 ∷ 0 ∷ []) $
-          use2 W (raw (c-read-line 𝓤 H A mem run .pre (((κ₁, ((ν ∷ []), tt)), (q₁, (fullShare, tt)), tt, (text, ((record { ptr = (l₅, 0); name = δ-read-line; now = (replicate {A = ℕ} 2048 0) }), tt)), (v-text ∷ [], ((sliceVal (l₅, 0) 2048) ∷ [], tt))), tt))) (qed W ((‵ (flft κ₁ q₁) ⊛ ‵ (flft (ν ∷ []) fullShare) ⊛ ‵ ftrue) ∷ ‵ (fsep Own-text (fsep (MutSlice (named 0) (ν ∷ []) u8 .own (record { ptr = (l₅, 0); name = δ-read-line; now = (replicate {A = ℕ} 2048 0) }) ((sliceVal (l₅, 0) 2048) ∷ [])) ftrue)) ∷ []) ∵ join ! $ frame ! $ done !) $
-          calls-at ! fm (c-read-line 𝓤 H A mem run) known-read-line (((κ₁, ((ν ∷ []), tt)), (q₁, (fullShare, tt)), tt, (text, ((record { ptr = (l₅, 0); name = δ-read-line; now = (replicate {A = ℕ} 2048 0) }), tt)), (v-text ∷ [], ((sliceVal (l₅, 0) 2048) ∷ [], tt))), tt) (and-then ! (load ! (from ! (stop !)) (look ! 52 refl)) (and-then ! (load ! (from ! (stop !)) (look ! 37 refl)) (no-more !))) (λ w-read-line.
-          use1 W (later (some (λ (r-read-line : Line). ((‵ (flft κ₁ q₁) ⊛ ‵ (flft (ν ∷ []) fullShare) ⊛ ‵ ftrue) ⊛ ‵ (Line-t.the-row .own r-read-line (w-read-line ∷ []))) ⊛ raw (ensured 𝓤 H A c-read-line′.ended (c-read-line′.clauses 𝓤 H A mem run) (κ₁, ((ν ∷ []), tt)) (text, ((record { ptr = (l₅, 0); name = δ-read-line; now = (replicate {A = ℕ} 2048 0) }), tt)) tt r-read-line)))) (id⊢ 𝓤 _) $ await ! tt $
+          -- _6 = [0; 2048]
+          assigns ! (rep ! 2048 (lit ! tt)) (from ! (stop !)) (init ! 54 refl (array-lawful 𝓤 H A W u8 (uint-lawful 𝓤 H A W w8) 2048 .typed (replicate {A = ℕ} 2048 0) _ (repeat-is u8 0 (vint w8 0) (refl, lit< tt) 2048) .0)) $
+          -- _11 = & _6
+          assigns ! (addr ! (from ! (stop !))) (from ! (stop !)) (init ! 44 refl (tt, tt)) $
+          -- _12 = {_11, 2048}
+          assigns ! (agg ! (and-then ! (load ! (from ! (stop !)) (look ! 44 refl)) (and-then ! (big-lit ! (record { fits = lit< tt })) (no-more !)))) (from ! (stop !)) (init ! 42 refl (tt, (tt, (record { fits = lit< tt }, tt)))) $
+          -- _7 = read_line(_4, _12)
+          move ! (71 ∷ []) $ use1 W (‵ Own-text ⊛ ‵ Own-text) (shr-slice-copy 𝓤 H A W (named 2) κ₂ u8 .twice text (v-text ∷ [])) $ split ! $ lft-new ! tt (λ ν. move ! (57 ∷ []) $
+          use1 W (later (some (λ (δ : GName). ‵ (MutSlice (named 0) (ν ∷ []) u8 .own (record { ptr = (l₆, 0); name = δ; now = (replicate {A = ℕ} 2048 0) }) ((sliceVal (l₆, 0) 2048) ∷ [])) ⊛ ‵ (flent (ν ∷ []) (Held u8 2048 l₆ 0 δ))))) (array-lent u8 2048 (uint-vals w8) (uint-tells w8) tt 𝓤 H A W (uint-makes 𝓤 H A W w8) l₆ (lit< tt, lit< tt) (named 0) (ν ∷ []) (replicate {A = ℕ} 2048 0) (vstruct (ofList (replicate 2048 (vint w8 0)))) (repeat-is u8 0 (vint w8 0) (refl, lit< tt) 2048)) $ await ! tt $
+          pick ! (λ δ-read-line. split ! $ nothing ! $ move ! (3 ∷ 0 ∷ []) $ join ! $ move ! (77 ∷ 0 ∷ []) $ join ! $ nothing ! $ move ! (2 ∷ 0 ∷ []) $ fjoin ! $ move ! (4 ∷ 0 ∷ []) $ fjoin ! $ move ! (1 ∷ 0 ∷ []) $
+          use2 W (raw (c-read-line 𝓤 H A mem run .pre (((κ₂, ((ν ∷ []), tt)), (q₂, (fullShare, tt)), tt, (text, ((record { ptr = (l₆, 0); name = δ-read-line; now = (replicate {A = ℕ} 2048 0) }), tt)), (v-text ∷ [], ((sliceVal (l₆, 0) 2048) ∷ [], tt))), tt))) (qed W ((‵ (flft κ₂ q₂) ⊛ ‵ (flft (ν ∷ []) fullShare) ⊛ ‵ ftrue) ∷ ‵ (fsep Own-text (fsep (MutSlice (named 0) (ν ∷ []) u8 .own (record { ptr = (l₆, 0); name = δ-read-line; now = (replicate {A = ℕ} 2048 0) }) ((sliceVal (l₆, 0) 2048) ∷ [])) ftrue)) ∷ []) ∵ join ! $ frame ! $ done !) $
+          calls-at ! fm (c-read-line 𝓤 H A mem run) known-read-line (((κ₂, ((ν ∷ []), tt)), (q₂, (fullShare, tt)), tt, (text, ((record { ptr = (l₆, 0); name = δ-read-line; now = (replicate {A = ℕ} 2048 0) }), tt)), (v-text ∷ [], ((sliceVal (l₆, 0) 2048) ∷ [], tt))), tt) (and-then ! (load ! (from ! (stop !)) (look ! 60 refl)) (and-then ! (load ! (from ! (stop !)) (look ! 45 refl)) (no-more !))) (λ w-read-line.
+          use1 W (later (some (λ (r-read-line : Line). ((‵ (flft κ₂ q₂) ⊛ ‵ (flft (ν ∷ []) fullShare) ⊛ ‵ ftrue) ⊛ ‵ (Line-t.the-row .own r-read-line (w-read-line ∷ []))) ⊛ raw (ensured 𝓤 H A c-read-line′.ended (c-read-line′.clauses 𝓤 H A mem run) (κ₂, ((ν ∷ []), tt)) (text, ((record { ptr = (l₆, 0); name = δ-read-line; now = (replicate {A = ℕ} 2048 0) }), tt)) tt r-read-line)))) (id⊢ 𝓤 _) $ await ! tt $
           pick ! (λ r-read-line. split ! $ move ! (1 ∷ []) $
-          use1 W (some (λ (z-read-line : (Unit {0}) × ((List ℕ) × Unit {0})). ‵ (lasts c-read-line′.ended (κ₁, ((ν ∷ []), tt)) (text, ((record { ptr = (l₅, 0); name = δ-read-line; now = (replicate {A = ℕ} 2048 0) }), tt)) z-read-line) ⊛ raw (fact 𝓤 (told r-read-line (z-read-line .1 .0) ≡ lineRead (text .now) ((replicate {A = ℕ} 2048 0)))))) (id⊢ 𝓤 _) $
+          use1 W (some (λ (z-read-line : (Unit {0}) × ((List ℕ) × Unit {0})). ‵ (lasts c-read-line′.ended (κ₂, ((ν ∷ []), tt)) (text, ((record { ptr = (l₆, 0); name = δ-read-line; now = (replicate {A = ℕ} 2048 0) }), tt)) z-read-line) ⊛ raw (fact 𝓤 (told r-read-line (z-read-line .1 .0) ≡ lineRead (text .now) ((replicate {A = ℕ} 2048 0)))))) (id⊢ 𝓤 _) $
           pick ! (λ z-read-line. split ! $ move ! (1 ∷ []) $ heard ! (told r-read-line (z-read-line .1 .0) ≡ lineRead (text .now) ((replicate {A = ℕ} 2048 0))) (λ e-read-line. fsplit ! $ drop ! $ fsplit ! $ fsplit ! $ move ! (1 ∷ []) $
           feqL ! (λ len-read-line-octets. move ! (1 ∷ []) $ drop ! $ move ! (1 ∷ []) $ split ! $ split ! $ move ! (1 ∷ []) $ split ! $ move ! (1 ∷ []) $ drop ! $ move ! (2 ∷ []) $
           peeks ! Line-t.the-row (Is Line-t.the-row) (shows 𝓤 H A Line-t.the-row) r-read-line (w-read-line ∷ []) (λ is-read-line.
-          land ! (from ! (stop !)) (init ! 50 refl (EL.lawful Line-t.the-type Line-l.the-laws 𝓤 H A W tt .typed r-read-line _ is-read-line .0)) $ drop ! $ lft-end ! tt $ move ! (0 ∷ 3 ∷ 2 ∷ []) $
-          use3 W (later (given (Is (Array u8 2048) (z-read-line .1 .0) (array-vals (uint-vals w8) (z-read-line .1 .0))) (‵ (fat fullShare (tyArray (tyInt w8) 2048) l₅ 0 (only (array-vals (uint-vals w8) (z-read-line .1 .0))))))) (array-back u8 2048 (uint-vals w8) (uint-tells w8) tt 𝓤 H A W (uint-makes 𝓤 H A W w8) l₅ (ν ∷ []) (z-read-line .1 .0) (len-read-line-octets ∙ (repeat-is u8 0 (vint w8 0) (refl, lit< tt) 2048) .1 .0 .1) δ-read-line) $ await ! tt $
+          land ! (from ! (stop !)) (init ! 58 refl (EL.lawful Line-t.the-type Line-l.the-laws 𝓤 H A W tt .typed r-read-line _ is-read-line .0)) $ drop ! $ lft-end ! tt $ move ! (0 ∷ 3 ∷ 2 ∷ []) $
+          use3 W (later (given (Is (Array u8 2048) (z-read-line .1 .0) (array-vals (uint-vals w8) (z-read-line .1 .0))) (‵ (fat fullShare (tyArray (tyInt w8) 2048) l₆ 0 (only (array-vals (uint-vals w8) (z-read-line .1 .0))))))) (array-back u8 2048 (uint-vals w8) (uint-tells w8) tt 𝓤 H A W (uint-makes 𝓤 H A W w8) l₆ (ν ∷ []) (z-read-line .1 .0) (len-read-line-octets ∙ (repeat-is u8 0 (vint w8 0) (refl, lit< tt) 2048) .1 .0 .1) δ-read-line) $ await ! tt $
           learn ! (λ is-read-line-back.
-          -- _7 = with_line(_1)
+          -- _8 = with_line(_1)
           nothing ! $ nothing ! $ owned ! Bench-t.the-row (Is Bench-t.the-row) (LL.makes Bench-t.the-type Bench-l.the-plain 𝓤 H A) b _ is-b $ fjoin ! $ move ! (1 ∷ 0 ∷ []) $
           use2 W (raw (c-with-line 𝓤 H A mem run .pre ((tt, tt, tt, (b, tt), (v-b ∷ [], tt)), tt))) (qed W ((‵ ftrue) ∷ ‵ (fsep (Bench-t.the-row .own b (v-b ∷ [])) ftrue) ∷ []) ∵ join ! $ frame ! $ done !) $
-          calls-at ! fm (c-with-line 𝓤 H A mem run) known-with-line ((tt, tt, tt, (b, tt), (v-b ∷ [], tt)), tt) (and-then ! (load ! (from ! (stop !)) (look ! 57 refl)) (no-more !)) (λ w-with-line.
+          calls-at ! fm (c-with-line 𝓤 H A mem run) known-with-line ((tt, tt, tt, (b, tt), (v-b ∷ [], tt)), tt) (and-then ! (load ! (from ! (stop !)) (look ! 67 refl)) (no-more !)) (λ w-with-line.
           use1 W (later (some (λ (r-with-line : Bench). ((‵ ftrue) ⊛ ‵ (Bench-t.the-row .own r-with-line (w-with-line ∷ []))) ⊛ raw (ensured 𝓤 H A c-with-line′.ended (c-with-line′.clauses 𝓤 H A mem run) tt (b, tt) tt r-with-line)))) (id⊢ 𝓤 _) $ await ! tt $
           pick ! (λ r-with-line. split ! $ move ! (1 ∷ []) $ use1 W (some (λ (z-with-line : (Unit {0}) × Unit {0}). ‵ (lasts c-with-line′.ended tt (b, tt) z-with-line) ⊛ raw (fact 𝓤 (r-with-line ≡ withLine b)))) (id⊢ 𝓤 _) $
           pick ! (λ z-with-line. split ! $ move ! (1 ∷ []) $ heard ! (r-with-line ≡ withLine b) (λ e-with-line. fsplit ! $ drop ! $ drop ! $ split ! $ drop ! $
           peeks ! Bench-t.the-row (Is Bench-t.the-row) (shows 𝓤 H A Bench-t.the-row) r-with-line (w-with-line ∷ []) (λ is-with-line.
-          land ! (from ! (stop !)) (init ! 46 refl (LL.lawful Bench-t.the-type Bench-l.the-laws 𝓤 H A W .typed r-with-line _ is-with-line .0)) $ drop ! $
-          -- _8 = phase_of(_1)
+          land ! (from ! (stop !)) (init ! 54 refl (LL.lawful Bench-t.the-type Bench-l.the-laws 𝓤 H A W .typed r-with-line _ is-with-line .0)) $ drop ! $
+          -- _9 = phase_of(_1)
           nothing ! $ nothing ! $ owned ! Bench-t.the-row (Is Bench-t.the-row) (LL.makes Bench-t.the-type Bench-l.the-plain 𝓤 H A) b _ is-b $ fjoin ! $ move ! (1 ∷ 0 ∷ []) $
           use2 W (raw (c-phase-of 𝓤 H A mem run .pre ((tt, tt, tt, (b, tt), (v-b ∷ [], tt)), tt))) (qed W ((‵ ftrue) ∷ ‵ (fsep (Bench-t.the-row .own b (v-b ∷ [])) ftrue) ∷ []) ∵ join ! $ frame ! $ done !) $
-          calls-at ! fm (c-phase-of 𝓤 H A mem run) known-phase-of ((tt, tt, tt, (b, tt), (v-b ∷ [], tt)), tt) (and-then ! (load ! (from ! (stop !)) (look ! 57 refl)) (no-more !)) (λ w-phase-of.
+          calls-at ! fm (c-phase-of 𝓤 H A mem run) known-phase-of ((tt, tt, tt, (b, tt), (v-b ∷ [], tt)), tt) (and-then ! (load ! (from ! (stop !)) (look ! 67 refl)) (no-more !)) (λ w-phase-of.
           use1 W (later (some (λ (r-phase-of : ℕ). ((‵ ftrue) ⊛ ‵ (u8 .own r-phase-of (w-phase-of ∷ []))) ⊛ raw (ensured 𝓤 H A c-phase-of′.ended (c-phase-of′.clauses 𝓤 H A mem run) tt (b, tt) tt r-phase-of)))) (id⊢ 𝓤 _) $ await ! tt $
           pick ! (λ r-phase-of. split ! $ move ! (1 ∷ []) $ use1 W (some (λ (z-phase-of : (Unit {0}) × Unit {0}). ‵ (lasts c-phase-of′.ended tt (b, tt) z-phase-of) ⊛ raw (fact 𝓤 (r-phase-of ≡ b .phase)))) (id⊢ 𝓤 _) $ pick ! (λ z-phase-of.
           split ! $ move ! (1 ∷ []) $ heard ! (r-phase-of ≡ b .phase) (λ e-phase-of. fsplit ! $ drop ! $ drop ! $ split ! $ drop ! $ peeks ! u8 (Is u8) (shows 𝓤 H A u8) r-phase-of (w-phase-of ∷ []) (λ is-phase-of.
-          land ! (from ! (stop !)) (init ! 44 refl (uint-lawful 𝓤 H A W w8 .typed r-phase-of _ is-phase-of .0)) $ drop ! $
-          -- _12 = _8 eq 2
-          rewrite ! 43 (λ (v : Val). ‵ (fat fullShare (tyInt w8) l₈ 0 v)) (ap only (uint-tells w8 r-phase-of _ is-phase-of)) refl $
-          assigns ! (bin ! (load ! (from ! (stop !)) (look ! 43 refl)) (lit ! tt) tt) (from ! (stop !)) (init ! 35 refl (tt, tt)) $
-          -- if _12
-          first ! $ branches ! (load ! (from ! (stop !)) (look ! 35 refl)) (λ on. let t = on-true (eqb r-phase-of 2) on in
-          -- _13 = & _2.0.*
-          assigns ! (addr ! (from ! (fld ! refl (hop ! (look-in ! 54 (sub ! 0 refl (whole !))) (stop !))))) (from ! (stop !)) (init ! 33 refl (tt, tt)) $
-          -- _14 = {_13, _2.1}
-          assigns ! (agg ! (and-then ! (load ! (from ! (stop !)) (look ! 33 refl)) (and-then ! (load ! (from ! (fld ! refl (stop !))) (look-in ! 54 (sub ! 1 refl (whole !)))) (no-more !)))) (from ! (stop !)) (init ! 31 refl (tt, (tt, (record { fits = room-recs .0 }, tt)))) $
-          -- _15 = & _5
-          assigns ! (addr ! (from ! (stop !))) (from ! (stop !)) (init ! 29 refl (tt, tt)) $
-          -- _16 = {_15, 2048}
-          assigns ! (agg ! (and-then ! (load ! (from ! (stop !)) (look ! 29 refl)) (and-then ! (big-lit ! (record { fits = lit< tt })) (no-more !)))) (from ! (stop !)) (init ! 27 refl (tt, (tt, (record { fits = lit< tt }, tt)))) $
-          -- _17 = & _4.0.*
-          assigns ! (addr ! (from ! (fld ! refl (hop ! (look-in ! 50 (sub ! 0 refl (whole !))) (stop !))))) (from ! (stop !)) (init ! 25 refl (tt, tt)) $
-          -- _18 = {_17, _4.1}
-          assigns ! (agg ! (and-then ! (load ! (from ! (stop !)) (look ! 25 refl)) (and-then ! (load ! (from ! (fld ! refl (stop !))) (look-in ! 50 (sub ! 1 refl (whole !)))) (no-more !)))) (from ! (stop !)) (init ! 23 refl (tt, (tt, (record { fits = room-out .0 }, tt)))) $
-          -- _0 = run_line(_7, _14, _6, _16, _18)
+          land ! (from ! (stop !)) (init ! 52 refl (uint-lawful 𝓤 H A W w8 .typed r-phase-of _ is-phase-of .0)) $ drop ! $
+          -- _13 = _9 eq 2
+          rewrite ! 51 (λ (v : Val). ‵ (fat fullShare (tyInt w8) l₉ 0 v)) (ap only (uint-tells w8 r-phase-of _ is-phase-of)) refl $
+          assigns ! (bin ! (load ! (from ! (stop !)) (look ! 51 refl)) (lit ! tt) tt) (from ! (stop !)) (init ! 43 refl (tt, tt)) $
+          -- if _13
+          first ! $ branches ! (load ! (from ! (stop !)) (look ! 43 refl)) (λ on. let t = on-true (eqb r-phase-of 2) on in
+          -- _14 = & _2.0.*
+          assigns ! (addr ! (from ! (fld ! refl (hop ! (look-in ! 64 (sub ! 0 refl (whole !))) (stop !))))) (from ! (stop !)) (init ! 41 refl (tt, tt)) $
+          -- _15 = {_14, _2.1}
+          assigns ! (agg ! (and-then ! (load ! (from ! (stop !)) (look ! 41 refl)) (and-then ! (load ! (from ! (fld ! refl (stop !))) (look-in ! 64 (sub ! 1 refl (whole !)))) (no-more !)))) (from ! (stop !)) (init ! 39 refl (tt, (tt, (record { fits = room-recs .0 }, tt)))) $
+          -- _16 = & _3.0.*
+          assigns ! (addr ! (from ! (fld ! refl (hop ! (look-in ! 62 (sub ! 0 refl (whole !))) (stop !))))) (from ! (stop !)) (init ! 37 refl (tt, tt)) $
+          -- _17 = {_16, _3.1}
+          assigns ! (agg ! (and-then ! (load ! (from ! (stop !)) (look ! 37 refl)) (and-then ! (load ! (from ! (fld ! refl (stop !))) (look-in ! 62 (sub ! 1 refl (whole !)))) (no-more !)))) (from ! (stop !)) (init ! 35 refl (tt, (tt, (record { fits = room-store .0 }, tt)))) $
+          -- _18 = & _6
+          assigns ! (addr ! (from ! (stop !))) (from ! (stop !)) (init ! 33 refl (tt, tt)) $
+          -- _19 = {_18, 2048}
+          assigns ! (agg ! (and-then ! (load ! (from ! (stop !)) (look ! 33 refl)) (and-then ! (big-lit ! (record { fits = lit< tt })) (no-more !)))) (from ! (stop !)) (init ! 31 refl (tt, (tt, (record { fits = lit< tt }, tt)))) $
+          -- _20 = & _5.0.*
+          assigns ! (addr ! (from ! (fld ! refl (hop ! (look-in ! 58 (sub ! 0 refl (whole !))) (stop !))))) (from ! (stop !)) (init ! 29 refl (tt, tt)) $
+          -- _21 = {_20, _5.1}
+          assigns ! (agg ! (and-then ! (load ! (from ! (stop !)) (look ! 29 refl)) (and-then ! (load ! (from ! (fld ! refl (stop !))) (look-in ! 58 (sub ! 1 refl (whole !)))) (no-more !)))) (from ! (stop !)) (init ! 27 refl (tt, (tt, (record { fits = room-out .0 }, tt)))) $
+          -- _0 = run_line(_8, _15, _17, _7, _19, _21)
           lft-new ! tt (λ ν. move ! (1 ∷ []) $
-          use1 W (later (some (λ (δ : GName). ‵ (ShrSlice (named 0) (ν ∷ []) u8 .own (record { ptr = (l₅, 0); name = δ; now = (z-read-line .1 .0) }) ((sliceVal (l₅, 0) 2048) ∷ [])) ⊛ ‵ (flent (ν ∷ []) (arr-parts (shares u8) 2048 .part fullShare (z-read-line .1 .0) l₅ 0))))) (array-shown u8 2048 (uint-vals w8) (uint-tells w8) tt 𝓤 H A W (uint-makes 𝓤 H A W w8) l₅ (lit< tt, lit< tt) (named 0) (ν ∷ []) (z-read-line .1 .0) (only (array-vals (uint-vals w8) (z-read-line .1 .0))) is-read-line-back) $ await ! tt $
-          pick ! (λ δ-run-line. split ! $ nothing ! $ move ! (66 ∷ 0 ∷ []) $ join ! $ move ! (3 ∷ 0 ∷ []) $ join ! $ move ! (64 ∷ 0 ∷ []) $ join ! $ nothing ! $ move ! (63 ∷ 0 ∷ []) $ fjoin ! $ move ! (2 ∷ 0 ∷ []) $ fjoin ! $
-          owned ! Line-t.the-row (Is Line-t.the-row) (EL.makes Line-t.the-type Line-l.the-plain 𝓤 H A) r-read-line _ is-read-line $ fjoin ! $ move ! (62 ∷ 0 ∷ []) $ fjoin ! $
+          use1 W (later (some (λ (δ : GName). ‵ (ShrSlice (named 0) (ν ∷ []) u8 .own (record { ptr = (l₆, 0); name = δ; now = (z-read-line .1 .0) }) ((sliceVal (l₆, 0) 2048) ∷ [])) ⊛ ‵ (flent (ν ∷ []) (arr-parts (shares u8) 2048 .part fullShare (z-read-line .1 .0) l₆ 0))))) (array-shown u8 2048 (uint-vals w8) (uint-tells w8) tt 𝓤 H A W (uint-makes 𝓤 H A W w8) l₆ (lit< tt, lit< tt) (named 0) (ν ∷ []) (z-read-line .1 .0) (only (array-vals (uint-vals w8) (z-read-line .1 .0))) is-read-line-back) $ await ! tt $
+          pick ! (λ δ-run-line. split ! $ nothing ! $ move ! (78 ∷ 0 ∷ []) $ join ! $ move ! (3 ∷ 0 ∷ []) $ join ! $ move ! (76 ∷ 0 ∷ []) $ join ! $ move ! (75 ∷ 0 ∷ []) $ join ! $ nothing ! $ move ! (73 ∷ 0 ∷ []) $ fjoin ! $
+          move ! (2 ∷ 0 ∷ []) $ fjoin ! $ owned ! Line-t.the-row (Is Line-t.the-row) (EL.makes Line-t.the-type Line-l.the-plain 𝓤 H A) r-read-line _ is-read-line $ fjoin ! $ move ! (73 ∷ 0 ∷ []) $ fjoin ! $ move ! (72 ∷ 0 ∷ []) $ fjoin ! $
           owned ! Bench-t.the-row (Is Bench-t.the-row) (LL.makes Bench-t.the-type Bench-l.the-plain 𝓤 H A) r-with-line _ is-with-line $ fjoin ! $ move ! (1 ∷ 0 ∷ []) $
-          use2 W (raw (c-run-line 𝓤 H A mem run .pre (((κ₀, ((ν ∷ []), (κ₂, tt))), (q₀, (fullShare, (q₂, tt))), tt, (r-with-line, (recs, (r-read-line, ((record { ptr = (l₅, 0); name = δ-run-line; now = (z-read-line .1 .0) }), (out, tt))))), (w-with-line ∷ [], (v-recs ∷ [], (w-read-line ∷ [], ((sliceVal (l₅, 0) 2048) ∷ [], (v-out ∷ [], tt)))))), tt))) (qed W ((‵ (flft κ₀ q₀) ⊛ ‵ (flft (ν ∷ []) fullShare) ⊛ ‵ (flft κ₂ q₂) ⊛ ‵ ftrue) ∷ ‵ (fsep (Bench-t.the-row .own r-with-line (w-with-line ∷ [])) (fsep Own-recs (fsep (Line-t.the-row .own r-read-line (w-read-line ∷ [])) (fsep (ShrSlice (named 0) (ν ∷ []) u8 .own (record { ptr = (l₅, 0); name = δ-run-line; now = (z-read-line .1 .0) }) ((sliceVal (l₅, 0) 2048) ∷ [])) (fsep Own-out ftrue))))) ∷ []) ∵ join ! $ frame ! $ done !) $
-          calls-at ! fm (c-run-line 𝓤 H A mem run) known-run-line (((κ₀, ((ν ∷ []), (κ₂, tt))), (q₀, (fullShare, (q₂, tt))), tt, (r-with-line, (recs, (r-read-line, ((record { ptr = (l₅, 0); name = δ-run-line; now = (z-read-line .1 .0) }), (out, tt))))), (w-with-line ∷ [], (v-recs ∷ [], (w-read-line ∷ [], ((sliceVal (l₅, 0) 2048) ∷ [], (v-out ∷ [], tt)))))), tt) (and-then ! (load ! (from ! (stop !)) (look ! 46 refl)) (and-then ! (load ! (from ! (stop !)) (look ! 32 refl)) (and-then ! (load ! (from ! (stop !)) (look ! 48 refl)) (and-then ! (load ! (from ! (stop !)) (look ! 28 refl)) (and-then ! (load ! (from ! (stop !)) (look ! 24 refl)) (no-more !)))))) (λ w-run-line.
-          use1 W (later (some (λ (r-run-line : Bench). ((‵ (flft κ₀ q₀) ⊛ ‵ (flft (ν ∷ []) fullShare) ⊛ ‵ (flft κ₂ q₂) ⊛ ‵ ftrue) ⊛ ‵ (Bench-t.the-row .own r-run-line (w-run-line ∷ []))) ⊛ raw (ensured 𝓤 H A c-run-line′.ended (c-run-line′.clauses 𝓤 H A mem run) (κ₀, ((ν ∷ []), (κ₂, tt))) (r-with-line, (recs, (r-read-line, ((record { ptr = (l₅, 0); name = δ-run-line; now = (z-read-line .1 .0) }), (out, tt))))) tt r-run-line)))) (id⊢ 𝓤 _) $ await ! tt $
+          use2 W (raw (c-run-line 𝓤 H A mem run .pre (((κ₀, (κ₁, ((ν ∷ []), (κ₃, tt)))), (q₀, (q₁, (fullShare, (q₃, tt)))), tt, (r-with-line, (recs, (store, (r-read-line, ((record { ptr = (l₆, 0); name = δ-run-line; now = (z-read-line .1 .0) }), (out, tt)))))), (w-with-line ∷ [], (v-recs ∷ [], (v-store ∷ [], (w-read-line ∷ [], ((sliceVal (l₆, 0) 2048) ∷ [], (v-out ∷ [], tt))))))), tt))) (qed W ((‵ (flft κ₀ q₀) ⊛ ‵ (flft κ₁ q₁) ⊛ ‵ (flft (ν ∷ []) fullShare) ⊛ ‵ (flft κ₃ q₃) ⊛ ‵ ftrue) ∷ ‵ (fsep (Bench-t.the-row .own r-with-line (w-with-line ∷ [])) (fsep Own-recs (fsep Own-store (fsep (Line-t.the-row .own r-read-line (w-read-line ∷ [])) (fsep (ShrSlice (named 0) (ν ∷ []) u8 .own (record { ptr = (l₆, 0); name = δ-run-line; now = (z-read-line .1 .0) }) ((sliceVal (l₆, 0) 2048) ∷ [])) (fsep Own-out ftrue)))))) ∷ []) ∵ join ! $ frame ! $ done !) $
+          calls-at ! fm (c-run-line 𝓤 H A mem run) known-run-line (((κ₀, (κ₁, ((ν ∷ []), (κ₃, tt)))), (q₀, (q₁, (fullShare, (q₃, tt)))), tt, (r-with-line, (recs, (store, (r-read-line, ((record { ptr = (l₆, 0); name = δ-run-line; now = (z-read-line .1 .0) }), (out, tt)))))), (w-with-line ∷ [], (v-recs ∷ [], (v-store ∷ [], (w-read-line ∷ [], ((sliceVal (l₆, 0) 2048) ∷ [], (v-out ∷ [], tt))))))), tt) (and-then ! (load ! (from ! (stop !)) (look ! 54 refl)) (and-then ! (load ! (from ! (stop !)) (look ! 40 refl)) (and-then ! (load ! (from ! (stop !)) (look ! 36 refl)) (and-then ! (load ! (from ! (stop !)) (look ! 56 refl)) (and-then ! (load ! (from ! (stop !)) (look ! 32 refl)) (and-then ! (load ! (from ! (stop !)) (look ! 28 refl)) (no-more !))))))) (λ w-run-line.
+          use1 W (later (some (λ (r-run-line : Bench). ((‵ (flft κ₀ q₀) ⊛ ‵ (flft κ₁ q₁) ⊛ ‵ (flft (ν ∷ []) fullShare) ⊛ ‵ (flft κ₃ q₃) ⊛ ‵ ftrue) ⊛ ‵ (Bench-t.the-row .own r-run-line (w-run-line ∷ []))) ⊛ raw (ensured 𝓤 H A c-run-line′.ended (c-run-line′.clauses 𝓤 H A mem run) (κ₀, (κ₁, ((ν ∷ []), (κ₃, tt)))) (r-with-line, (recs, (store, (r-read-line, ((record { ptr = (l₆, 0); name = δ-run-line; now = (z-read-line .1 .0) }), (out, tt)))))) tt r-run-line)))) (id⊢ 𝓤 _) $ await ! tt $
           pick ! (λ r-run-line. split ! $ move ! (1 ∷ []) $
-          use1 W (some (λ (z-run-line : (Unit {0}) × ((List Session) × ((Unit {0}) × ((Unit {0}) × ((List ℕ) × Unit {0}))))). ‵ (lasts c-run-line′.ended (κ₀, ((ν ∷ []), (κ₂, tt))) (r-with-line, (recs, (r-read-line, ((record { ptr = (l₅, 0); name = δ-run-line; now = (z-read-line .1 .0) }), (out, tt))))) z-run-line) ⊛ raw (fact 𝓤 (ran r-run-line (z-run-line .1 .0) (z-run-line .1 .1 .1 .1 .0) ≡ runLine r-read-line ((z-read-line .1 .0)) r-with-line (ys-recs) (ys-out))))) (id⊢ 𝓤 _) $
-          pick ! (λ z-run-line. split ! $ move ! (1 ∷ []) $ heard ! (ran r-run-line (z-run-line .1 .0) (z-run-line .1 .1 .1 .1 .0) ≡ runLine r-read-line ((z-read-line .1 .0)) r-with-line (ys-recs) (ys-out)) (λ e-run-line. fsplit ! $ drop ! $
-          fsplit ! $ fsplit ! $ move ! (1 ∷ []) $ feqL ! (λ len-run-line-recs. move ! (1 ∷ []) $ fsplit ! $ drop ! $ fsplit ! $ drop ! $ fsplit ! $ fsplit ! $ move ! (1 ∷ []) $ feqL ! (λ len-run-line-out. move ! (1 ∷ []) $ drop ! $
-          move ! (2 ∷ []) $ split ! $ split ! $ move ! (1 ∷ []) $ split ! $ move ! (1 ∷ []) $ split ! $ move ! (1 ∷ []) $ drop ! $ move ! (3 ∷ []) $
-          peeks ! Bench-t.the-row (Is Bench-t.the-row) (shows 𝓤 H A Bench-t.the-row) r-run-line (w-run-line ∷ []) (λ is-run-line.
-          land ! (from ! (stop !)) (init ! 64 refl (LL.lawful Bench-t.the-type Bench-l.the-laws 𝓤 H A W .typed r-run-line _ is-run-line .0)) $ drop ! $ move ! (1 ∷ []) $ lft-end ! tt $ move ! (0 ∷ 5 ∷ []) $
-          use2 W (later (given (Is (Array u8 2048) (z-read-line .1 .0) (array-vals (uint-vals w8) (z-read-line .1 .0))) (‵ (fat fullShare (tyArray (tyInt w8) 2048) l₅ 0 (only (array-vals (uint-vals w8) (z-read-line .1 .0))))))) (array-kept u8 2048 (uint-vals w8) (uint-tells w8) tt 𝓤 H A W (uint-makes 𝓤 H A W w8) l₅ (ν ∷ []) (z-read-line .1 .0) (is-read-line-back .1 .0 .1)) $ await ! tt $
+          use1 W (some (λ (z-run-line : (Unit {0}) × ((List Session) × ((List (List ℕ)) × ((Unit {0}) × ((Unit {0}) × ((List ℕ) × Unit {0})))))). ‵ (lasts c-run-line′.ended (κ₀, (κ₁, ((ν ∷ []), (κ₃, tt)))) (r-with-line, (recs, (store, (r-read-line, ((record { ptr = (l₆, 0); name = δ-run-line; now = (z-read-line .1 .0) }), (out, tt)))))) z-run-line) ⊛ raw (fact 𝓤 (ran r-run-line (z-run-line .1 .0) (z-run-line .1 .1 .0) (z-run-line .1 .1 .1 .1 .1 .0) ≡ runLine r-read-line ((z-read-line .1 .0)) r-with-line (ys-recs) (ys-store) (ys-out))))) (id⊢ 𝓤 _) $
+          pick ! (λ z-run-line. split ! $ move ! (1 ∷ []) $
+          heard ! (ran r-run-line (z-run-line .1 .0) (z-run-line .1 .1 .0) (z-run-line .1 .1 .1 .1 .1 .0) ≡ runLine r-read-line ((z-read-line .1 .0)) r-with-line (ys-recs) (ys-store) (ys-out)) (λ e-run-line. fsplit ! $ drop ! $ fsplit ! $
+          fsplit ! $ move ! (1 ∷ []) $ feqL ! (λ len-run-line-recs. move ! (1 ∷ []) $ fsplit ! $ fsplit ! $ move ! (1 ∷ []) $ feqL ! (λ len-run-line-store. move ! (1 ∷ []) $ fsplit ! $ drop ! $ fsplit ! $ drop ! $ fsplit ! $ fsplit ! $
+          move ! (1 ∷ []) $ feqL ! (λ len-run-line-out. move ! (1 ∷ []) $ drop ! $ move ! (3 ∷ []) $ split ! $ split ! $ move ! (1 ∷ []) $ split ! $ move ! (1 ∷ []) $ split ! $ move ! (1 ∷ []) $ split ! $ move ! (1 ∷ []) $ drop ! $
+          move ! (4 ∷ []) $ peeks ! Bench-t.the-row (Is Bench-t.the-row) (shows 𝓤 H A Bench-t.the-row) r-run-line (w-run-line ∷ []) (λ is-run-line.
+          land ! (from ! (stop !)) (init ! 76 refl (LL.lawful Bench-t.the-type Bench-l.the-laws 𝓤 H A W .typed r-run-line _ is-run-line .0)) $ drop ! $ move ! (1 ∷ []) $ lft-end ! tt $ move ! (0 ∷ 7 ∷ []) $
+          use2 W (later (given (Is (Array u8 2048) (z-read-line .1 .0) (array-vals (uint-vals w8) (z-read-line .1 .0))) (‵ (fat fullShare (tyArray (tyInt w8) 2048) l₆ 0 (only (array-vals (uint-vals w8) (z-read-line .1 .0))))))) (array-kept u8 2048 (uint-vals w8) (uint-tells w8) tt 𝓤 H A W (uint-makes 𝓤 H A W w8) l₆ (ν ∷ []) (z-read-line .1 .0) (is-read-line-back .1 .0 .1)) $ await ! tt $
           learn ! (λ is-run-line-back.
           -- return
-          returns-within ! Post refl (look ! 62 refl) $
-          forget ! 27 refl $ forget ! 29 refl $ forget ! 31 refl $ forget ! 33 refl $ forget ! 35 refl $ forget ! 37 refl $ forget ! 39 refl $ forget ! 41 refl $ forget ! 43 refl $ forget ! 47 refl $ forget ! 49 refl $ forget ! 51 refl $ forget ! 0 refl $ forget ! 54 refl $ forget ! 56 refl $ forget ! 58 refl $ forget ! 60 refl $ forget ! 62 refl $
-          move ! (62 ∷ 63 ∷ []) $ free1 ! $ move ! (60 ∷ 61 ∷ []) $ free1 ! $ move ! (58 ∷ 59 ∷ []) $ free1 ! $ move ! (56 ∷ 57 ∷ []) $ free1 ! $ move ! (54 ∷ 55 ∷ []) $ free1 ! $ move ! (0 ∷ 53 ∷ []) $ free1 ! $ move ! (50 ∷ 51 ∷ []) $ free1 ! $ move ! (48 ∷ 49 ∷ []) $ free1 ! $ move ! (46 ∷ 47 ∷ []) $ free1 ! $ move ! (44 ∷ 45 ∷ []) $ free1 ! $ move ! (42 ∷ 43 ∷ []) $ free1 ! $ move ! (40 ∷ 41 ∷ []) $ free1 ! $ move ! (38 ∷ 39 ∷ []) $ free1 ! $ move ! (36 ∷ 37 ∷ []) $ free1 ! $ move ! (34 ∷ 35 ∷ []) $ free1 ! $ move ! (32 ∷ 33 ∷ []) $ free1 ! $ move ! (30 ∷ 31 ∷ []) $ free1 ! $ move ! (28 ∷ 29 ∷ []) $ free1 ! $ move ! (26 ∷ 27 ∷ []) $ free1 ! $ move ! (24 ∷ 25 ∷ []) $ free1 ! $ move ! (22 ∷ 23 ∷ []) $ free1 ! $ move ! (20 ∷ 21 ∷ []) $ free1 ! $ move ! (18 ∷ 19 ∷ []) $ free1 ! $ move ! (16 ∷ 17 ∷ []) $ free1 ! $ move ! (14 ∷ 15 ∷ []) $ free1 ! $ move ! (12 ∷ 13 ∷ []) $ free1 ! $ move ! (10 ∷ 11 ∷ []) $ free1 ! $ move ! (8 ∷ 9 ∷ []) $ free1 ! $ move ! (6 ∷ 7 ∷ []) $ free1 ! $ free0 ! $
-          owned ! Bench-t.the-row (Is Bench-t.the-row) (LL.makes Bench-t.the-type Bench-l.the-plain 𝓤 H A) r-run-line _ is-run-line $ nothing ! $ move ! (2 ∷ 0 ∷ []) $ join ! $ move ! (5 ∷ 0 ∷ []) $ join ! $ move ! (2 ∷ 0 ∷ []) $ join ! $
-          keep ! (0 ∷ 3 ∷ 2 ∷ 1 ∷ []) $
-          by ! (exits r-run-line w-run-line (z-run-line .1 .0) (z-run-line .1 .1 .1 .1 .0) (line-runs (now text) (z-read-line .1 .0) b r-with-line ys-recs ys-out (ran r-run-line (z-run-line .1 .0) (z-run-line .1 .1 .1 .1 .0)) r-read-line r-phase-of e-read-line e-with-line e-phase-of t e-run-line) len-run-line-recs len-run-line-out))))))))))))
+          returns-within ! Post refl (look ! 74 refl) $
+          forget ! 33 refl $ forget ! 35 refl $ forget ! 37 refl $ forget ! 39 refl $ forget ! 41 refl $ forget ! 43 refl $ forget ! 45 refl $ forget ! 47 refl $ forget ! 49 refl $ forget ! 51 refl $ forget ! 53 refl $ forget ! 57 refl $ forget ! 59 refl $ forget ! 61 refl $ forget ! 0 refl $ forget ! 64 refl $ forget ! 66 refl $ forget ! 68 refl $ forget ! 70 refl $ forget ! 72 refl $ forget ! 74 refl $
+          move ! (74 ∷ 75 ∷ []) $ free1 ! $ move ! (72 ∷ 73 ∷ []) $ free1 ! $ move ! (70 ∷ 71 ∷ []) $ free1 ! $ move ! (68 ∷ 69 ∷ []) $ free1 ! $ move ! (66 ∷ 67 ∷ []) $ free1 ! $ move ! (64 ∷ 65 ∷ []) $ free1 ! $ move ! (0 ∷ 63 ∷ []) $ free1 ! $ move ! (60 ∷ 61 ∷ []) $ free1 ! $ move ! (58 ∷ 59 ∷ []) $ free1 ! $ move ! (56 ∷ 57 ∷ []) $ free1 ! $ move ! (54 ∷ 55 ∷ []) $ free1 ! $ move ! (52 ∷ 53 ∷ []) $ free1 ! $ move ! (50 ∷ 51 ∷ []) $ free1 ! $ move ! (48 ∷ 49 ∷ []) $ free1 ! $ move ! (46 ∷ 47 ∷ []) $ free1 ! $ move ! (44 ∷ 45 ∷ []) $ free1 ! $ move ! (42 ∷ 43 ∷ []) $ free1 ! $ move ! (40 ∷ 41 ∷ []) $ free1 ! $ move ! (38 ∷ 39 ∷ []) $ free1 ! $ move ! (36 ∷ 37 ∷ []) $ free1 ! $ move ! (34 ∷ 35 ∷ []) $ free1 ! $ move ! (32 ∷ 33 ∷ []) $ free1 ! $ move ! (30 ∷ 31 ∷ []) $ free1 ! $ move ! (28 ∷ 29 ∷ []) $ free1 ! $ move ! (26 ∷ 27 ∷ []) $ free1 ! $ move ! (24 ∷ 25 ∷ []) $ free1 ! $ move ! (22 ∷ 23 ∷ []) $ free1 ! $ move ! (20 ∷ 21 ∷ []) $ free1 ! $ move ! (18 ∷ 19 ∷ []) $ free1 ! $ move ! (16 ∷ 17 ∷ []) $ free1 ! $ move ! (14 ∷ 15 ∷ []) $ free1 ! $ move ! (12 ∷ 13 ∷ []) $ free1 ! $ move ! (10 ∷ 11 ∷ []) $ free1 ! $ move ! (8 ∷ 9 ∷ []) $ free1 ! $ free0 ! $
+          owned ! Bench-t.the-row (Is Bench-t.the-row) (LL.makes Bench-t.the-type Bench-l.the-plain 𝓤 H A) r-run-line _ is-run-line $ nothing ! $ move ! (2 ∷ 0 ∷ []) $ join ! $ move ! (7 ∷ 0 ∷ []) $ join ! $ move ! (2 ∷ 0 ∷ []) $ join ! $
+          move ! (2 ∷ 0 ∷ []) $ join ! $ keep ! (0 ∷ 4 ∷ 3 ∷ 2 ∷ 1 ∷ []) $
+          by ! (exits r-run-line w-run-line (z-run-line .1 .0) (z-run-line .1 .1 .0) (z-run-line .1 .1 .1 .1 .1 .0) (line-runs (now text) (z-read-line .1 .0) b r-with-line ys-recs ys-store ys-out (ran r-run-line (z-run-line .1 .0) (z-run-line .1 .1 .0) (z-run-line .1 .1 .1 .1 .1 .0)) r-read-line r-phase-of e-read-line e-with-line e-phase-of t e-run-line) len-run-line-recs len-run-line-store len-run-line-out)))))))))))))
           (λ off. let t = off-false (eqb r-phase-of 2) off in
-          skips ! $ exec ! C Λ (En l₀ l₁ l₂ l₃ l₄ l₅ l₆ l₇ l₈ l₉ l₁₀ l₁₁ l₁₂ l₁₃ l₁₄ l₁₅ l₁₆ l₁₇ l₁₈ l₁₉ l₂₀ l₂₁ l₂₂ l₂₃ l₂₄ l₂₅ l₂₆ l₂₇ l₂₈) mir.t-9 (atRet (En l₀ l₁ l₂ l₃ l₄ l₅ l₆ l₇ l₈ l₉ l₁₀ l₁₁ l₁₂ l₁₃ l₁₄ l₁₅ l₁₆ l₁₇ l₁₈ l₁₉ l₂₀ l₂₁ l₂₂ l₂₃ l₂₄ l₂₅ l₂₆ l₂₇ l₂₈) Post) $
-          forget ! 39 refl $
-          keep ! (3 ∷ 4 ∷ 5 ∷ 6 ∷ 7 ∷ 8 ∷ 9 ∷ 10 ∷ 11 ∷ 12 ∷ 13 ∷ 14 ∷ 15 ∷ 16 ∷ 17 ∷ 18 ∷ 19 ∷ 20 ∷ 21 ∷ 22 ∷ 23 ∷ 24 ∷ 25 ∷ 26 ∷ 27 ∷ 28 ∷ 29 ∷ 30 ∷ 31 ∷ 32 ∷ 33 ∷ 34 ∷ 35 ∷ 36 ∷ 37 ∷ 38 ∷ 39 ∷ 40 ∷ 41 ∷ 42 ∷ 43 ∷ 44 ∷ 45 ∷ 46 ∷ 47 ∷ 48 ∷ 0 ∷ 49 ∷ 50 ∷ 51 ∷ 52 ∷ 53 ∷ 54 ∷ 55 ∷ 56 ∷ 57 ∷ 58 ∷ 59 ∷ 60 ∷ 61 ∷ 2 ∷ 62 ∷ 1 ∷ 63 ∷ []) $
+          skips ! $ exec ! C Λ (En l₀ l₁ l₂ l₃ l₄ l₅ l₆ l₇ l₈ l₉ l₁₀ l₁₁ l₁₂ l₁₃ l₁₄ l₁₅ l₁₆ l₁₇ l₁₈ l₁₉ l₂₀ l₂₁ l₂₂ l₂₃ l₂₄ l₂₅ l₂₆ l₂₇ l₂₈ l₂₉ l₃₀ l₃₁ l₃₂ l₃₃) mir.t-9 (atRet (En l₀ l₁ l₂ l₃ l₄ l₅ l₆ l₇ l₈ l₉ l₁₀ l₁₁ l₁₂ l₁₃ l₁₄ l₁₅ l₁₆ l₁₇ l₁₈ l₁₉ l₂₀ l₂₁ l₂₂ l₂₃ l₂₄ l₂₅ l₂₆ l₂₇ l₂₈ l₂₉ l₃₀ l₃₁ l₃₂ l₃₃) Post) $
+          forget ! 47 refl $
+          keep ! (3 ∷ 4 ∷ 5 ∷ 6 ∷ 7 ∷ 8 ∷ 9 ∷ 10 ∷ 11 ∷ 12 ∷ 13 ∷ 14 ∷ 15 ∷ 16 ∷ 17 ∷ 18 ∷ 19 ∷ 20 ∷ 21 ∷ 22 ∷ 23 ∷ 24 ∷ 25 ∷ 26 ∷ 27 ∷ 28 ∷ 29 ∷ 30 ∷ 31 ∷ 32 ∷ 33 ∷ 34 ∷ 35 ∷ 36 ∷ 37 ∷ 38 ∷ 39 ∷ 40 ∷ 41 ∷ 42 ∷ 43 ∷ 44 ∷ 45 ∷ 46 ∷ 47 ∷ 48 ∷ 49 ∷ 50 ∷ 51 ∷ 52 ∷ 53 ∷ 54 ∷ 55 ∷ 56 ∷ 0 ∷ 57 ∷ 58 ∷ 59 ∷ 60 ∷ 61 ∷ 62 ∷ 63 ∷ 64 ∷ 65 ∷ 66 ∷ 67 ∷ 68 ∷ 69 ∷ 70 ∷ 71 ∷ 72 ∷ 2 ∷ 73 ∷ 74 ∷ 1 ∷ 75 ∷ []) $
           part-9 w-read-line r-read-line z-read-line e-read-line is-read-line len-read-line-octets is-read-line-back w-with-line r-with-line e-with-line is-with-line w-phase-of r-phase-of e-phase-of is-phase-of t))))))))))))))))))))
 
-    walk : Is Bench-t.the-row b (v-b ∷ []) → Room Session-t.the-row (length (recs .now)) → Room u8 (length (text .now)) → Room u8 (length (out .now)) → ent 𝓤 (onEntry 𝓤 H A entry′.signature (κ₀, (κ₁, (κ₂, tt))) (q₀, (q₁, (q₂, tt))) a at) (WpFn 𝓤 H C Λ code.function (v-b ∷ v-recs ∷ v-text ∷ v-out ∷ []) Post)
-    walk is-b room-recs room-text room-out =
-        qed W ((Toks) ∷ ‵ (owns (Bench-t.the-row ∷ (MutSlice (named 0) κ₀ Session-t.the-row) ∷ (ShrSlice (named 1) κ₁ u8) ∷ (MutSlice (named 2) κ₂ u8) ∷ []) a at) ∷ []) ∵ enter ! C Λ code.function (v-b ∷ v-recs ∷ v-text ∷ v-out ∷ []) _ $
+    walk : Is Bench-t.the-row b (v-b ∷ []) → Room Session-t.the-row (length (recs .now)) → Room (Array u8 139) (length (store .now)) → Room u8 (length (text .now)) → Room u8 (length (out .now)) → ent 𝓤 (onEntry 𝓤 H A entry′.signature (κ₀, (κ₁, (κ₂, (κ₃, tt)))) (q₀, (q₁, (q₂, (q₃, tt)))) a at) (WpFn 𝓤 H C Λ code.function (v-b ∷ v-recs ∷ v-store ∷ v-text ∷ v-out ∷ []) Post)
+    walk is-b room-recs room-store room-text room-out =
+        qed W ((Toks) ∷ ‵ (owns (Bench-t.the-row ∷ (MutSlice (named 0) κ₀ Session-t.the-row) ∷ (MutSlice (named 1) κ₁ (Array u8 139)) ∷ (ShrSlice (named 2) κ₂ u8) ∷ (MutSlice (named 3) κ₃ u8) ∷ []) a at) ∷ []) ∵ enter ! C Λ code.function (v-b ∷ v-recs ∷ v-store ∷ v-text ∷ v-out ∷ []) _ $
         alloc1 ! (λ l₀. alloc1 ! (λ l₁. alloc1 ! (λ l₂. alloc1 ! (λ l₃. alloc1 ! (λ l₄. alloc1 ! (λ l₅. alloc1 ! (λ l₆. alloc1 ! (λ l₇. alloc1 ! (λ l₈. alloc1 ! (λ l₉. alloc1 ! (λ l₁₀. alloc1 ! (λ l₁₁. alloc1 ! (λ l₁₂. alloc1 ! (λ l₁₃.
         alloc1 ! (λ l₁₄. alloc1 ! (λ l₁₅. alloc1 ! (λ l₁₆. alloc1 ! (λ l₁₇. alloc1 ! (λ l₁₈. alloc1 ! (λ l₁₉. alloc1 ! (λ l₂₀. alloc1 ! (λ l₂₁. alloc1 ! (λ l₂₂. alloc1 ! (λ l₂₃. alloc1 ! (λ l₂₄. alloc1 ! (λ l₂₅. alloc1 ! (λ l₂₆.
-        alloc1 ! (λ l₂₇. alloc1 ! (λ l₂₈. alloc0 ! $ params1 ! $ pass1 ! (init ! 54 refl (LL.lawful Bench-t.the-type Bench-l.the-laws 𝓤 H A W .typed b _ is-b .0)) $
-        pass1 ! (init ! 52 refl (tt, (tt, (record { fits = room-recs .0 }, tt)))) $ pass1 ! (init ! 50 refl (tt, (tt, (record { fits = room-text .0 }, tt)))) $ pass1 ! (init ! 48 refl (tt, (tt, (record { fits = room-out .0 }, tt)))) $
-        pass0 ! $ move ! (58 ∷ []) $ split ! $ move ! (1 ∷ []) $ split ! $ move ! (1 ∷ []) $ split ! $ move ! (1 ∷ []) $ drop ! $ move ! (61 ∷ []) $ fsplit ! $ drop ! $ fsplit ! $ move ! (1 ∷ []) $ fsplit ! $ move ! (1 ∷ []) $ fsplit ! $
-        move ! (1 ∷ []) $ drop ! $
-        keep ! (6 ∷ 7 ∷ 8 ∷ 9 ∷ 10 ∷ 11 ∷ 12 ∷ 13 ∷ 14 ∷ 15 ∷ 16 ∷ 17 ∷ 18 ∷ 19 ∷ 20 ∷ 21 ∷ 22 ∷ 23 ∷ 24 ∷ 25 ∷ 26 ∷ 27 ∷ 28 ∷ 29 ∷ 30 ∷ 31 ∷ 32 ∷ 33 ∷ 34 ∷ 35 ∷ 36 ∷ 37 ∷ 38 ∷ 39 ∷ 40 ∷ 41 ∷ 42 ∷ 43 ∷ 44 ∷ 45 ∷ 46 ∷ 47 ∷ 48 ∷ 49 ∷ 50 ∷ 51 ∷ 52 ∷ 53 ∷ 54 ∷ 55 ∷ 56 ∷ 57 ∷ 58 ∷ 59 ∷ 60 ∷ 61 ∷ 62 ∷ 63 ∷ 0 ∷ 2 ∷ 1 ∷ 5 ∷ 4 ∷ 3 ∷ []) $
-        part-1 is-b room-recs room-text room-out l₀ l₁ l₂ l₃ l₄ l₅ l₆ l₇ l₈ l₉ l₁₀ l₁₁ l₁₂ l₁₃ l₁₄ l₁₅ l₁₆ l₁₇ l₁₈ l₁₉ l₂₀ l₂₁ l₂₂ l₂₃ l₂₄ l₂₅ l₂₆ l₂₇ l₂₈)))))))))))))))))))))))))))))
+        alloc1 ! (λ l₂₇. alloc1 ! (λ l₂₈. alloc1 ! (λ l₂₉. alloc1 ! (λ l₃₀. alloc1 ! (λ l₃₁. alloc1 ! (λ l₃₂. alloc1 ! (λ l₃₃. alloc0 ! $ params1 ! $
+        pass1 ! (init ! 64 refl (LL.lawful Bench-t.the-type Bench-l.the-laws 𝓤 H A W .typed b _ is-b .0)) $ pass1 ! (init ! 62 refl (tt, (tt, (record { fits = room-recs .0 }, tt)))) $
+        pass1 ! (init ! 60 refl (tt, (tt, (record { fits = room-store .0 }, tt)))) $ pass1 ! (init ! 58 refl (tt, (tt, (record { fits = room-text .0 }, tt)))) $ pass1 ! (init ! 56 refl (tt, (tt, (record { fits = room-out .0 }, tt)))) $
+        pass0 ! $ move ! (68 ∷ []) $ split ! $ move ! (1 ∷ []) $ split ! $ move ! (1 ∷ []) $ split ! $ move ! (1 ∷ []) $ split ! $ move ! (1 ∷ []) $ drop ! $ move ! (72 ∷ []) $ fsplit ! $ drop ! $ fsplit ! $ move ! (1 ∷ []) $ fsplit ! $
+        move ! (1 ∷ []) $ fsplit ! $ move ! (1 ∷ []) $ fsplit ! $ move ! (1 ∷ []) $ drop ! $
+        keep ! (8 ∷ 9 ∷ 10 ∷ 11 ∷ 12 ∷ 13 ∷ 14 ∷ 15 ∷ 16 ∷ 17 ∷ 18 ∷ 19 ∷ 20 ∷ 21 ∷ 22 ∷ 23 ∷ 24 ∷ 25 ∷ 26 ∷ 27 ∷ 28 ∷ 29 ∷ 30 ∷ 31 ∷ 32 ∷ 33 ∷ 34 ∷ 35 ∷ 36 ∷ 37 ∷ 38 ∷ 39 ∷ 40 ∷ 41 ∷ 42 ∷ 43 ∷ 44 ∷ 45 ∷ 46 ∷ 47 ∷ 48 ∷ 49 ∷ 50 ∷ 51 ∷ 52 ∷ 53 ∷ 54 ∷ 55 ∷ 56 ∷ 57 ∷ 58 ∷ 59 ∷ 60 ∷ 61 ∷ 62 ∷ 63 ∷ 64 ∷ 65 ∷ 66 ∷ 67 ∷ 68 ∷ 69 ∷ 70 ∷ 71 ∷ 72 ∷ 73 ∷ 74 ∷ 75 ∷ 0 ∷ 3 ∷ 2 ∷ 1 ∷ 7 ∷ 6 ∷ 5 ∷ 4 ∷ []) $
+        part-1 is-b room-recs room-store room-text room-out l₀ l₁ l₂ l₃ l₄ l₅ l₆ l₇ l₈ l₉ l₁₀ l₁₁ l₁₂ l₁₃ l₁₄ l₁₅ l₁₆ l₁₇ l₁₈ l₁₉ l₂₀ l₂₁ l₂₂ l₂₃ l₂₄ l₂₅ l₂₆ l₂₇ l₂₈ l₂₉ l₃₀ l₃₁ l₃₂ l₃₃))))))))))))))))))))))))))))))))))
 
 module _ {M : Type 1} (𝓤 : URA M) (H : Heap 𝓤) (A : Atoms 𝓤) (W : Given 𝓤 H A) (mem : Memory → SProp 𝓤) (run : Routine → Fun 𝓤) where
   take-line-walks : (C : Calls 𝓤 H) (Λ : Loops 𝓤 H) → FmC 𝓤 H (W .laws) C → Triple 𝓤 (C #bench-text·read-line) (c-read-line 𝓤 H A mem run) → Triple 𝓤 (C #bench-unit·with-line) (c-with-line 𝓤 H A mem run) → Triple 𝓤 (C #bench-unit·phase-of) (c-phase-of 𝓤 H A mem run) → Triple 𝓤 (C #bench-run·run-line) (c-run-line 𝓤 H A mem run) → Triple 𝓤 (C #bench-run·leaves-plan) (c-leaves-plan 𝓤 H A mem run) → Triple 𝓤 (C #bench-run·leave-plan) (c-leave-plan 𝓤 H A mem run) → Triple 𝓤 (C #bench-run·early-line) (c-early-line 𝓤 H A mem run)
       → Walks 𝓤 H A entry′.ended stayed (WpFn 𝓤 H C Λ code.function) (entry′.clauses 𝓤 H A mem run)
   take-line-walks C Λ fm known-read-line known-with-line known-phase-of known-run-line known-leaves-plan known-leave-plan known-early-line = walked 𝓤 H A entry′.ended stayed (entry′.clauses 𝓤 H A mem run) (WpFn 𝓤 H C Λ code.function)
-      (λ κs. (LL.vals Bench-t.the-type Bench-l.the-laws, (slice-vals, (slice-vals, (slice-vals, tt))))) (λ κs. (LL.tells Bench-t.the-type Bench-l.the-laws, (mut-slice-tells (named 0) (κs .0) Session-t.the-row, (shr-slice-tells (named 1) (κs .1 .0) u8, (mut-slice-tells (named 2) (κs .1 .1 .0) u8, tt)))))
+      (λ κs. (LL.vals Bench-t.the-type Bench-l.the-laws, (slice-vals, (slice-vals, (slice-vals, (slice-vals, tt)))))) (λ κs. (LL.tells Bench-t.the-type Bench-l.the-laws, (mut-slice-tells (named 0) (κs .0) Session-t.the-row, (mut-slice-tells (named 1) (κs .1 .0) (Array u8 139), (shr-slice-tells (named 2) (κs .1 .1 .0) u8, (mut-slice-tells (named 3) (κs .1 .1 .1 .0) u8, tt))))))
       (λ κs qs bounds a g are. via 𝓤 _ (fst∗ 𝓤 _ (emp 𝓤))
-      (walk 𝓤 H A W mem run (κs .0) (κs .1 .0) (κs .1 .1 .0) (qs .0) (qs .1 .0) (qs .1 .1 .0) (a .0) (a .1 .0 .ptr .0) (a .1 .0 .ptr .1) (a .1 .0 .name) (a .1 .0 .now) (a .1 .1 .0) (a .1 .1 .1 .0 .ptr .0) (a .1 .1 .1 .0 .ptr .1) (a .1 .1 .1 .0 .name) (a .1 .1 .1 .0 .now) C Λ fm known-read-line known-with-line known-phase-of known-run-line known-leaves-plan known-leave-plan known-early-line (are .0) (are .1 .0 .0 .1) (are .1 .1 .0 .0 .1) (are .1 .1 .1 .0 .0 .1)))
+      (walk 𝓤 H A W mem run (κs .0) (κs .1 .0) (κs .1 .1 .0) (κs .1 .1 .1 .0) (qs .0) (qs .1 .0) (qs .1 .1 .0) (qs .1 .1 .1 .0) (a .0) (a .1 .0 .ptr .0) (a .1 .0 .ptr .1) (a .1 .0 .name) (a .1 .0 .now) (a .1 .1 .0 .ptr .0) (a .1 .1 .0 .ptr .1) (a .1 .1 .0 .name) (a .1 .1 .0 .now) (a .1 .1 .1 .0) (a .1 .1 .1 .1 .0 .ptr .0) (a .1 .1 .1 .1 .0 .ptr .1) (a .1 .1 .1 .1 .0 .name) (a .1 .1 .1 .1 .0 .now) C Λ fm known-read-line known-with-line known-phase-of known-run-line known-leaves-plan known-leave-plan known-early-line (are .0) (are .1 .0 .0 .1) (are .1 .1 .0 .0 .1) (are .1 .1 .1 .0 .0 .1) (are .1 .1 .1 .1 .0 .0 .1)))
 
 take-line-meets : {M : Type 1} (𝓤 : URA M) (H : Heap 𝓤) (A : Atoms 𝓤) → Given 𝓤 H A → (mem : Memory → SProp 𝓤) (run : Routine → Fun 𝓤) (𝓣 : Tables 𝓤 H)
     → Triple 𝓤 (𝓣 .C #bench-text·read-line) (c-read-line 𝓤 H A mem run) → Triple 𝓤 (𝓣 .C #bench-unit·with-line) (c-with-line 𝓤 H A mem run) → Triple 𝓤 (𝓣 .C #bench-unit·phase-of) (c-phase-of 𝓤 H A mem run) → Triple 𝓤 (𝓣 .C #bench-run·run-line) (c-run-line 𝓤 H A mem run) → Triple 𝓤 (𝓣 .C #bench-run·leaves-plan) (c-leaves-plan 𝓤 H A mem run) → Triple 𝓤 (𝓣 .C #bench-run·leave-plan) (c-leave-plan 𝓤 H A mem run) → Triple 𝓤 (𝓣 .C #bench-run·early-line) (c-early-line 𝓤 H A mem run)
     → Meets 𝓤 H A entry′.signature (WpFn 𝓤 H (𝓣 .C) (𝓣 .Λ) code.function) (entry′.spec 𝓤 H A mem run)
 take-line-meets 𝓤 H A W mem run 𝓣 known-read-line known-with-line known-phase-of known-run-line known-leaves-plan known-leave-plan known-early-line =
-    walk-meets 𝓤 H A entry′.ended stayed W (goes-dropped 𝓤 H A W 3 (plain (λ _. Bench-t.the-row)) yes (λ κs x f. refl), (goes-gave-slice 𝓤 H A W 3 0 tt (plain (λ _. Session-t.the-row)), (goes-dropped 𝓤 H A W 3 (shrSliceOf (1 ∷ []) tt (plain (λ _. u8))) yes (λ κs x f. refl), (goes-gave-slice 𝓤 H A W 3 2 tt (plain (λ _. u8)), tt)))) (entry′.clauses 𝓤 H A mem run)
+    walk-meets 𝓤 H A entry′.ended stayed W (goes-dropped 𝓤 H A W 4 (plain (λ _. Bench-t.the-row)) yes (λ κs x f. refl), (goes-gave-slice 𝓤 H A W 4 0 tt (plain (λ _. Session-t.the-row)), (goes-gave-slice 𝓤 H A W 4 1 tt (plain (λ _. (Array u8 139))), (goes-dropped 𝓤 H A W 4 (shrSliceOf (2 ∷ []) tt (plain (λ _. u8))) yes (λ κs x f. refl), (goes-gave-slice 𝓤 H A W 4 3 tt (plain (λ _. u8)), tt))))) (entry′.clauses 𝓤 H A mem run)
     (WpFn 𝓤 H (𝓣 .C) (𝓣 .Λ) code.function) (WpFn-mono 𝓤 H (W .laws) 𝓣 code.function) (take-line-walks 𝓤 H A W mem run (𝓣 .C) (𝓣 .Λ) (fmOf 𝓤 H (W .laws) 𝓣) known-read-line known-with-line known-phase-of known-run-line known-leaves-plan known-leave-plan known-early-line)
 
 pub take-line-spec : {M : Type 1} → stated.statement M

@@ -1,4 +1,4 @@
-use Rattle.step_control.specs.Step.{restartsIn}
+use Rattle.call_control.specs.Control.{restartsIn}
 use mathlib.Core.Path.{sym, _∙_}
 use borrow.Author.Needs.{needs}
 use Rattle.step_control.proofs.restarts_in.Statement.{statement}

@@ -1,0 +1,5 @@
+pub mod Stored
+pub mod Answers
+pub mod Steps
+pub mod Laws
+pub mod Kept

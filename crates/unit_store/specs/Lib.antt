@@ -1,0 +1,5 @@
+pub mod Row
+pub mod Store
+pub mod Shift
+pub mod Made
+pub mod Lasts
