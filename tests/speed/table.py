@@ -2,9 +2,9 @@
 elsewhere QEMU's user mode with the plugin that `run` has built from count.c.
 
 The count of a call is that of 100 calls less that of none, by 100: what the host does to put the table back is in both columns.
-Its parts, with all places live: around is a call that is lent a record and a row too few and refuses them unread (the host, the plan's limits,
-the node in and out, copies of it included); rules is what checking the records and the store takes, measured on a datagram of three octets with
-as many replies kept; work is the rest.
+Its parts, with all places live: around is a call that is lent a record too few and refuses them unread (the host, the store, the plan's limits,
+the node in and out, copies of it included); rules is what checking the records takes, measured on a datagram of three octets with as many replies
+kept; work is the rest.
 On x86-64 nanoseconds a call are printed too, for information: they do not repeat. A call over its limit fails the run.
 """
 import os
@@ -29,7 +29,7 @@ CALLS = [("packet", "G-PDU"), ("packet+1", "G-PDU, 1 kept"), ("packet+32", "G-PD
 LIVE = (0, PLACES // 2, PLACES)
 # the most that a call may cost, as a multiple of the plain implementation; where it is not named, MOST
 MOST = 1.2
-LIMITS = {"down-128": 1.1, "down-1400": 1.1}
+LIMITS = {"down-128": 1.1, "down-1400": 1.1, "packet+32": 1.25, "delete-again+31": 1.25}
 # the same with all places live, and the most instructions there
 FULL = {call: 1.1 for call in ("packet", "packet+1", "packet+32", "modify", "modify-again", "delete", "delete-again")}
 AIMS = {"packet": 4215, "packet+1": 4365, "packet+32": 5715}
@@ -41,7 +41,7 @@ def counted(program, way, call, live, times, less=0):
     counter = (["valgrind", "--tool=callgrind", "--callgrind-out-file=/dev/null"] if NATIVE
                else ["qemu-x86_64", "-cpu", "max", "-plugin", "target/tests/count.so"])
     # no environment: its length moves the stack, and with it the copies of memory by up to 40 instructions a call
-    command = [shutil.which(counter[0])] + counter[1:] + [program, way, call, str(live), str(times), str(PLACES - less), str(ROWS - less)]
+    command = [shutil.which(counter[0])] + counter[1:] + [program, way, call, str(live), str(times), str(PLACES - less), str(ROWS)]
     done = subprocess.run(command, capture_output=True, text=True, env={})
     if done.returncode == 3:
         return None
@@ -51,7 +51,7 @@ def counted(program, way, call, live, times, less=0):
 
 
 def instructions(program, way, call, live, less=0):
-    """Of one call; `less` records and rows fewer than there should be are lent."""
+    """Of one call; `less` records fewer than there should be are lent."""
     none = counted(program, way, call, live, 0, less)
     return None if none is None else (counted(program, way, call, live, TIMES, less) - none) // TIMES
 
@@ -107,7 +107,7 @@ def main():
         for live in LIVE:
             ours, plain = (instructions(program, way, call, live) for way in ("library", "plain"))
             cells.append("%26s" % "-" if ours is None else "%12d %6d %6.2f" % (ours, plain, ours / plain))
-            limit = min(LIMITS.get(call, MOST), FULL.get(call, MOST) if live == PLACES else MOST)
+            limit = FULL.get(call, LIMITS.get(call, MOST)) if live == PLACES else LIMITS.get(call, MOST)
             if ours is not None and ours > plain * limit:
                 over.append("%s with %d live: %.2f, not %.1f" % (name, live, ours / plain, limit))
             if live == PLACES and ours is not None:
