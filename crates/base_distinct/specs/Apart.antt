@@ -1,13 +1,12 @@
 -- No two elements of a list clash: stated pair by pair, as it reads; used as a count ("at most one has it"); and tested on keys,
 -- numbers of which 0 is no key. Three forms of one rule, for any element type and any clash, with the laws between them.
 -- Assumes nothing.
-use Rattle.std.specs.Prelude.{ℕ, zero, suc, ◌+◌, ◌<◌, ◌≤◌, Bool, true, false, not, ◌&&◌, ◌≡◌, eqb}
+use Rattle.std.specs.Prelude.{ℕ, ◌≤◌, Bool, true, not, ◌&&◌, ◌≡◌, eqb}
 use mathlib.Core.List.{List, [], ◌∷◌, map}
 use Rattle.std.proofs.Math.Path.{refl}
 use Rattle.std.proofs.Common.{sym, ◌∙◌}
 use native.Mathlib.Omega.{arith}
-use mir.Val.{bool_byte}
-use borrow.Author.Tests.{eq-eqb, ne_eqb, eqb-true, eqb-false, not-true}
+use borrow.Author.Tests.{not-true}
 use Rattle.base_octets.specs.Choice.{split, and_left, and_right, impossible, bit_most}
 use Rattle.base_octets.specs.Every.{every, every_rest}
 use Rattle.base_octets.specs.Sums.{sum_of, count_of}

@@ -1,6 +1,8 @@
 // Whether keys differ, 0 being no key. The contract says it pair by pair; the work is one pass from the last key to the first, in which
 // each key is compared with those behind it that share its slot, by a chain of them (specs/Chains.antt), and put in front of that chain.
 // Few keys have small chains that are quickly cleared, many have more slots.
+#![tactic(auto)]
+
 ghost use Rattle.std.specs.Prelude.{true, ◌≡◌, ◌-◌, ◌≤◌, length, drop};
 ghost use Rattle.base_distinct.specs.Apart.{none_clash, pairwise, same_key};
 ghost use Rattle.base_distinct.specs.Chains.{Search, few_slot, many_slot};

@@ -1,11 +1,11 @@
 -- Decimal text: a number with zeros in front up to a width, and the number of at most 255 that digits write. What is written reads
 -- back, for every width and every number of digits.
 -- Assumes nothing.
-use Rattle.std.specs.Prelude.{ℕ, zero, suc, ◌+◌, ◌*◌, ◌-◌, ◌/◌, ◌%◌, ◌^◌, ◌<◌, ◌≤◌, min, Bool, true, false, not, ◌&&◌, ◌||◌, List, [], ◌∷◌, ◌++◌, ◌≡◌, refl, length, drop, get_or, eqb, ltb, leb}
-use Rattle.std.proofs.Common.{ap, sym, ◌∙◌, pow-suc, add-one, arith, drop_of_length-le, length-append, drop-cons}
-use borrow.Author.Tests.{leb-true, leb-false, ltb-true, ltb-false, lt-ltb, le-ltb, le-leb, lt-leb}
-use Rattle.base_octets.specs.Choice.{pick, split, impossible, and_left, and_right, and_no, tests}
-use Rattle.base_octets.specs.Every.{every, every_stop, every_on, every_end}
+use Rattle.std.specs.Prelude.{ℕ, zero, suc, ◌+◌, ◌*◌, ◌-◌, ◌/◌, ◌%◌, ◌^◌, ◌<◌, ◌≤◌, min, Bool, true, false, ◌&&◌, ◌||◌, List, [], ◌∷◌, ◌++◌, ◌≡◌, refl, length, drop, get_or, eqb, ltb, leb}
+use Rattle.std.proofs.Common.{sym, ◌∙◌, pow-suc, arith, drop_of_length-le, length-append}
+use borrow.Author.Tests.{leb-true, leb-false, ltb-true, ltb-false, le-ltb, le-leb, lt-leb}
+use Rattle.base_octets.specs.Choice.{pick, split, impossible, and_left, and_no}
+use Rattle.base_octets.specs.Every.{every, every_stop}
 use Rattle.base_octets.specs.Places.{next_of}
 use Rattle.base_numerals.specs.declared.Numeral.{Numeral}
 use Rattle.base_numerals.specs.declared.Numeral.TheVariants as N

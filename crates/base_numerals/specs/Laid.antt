@@ -2,11 +2,11 @@
 -- is at most the buffer's end. So every writer is total, and pieces written one after another are one text (`laid_on`).
 -- Assumes nothing.
 use Prim.Native.Nat.{ℕ, zero, suc, ◌+◌, ◌<◌, ◌≤◌, min}
-use Rattle.std.specs.Prelude.{List, [], ◌∷◌, ◌++◌, ◌≡◌, refl, take, drop, get_or, set}
-use Rattle.std.proofs.Common.{ap, sym, ◌∙◌, add-zero, add-one, length-append}
+use Rattle.std.specs.Prelude.{List, [], ◌∷◌, ◌++◌, ◌≡◌, refl, set}
+use Rattle.std.proofs.Common.{ap, add-zero, length-append}
 use native.Mathlib.Omega.{arith}
 use Rattle.std.proofs.Math.ListN.{length}
-use Rattle.base_octets.specs.Overlay.{overlay, overlay-fits, length-overlay}
+use Rattle.base_octets.specs.Overlay.{overlay, length-overlay}
 
 unfoldable pub lay_at : ℕ → List ℕ → List ℕ → List ℕ
 lay_at zero m d = overlay m d

@@ -1,5 +1,7 @@
 // Numbers and octets as text: decimal and hex both ways, and text laid into a lent buffer from a place on. Capitals only in hex.
 // No call asks anything of its caller: text that does not fit is cut at the buffer's end.
+#![tactic(auto)]
+
 ghost use Rattle.std.specs.Prelude.{[], ◌∷◌, ◌≡◌, min, ◌-◌, ◌/◌};
 ghost use Rattle.base_octets.specs.Every.{every};
 ghost use Rattle.base_numerals.specs.Laid.{laid, written};
@@ -7,21 +9,21 @@ ghost use Rattle.base_numerals.specs.Decimal.{digits, decimal, is_digit, with_di
 ghost use Rattle.base_numerals.specs.Hex.{glyph, half_of, is_hex, octet_from, hex_of, filled, octets_read, word_in};
 
 // A number of at most 255 that text writes, or none.
-#[derive(Drop)]
+#[derive(Clone, Copy)]
 pub enum Numeral {
     Is(u8),
     Not,
 }
 
 // How many octets text writes, or none.
-#[derive(Drop)]
+#[derive(Clone, Copy)]
 pub enum Size {
     Is(usize),
     Not,
 }
 
 // A number of 32 bits that text writes, or none.
-#[derive(Drop)]
+#[derive(Clone, Copy)]
 pub enum Word {
     Is(u32),
     Not,

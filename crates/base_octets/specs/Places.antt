@@ -2,10 +2,10 @@
 -- and a table that lists a function's values. Any element type.
 -- Assumes nothing.
 use Prim.Native.Nat.{ℕ, zero, suc, ◌+◌, ◌-◌, ◌<◌, ◌≤◌}
-use mathlib.Core.List.{List, [], ◌∷◌, ◌++◌, map, map-append}
+use mathlib.Core.List.{List, [], ◌∷◌, map, map-append}
 use Rattle.std.specs.Prelude.{◌≡◌, length, take, drop, get_or, set, replicate}
 use Rattle.std.proofs.Math.Path.{refl, ap}
-use Rattle.std.proofs.Common.{sym, ◌∙◌, add-zero, zero_add, add-suc, suc-add, add-one, arith, length-drop, drop-cons, take-suc, take-suc-set, take_all}
+use Rattle.std.proofs.Common.{sym, ◌∙◌, add-zero, zero-add, add-suc, suc-add, add-one, arith, length-drop, drop-cons, take-suc, take-suc-set, take_all}
 
 module _ {A : Type 0} where
   -- ---- parts
@@ -97,4 +97,4 @@ module _ {A : Type 0} (f : ℕ → A) where
 
   -- each entry of the table is f of its place
   pub value_at : (n k : ℕ) (d : A) → k < n → get_or (values f 0 n) k d ≡ f k
-  value_at n k d h = value_from_lem n 0 k d h ∙ ap f (zero_add k)
+  value_at n k d h = value_from_lem n 0 k d h ∙ ap f (zero-add k)

@@ -5,12 +5,12 @@ use Prim.Native.Nat.{ℕ, zero, suc, ◌+◌, ◌<◌, ◌≤◌}
 use Rattle.std.specs.Prelude.{Bool, true, false, not, ◌≡◌, length, drop, get_or, set, ltb}
 use mathlib.Core.List.{List, [], ◌∷◌}
 use Rattle.std.proofs.Math.Path.{refl}
-use Rattle.std.proofs.Common.{sym, ◌∙◌, drop_of_length-le, drop-cons, ltb-true, ltb-false}
+use Rattle.std.proofs.Common.{sym, drop_of_length-le, drop-cons, ltb-true, ltb-false}
 use Rattle.std.proofs.Math.Numerals.{add-one}
 use native.Mathlib.Omega.{arith}
 use Rattle.std.proofs.Math.Seq.{set_out}
 use mir.Val.{bool_byte}
-use Rattle.base_octets.specs.Choice.{pick, split, impossible}
+use Rattle.base_octets.specs.Choice.{pick, split}
 use Rattle.base_octets.specs.Sums.{sum_of, count_of, sum_set}
 
 unfoldable pub first_of : {A : Type 0} → (A → Bool) → List A → ℕ

@@ -2,7 +2,7 @@
 -- A count is a sum of ones, so that one law serves every count and every "at most once".
 -- Assumes nothing.
 use Prim.Native.Nat.{ℕ, zero, suc, ◌+◌, ◌*◌, ◌<◌, ◌≤◌}
-use Rattle.std.specs.Prelude.{Bool, true, false, ◌≡◌, length, drop, get_or, set, replicate}
+use Rattle.std.specs.Prelude.{Bool, true, ◌≡◌, length, drop, get_or, set, replicate}
 use mathlib.Core.List.{List, [], ◌∷◌, map}
 use Rattle.std.proofs.Math.Path.{refl}
 use Rattle.std.proofs.Common.{add-one, drop_of_length-le}

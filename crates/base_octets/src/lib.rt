@@ -1,12 +1,14 @@
 // What every layer stands on: the numbers that come back, big-endian numbers, the comparison of two runs of octets, and the one copy
 // of a message into a lent buffer. The laws on lists and numbers that every layer cites are in specs/.
+#![tactic(auto)]
+
 ghost use Rattle.std.specs.Prelude.{[], ◌∷◌, ◌≡◌, min};
 ghost use Rattle.base_octets.specs.BigEndian.{number_of, octets_of};
 ghost use Rattle.base_octets.specs.Overlay.{overlay};
 ghost use Rattle.base_octets.specs.Same.{same_octets};
 
 // The numbers that come back, by name (document 01's table). A cause is a number too: those are named in crate readers.
-#[derive(Drop)]
+#[derive(Clone, Copy)]
 pub struct Number {}
 
 impl Number {

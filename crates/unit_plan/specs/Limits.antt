@@ -49,7 +49,7 @@ used p = take p.count p.points
 abbrev pub parties : Plan → ℕ
 parties p = length (used p)
 
--- 1 to 4 access points, T 1 to 255, N 1 to 10, E 1 to 255 (T and E are octets: none is over 255), pool base a multiple of `poolStep`
+-- 1 to 4 access points, T 1 to 255, N 1 to 10, E 1 to 255 (T and E are octets: none is over 255), pool base a multiple of `pool_step`
 unfoldable pub figures_ok : Plan → Bool
 figures_ok p =
     leb 1 p.count && leb p.count most_points
@@ -58,7 +58,7 @@ figures_ok p =
     && leb 1 p.interval
     && eqb (p.pool % pool_step) 0
 
--- name 1 to `longestName` octets; 0 ≤ g ≤ c ≤ places, c ≥ 1
+-- name 1 to `longest_name` octets; 0 ≤ g ≤ c ≤ places, c ≥ 1
 unfoldable pub point_ok : AccessPoint → Bool
 point_ok a =
     leb 1 a.size && leb a.size longest_name

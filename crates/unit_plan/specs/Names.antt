@@ -1,7 +1,7 @@
 -- Names of access points: compared octet by octet, as the APN value is sent. Everything that asks whether two names are one,
 -- or whose a name is, asks this file.
 -- Assumes nothing.
-use Rattle.std.specs.Prelude.{ℕ, ◌+◌, ◌-◌, ◌<◌, ◌≤◌, min, Bool, true, false, not, List, [], ◌≡◌, refl, length, take, drop, get_or, ltb, leb}
+use Rattle.std.specs.Prelude.{ℕ, ◌+◌, ◌-◌, ◌<◌, ◌≤◌, min, Bool, true, false, not, List, ◌≡◌, length, take, drop, get_or, ltb, leb}
 use Rattle.std.proofs.Common.{sym, ◌∙◌, take_all}
 use native.Mathlib.Omega.{arith}
 use borrow.Author.Tests.{lt-ltb, le-ltb, ltb-true}

@@ -1,5 +1,7 @@
 // The plan of a unit: its addresses and figures, its access points with what each has rented, the limits of all that, whose a
 // name is, the address of a place, and the place of an address.
+#![tactic(auto)]
+
 ghost use Rattle.std.specs.Prelude.{true, not, ◌≡◌, drop, min};
 ghost use Rattle.base_octets.specs.Every.{every};
 ghost use Rattle.unit_plan.specs.Limits.{longest_name, no_point, no_plan, parties, used, figures_ok, point_ok};
@@ -9,7 +11,7 @@ ghost use Rattle.unit_plan.specs.Address.{address_of, place_of};
 
 // An access point: its name, of which the first `size` octets count, and the places it is promised and may have at most.
 #[repr(C)]
-#[derive(Drop)]
+#[derive(Clone, Copy)]
 pub struct AccessPoint {
     pub name: [u8; AccessPoint::LONGEST_NAME],
     pub size: u8,
@@ -18,14 +20,14 @@ pub struct AccessPoint {
 }
 
 // Which access point a name is of.
-#[derive(Drop)]
+#[derive(Clone, Copy)]
 pub enum Named {
     Point(usize),
     Unknown,
 }
 
 #[repr(C)]
-#[derive(Drop)]
+#[derive(Clone, Copy)]
 pub struct Plan {
     // the unit's own addresses, for control and for user datagrams
     pub control: u32,

@@ -1,21 +1,19 @@
 -- Each way of changing a record keeps the rules of one record, and what it does to the three weights that the table's rules add up:
 -- being on an access point, having an IMSI and EBI, awaiting a number.
 -- Assumes nothing.
-use Rattle.std.specs.Prelude.{◌≡◌, ℕ, zero, suc, ◌+◌, ◌-◌, ◌<◌, ◌≤◌, Bool, true, false, not, ◌&&◌, ◌||◌, leb, ◌==◌, ◌≢◌, nat_eq, nat_le, nat_lt}
+use Rattle.std.specs.Prelude.{◌≡◌, ℕ, ◌-◌, ◌≤◌, Bool, true, false, ◌&&◌, ◌||◌, leb, ◌==◌, ◌≢◌, nat_eq, nat_le, nat_lt}
 use Rattle.std.proofs.Math.Path.{refl}
-use Rattle.std.proofs.Common.{sym, ◌∙◌}
 use native.Mathlib.Omega.{arith}
 use mir.Val.{bool_byte}
-use borrow.Author.Tests.{eqb-true, eqb-false, eq-eqb, ne_eqb, le-leb, leb-true, not-true}
-use Rattle.base_octets.specs.Choice.{pick, split, and_left, and_right, or_true, tests, impossible}
+use borrow.Author.Tests.{eqb-true, eqb-false, ne_eqb, le-leb, leb-true}
+use Rattle.base_octets.specs.Choice.{pick, split, and_left, and_right, tests}
 use Rattle.unit_tunnel.specs.Numbering.{last_use}
 use Rattle.unit_tunnel.specs.Tunnel.{next_use, next_range}
-use Rattle.unit_session.specs.declared.OwnRequest.{OwnRequest}
 use Rattle.unit_session.specs.declared.Session.{Session}
 use Rattle.unit_session.specs.declared.Bounds.{Bounds}
 use Rattle.unit_session.specs.declared.Opening.{Opening}
 use Rattle.unit_session.specs.declared.Peers.{Peers}
-use Rattle.unit_session.specs.OwnRequest.{last_number, idle, request_ok, awaits, sent_once, counted_down, spent, request_idle, request_sent, request_down, awaits_down}
+use Rattle.unit_session.specs.OwnRequest.{last_number, idle, request_ok, awaits, sent_once, counted_down, spent, request_idle, request_sent, request_down}
 use Rattle.unit_session.specs.Session.{is_free, is_closing, has_id, is_on, waits_for, read_ok, blank, held_ok, phase_ok, record_ok, blank_at, freed, opened, moved, turned, closed, sent, ticked, is_due, imsis, last_created}
 
 -- a Create that may be opened, as the record's rule will have it

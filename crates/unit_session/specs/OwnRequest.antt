@@ -2,9 +2,9 @@
 -- sent again, and given up. One definition serves the places and the echo; they differ in how long the first send is waited for:
 -- a place sends at once, the echo after E ticks.
 -- Assumes nothing.
-use Rattle.std.specs.Prelude.{◌≡◌, ℕ, zero, suc, ◌+◌, ◌-◌, ◌*◌, ◌%◌, ◌<◌, ◌≤◌, Bool, true, false, not, ◌&&◌, ◌||◌, leb, ◌==◌, ◌≢◌, nat_eq, nat_le, refl}
-use Rattle.std.proofs.Common.{sym, ◌∙◌, arith}
-use borrow.Author.Tests.{eqb-true, eqb-false, eq-eqb, ne_eqb, le-leb, lt-leb, leb-true, leb-false}
+use Rattle.std.specs.Prelude.{◌≡◌, ℕ, ◌+◌, ◌-◌, ◌%◌, ◌<◌, ◌≤◌, Bool, true, false, not, ◌&&◌, leb, ◌==◌, ◌≢◌, nat_eq, nat_le, refl}
+use Rattle.std.proofs.Common.{sym, arith}
+use borrow.Author.Tests.{eqb-true, eqb-false, eq-eqb, ne_eqb, le-leb}
 use Rattle.base_octets.specs.Choice.{pick, split, and_left, and_right, tests, impossible}
 use Rattle.unit_session.specs.declared.OwnRequest.{OwnRequest}
 

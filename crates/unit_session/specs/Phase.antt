@@ -1,15 +1,12 @@
 -- The rules of one record, test by test: what is left to ask of a live record, and of a closing one.
 -- Assumes nothing.
-use Rattle.std.specs.Prelude.{◌≡◌, ℕ, Bool, true, false, not, ◌&&◌, ◌||◌, ◌==◌, ◌≢◌, nat_le, refl}
-use Rattle.std.proofs.Common.{sym, ◌∙◌, arith, eqb-true, eq-eqb, ne_eqb, le-leb, leb-true}
-use Rattle.std.proofs.lemmas.Bool.{eqb-false, not-true, not-false}
-use Rattle.base_octets.specs.Choice.{pick, split, tests, impossible}
-use Rattle.unit_tunnel.specs.Numbering.{last_use}
-use Rattle.unit_session.specs.declared.OwnRequest.{OwnRequest}
+use Rattle.std.specs.Prelude.{◌≡◌, ℕ, Bool, true, false, not, ◌&&◌, ◌==◌, ◌≢◌, nat_le, refl}
+use Rattle.std.proofs.Common.{sym, ◌∙◌, arith, eq-eqb, ne_eqb, le-leb, leb-true}
+use Rattle.base_octets.specs.Choice.{split, impossible}
 use Rattle.unit_session.specs.declared.Session.{Session}
 use Rattle.unit_session.specs.declared.Bounds.{Bounds}
 use Rattle.unit_session.specs.OwnRequest.{last_number, request_ok}
-use Rattle.unit_session.specs.Session.{is_free, is_closing, held_ok, phase_ok, record_ok}
+use Rattle.unit_session.specs.Session.{is_closing, phase_ok}
 
 zero_most : (x : ℕ) → nat_le x 0 ≡ (x == 0)
 zero_most x =

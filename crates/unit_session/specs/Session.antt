@@ -1,6 +1,6 @@
 -- A session record, the rules of one record, and what the operations make of one. A record is built here and nowhere else.
 -- Assumes nothing.
-use Rattle.std.specs.Prelude.{◌≡◌, ℕ, ◌+◌, ◌-◌, ◌<◌, ◌≤◌, Bool, true, false, not, ◌&&◌, ◌||◌, ◌==◌, nat_le, nat_lt, refl}
+use Rattle.std.specs.Prelude.{ℕ, Bool, not, ◌&&◌, ◌||◌, ◌==◌, nat_le, nat_lt}
 use Rattle.base_octets.specs.Choice.{pick}
 use Rattle.unit_tunnel.specs.Numbering.{last_use}
 use Rattle.unit_tunnel.specs.Tunnel.{next_use}

@@ -1,11 +1,13 @@
 // A session record: its rules, and every way in which one is made or changed. Later fields are added here.
+#![tactic(auto)]
+
 ghost use Rattle.std.specs.Prelude.{◌≡◌};
 ghost use Rattle.unit_session.specs.OwnRequest.{idle, awaits, request_ok, sent_once, counted_down, spent};
 ghost use Rattle.unit_session.specs.Session.{is_free, waits_for, free_ok, held_ok, blank_at, freed, opened, moved, closed, sent, ticked};
 
 // A request of the unit's own: a closing place's Delete Bearer, or the echo.
 #[repr(C)]
-#[derive(Drop)]
+#[derive(Clone, Copy)]
 pub struct OwnRequest {
     // ticks until it is due; 0: due, or nothing under way
     pub timer: u8,
@@ -15,7 +17,7 @@ pub struct OwnRequest {
 }
 
 // What a record is held to of its plan: the number of access points, T and N.
-#[derive(Drop)]
+#[derive(Clone, Copy)]
 pub struct Bounds {
     pub parties: usize,
     pub resend: u8,
@@ -23,7 +25,7 @@ pub struct Bounds {
 }
 
 // What a Create brings that a session keeps.
-#[derive(Drop)]
+#[derive(Clone, Copy)]
 pub struct Opening {
     pub imsi: u64,
     pub control: u32,
@@ -36,7 +38,7 @@ pub struct Opening {
 }
 
 // The peer's TEIDs and addresses.
-#[derive(Drop)]
+#[derive(Clone, Copy)]
 pub struct Peers {
     pub control: u32,
     pub controladdr: u32,
@@ -46,7 +48,7 @@ pub struct Peers {
 
 // The record of one place.
 #[repr(C)]
-#[derive(Drop)]
+#[derive(Clone, Copy)]
 pub struct Session {
     pub imsi: u64,
     // the use number: how often the place was taken

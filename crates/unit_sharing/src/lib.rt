@@ -1,5 +1,7 @@
 // The sharing rule: which access point a new session is admitted for, given how many live sessions each has.
 // The slots are read one by one at fixed places where all are looked at: a place that is computed makes the machine copy the plan.
+#![tactic(auto)]
+
 ghost use Rattle.std.specs.Prelude.{max, ◌≡◌, get_or};
 ghost use Rattle.unit_sharing.specs.Sharing.{share_of, admits, under_ceilings, within_ok};
 

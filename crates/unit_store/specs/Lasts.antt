@@ -1,7 +1,7 @@
 -- A kept reply over time: where it stands and what life it has left after ticks and after other replies that were kept, and that the search finds it
 -- until its tenth tick; and that after ten ticks nothing is left of what was there.
 -- Assumes nothing.
-use Rattle.std.specs.Prelude.{◌≡◌, ℕ, zero, suc, ◌+◌, ◌-◌, ◌<◌, ◌≤◌, Bool, true, false, not, ◌&&◌, ◌||◌, leb, List, [], ◌∷◌, map, length, get_or, take, ◌==◌, nat_eq, nat_le, nat_lt, slice_index_or}
+use Rattle.std.specs.Prelude.{◌≡◌, ℕ, zero, suc, ◌+◌, ◌-◌, ◌<◌, ◌≤◌, Bool, true, false, not, ◌||◌, leb, List, [], ◌∷◌, map, length, get_or, take, ◌==◌, nat_eq, nat_le, nat_lt, slice_index_or}
 use Rattle.std.proofs.Math.Path.{refl, sym, ap}
 use Rattle.std.proofs.Common.{◌∙◌}
 use native.Mathlib.Omega.{arith}
@@ -9,13 +9,13 @@ use Rattle.std.proofs.Math.ListN.{length-map}
 use Rattle.std.proofs.Math.Seq.{length-take-le}
 use mir.Val.{bool_byte}
 use borrow.Author.Tests.{eqb-true, eq-eqb, ne_eqb, ltb-true, ltb-false, le-leb, leb-true}
-use Rattle.base_octets.specs.Choice.{pick, split, and_left, and_right, or_split, or_true, impossible, tests}
+use Rattle.base_octets.specs.Choice.{split, and_left, and_right, or_split, or_true, impossible, tests}
 use Rattle.base_octets.specs.Every.{every, every-at}
 use Rattle.base_octets.specs.Places.{map_at}
 use Rattle.base_octets.specs.Sums.{sum_of, count_of, sum_holds_two, sum_least, sum_of_map, count_most}
 use Rattle.base_octets.specs.Search.{first_of, first_most, first-before, first_passes}
 use Rattle.unit_store.specs.Row.{full_life, life_in, life_after, number_in, octets_in, three_in, is_unused, holds, reply_ok, kept_ok, life_taken, after_most, unused_taken, life_taken_lem, three_taken, number_taken, octets_taken}
-use Rattle.unit_store.specs.Store.{store_ok, pushed, aged, emptied, Sound, sound_of, length-pushed}
+use Rattle.unit_store.specs.Store.{store_ok, pushed, aged, emptied, sound_of, length-pushed}
 
 -- ---- one row after n ticks
 unfoldable pub after_ticks : ℕ → List ℕ → List ℕ

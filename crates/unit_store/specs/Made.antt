@@ -1,11 +1,11 @@
 -- A row that is made of a request and its reply: what stands in it, and that it keeps the rules.
 -- Assumes nothing.
-use Rattle.std.specs.Prelude.{◌≡◌, ℕ, ◌+◌, ◌*◌, ◌/◌, ◌%◌, ◌^◌, ◌<◌, ◌≤◌, Bool, true, false, not, ◌&&◌, ◌||◌, List, [], ◌∷◌, ◌++◌, length, take, drop, replicate, ◌==◌}
+use Rattle.std.specs.Prelude.{◌≡◌, ℕ, ◌/◌, ◌%◌, ◌<◌, ◌≤◌, true, false, ◌||◌, List, length, take, drop, replicate, ◌==◌}
 use Rattle.std.proofs.Math.Path.{refl, ap}
-use Rattle.std.proofs.Common.{sym, ◌∙◌, take_at, eqb-true, eq-eqb, le-leb}
+use Rattle.std.proofs.Common.{◌∙◌, take_at, eqb-true, le-leb}
 use native.Mathlib.Omega.{arith}
 use Rattle.std.proofs.Math.Seq.{length-take-le}
-use Rattle.base_octets.specs.Choice.{or_split, or_true}
+use Rattle.base_octets.specs.Choice.{or_split}
 use Rattle.base_octets.specs.BigEndian.{number_of, octets_of, number_back}
 use Rattle.base_octets.specs.Overlay.{overlay, overlay-fits}
 use Rattle.unit_store.specs.Row.{type_in, life_in, number_in, size_in, octets_in, head_of, three_of, three_in, is_unused, type_ok, number_ok, reply_ok, kept_ok, front_of, row_of}

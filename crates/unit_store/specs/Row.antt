@@ -1,13 +1,13 @@
 -- One row of the store: a kept reply, or an unused place. Every definition answers for any octets and any length.
 -- Assumes nothing.
 use Rattle.std.specs.Prelude.{◌≡◌, ℕ, ◌+◌, ◌-◌, ◌*◌, ◌/◌, ◌%◌, ◌<◌, ◌≤◌, min, Bool, true, false, not, ◌&&◌, ◌||◌, leb, ◌≢◌, List, [], ◌∷◌, ◌++◌, length, take, drop, replicate, ◌==◌, nat_eq, nat_le, nat_lt, slice_index, slice_index_or, slice_range, slice_set, refl}
-use Rattle.std.proofs.Common.{append-nil, sym, ◌∙◌, ap, length-drop, length-append, drop_of_length-le, length-take-le, take_all, take_at, drop_at}
+use Rattle.std.proofs.Common.{append-nil, sym, ◌∙◌, ap, length-drop, length-take-le, take_all, take_at, drop_at}
 use native.Mathlib.Omega.{arith}
 use Rattle.std.proofs.Math.ListN.{get_or-eq_default}
 use Rattle.std.proofs.Math.Seq.{set_out, get_or-set_same, get_or-set_other, drop-set-lt}
 use mir.Val.{bool_byte}
-use borrow.Author.Tests.{eqb-true, eq-eqb, ne_eqb, ltb-true, ltb-false, le-leb, leb-true}
-use Rattle.base_octets.specs.Choice.{pick, split, and_left, and_right, or_split, or_true, impossible, bit_most, tests}
+use borrow.Author.Tests.{eqb-true, eq-eqb, ne_eqb, ltb-true, ltb-false, le-leb}
+use Rattle.base_octets.specs.Choice.{pick, split, and_left, and_right, or_split, impossible, tests}
 use Rattle.base_octets.specs.Number.{taken}
 use Rattle.wire_messages.specs.Types.{modify_type, delete_type}
 use Rattle.wire_fields.specs.Refusal.{not_live_cause, short_cause, wrong_cause, missing_cause}
@@ -53,7 +53,7 @@ unfoldable pub octets_in : List ℕ → List ℕ
 octets_in r = take (size_in r) (drop before_reply r)
 
 -- type (8 bits), sequence number (24) and header TEID (32) as one number: two requests are equal in the three exactly where these are
--- (`three-apart`)
+-- (`three_apart`)
 unfoldable pub head_of : ℕ → ℕ → ℕ
 head_of type sequence = type * 16777216 + sequence % 16777216
 

@@ -1,11 +1,11 @@
 -- A reply kept in place: the rows before the first unused one move back by one, from the last to the first, and the new one is put in front.
 -- What the loop that moves them has come to, and that in the end it is `pushed`.
 -- Assumes nothing.
-use Rattle.std.specs.Prelude.{◌≡◌, ℕ, zero, suc, ◌+◌, ◌-◌, ◌<◌, ◌≤◌, min, Bool, true, false, List, [], ◌∷◌, ◌++◌, length, get_or, take, drop, nat_lt, slice_index_or, slice_set, refl}
+use Rattle.std.specs.Prelude.{◌≡◌, ℕ, zero, suc, ◌-◌, ◌<◌, ◌≤◌, min, true, false, List, [], ◌∷◌, ◌++◌, length, get_or, take, drop, nat_lt, slice_index_or, slice_set, refl}
 use Rattle.std.proofs.Common.{sym, ◌∙◌, ap, arith, length-set, drop_of_length-le, take-suc, drop-cons, take-take, get_or-take, length-take-le, ltb-true, ltb-false}
 use Rattle.std.proofs.Math.Seq.{append_snoc}
 use Rattle.std.proofs.lemmas.List.{set_at, set_split, take-set-le}
-use Rattle.base_octets.specs.Choice.{pick, split, impossible}
+use Rattle.base_octets.specs.Choice.{split}
 use Rattle.base_octets.specs.Search.{first_of, first_passes, first-before}
 use Rattle.unit_store.specs.Row.{is_unused}
 use Rattle.unit_store.specs.Store.{pushed}

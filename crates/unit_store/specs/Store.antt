@@ -1,16 +1,15 @@
 -- The store: the last 32 replies to types 34 and 36, the newest first.
 -- Assumes nothing.
-use Rattle.std.specs.Prelude.{◌≡◌, ℕ, zero, suc, ◌+◌, ◌-◌, ◌*◌, ◌<◌, ◌≤◌, min, Bool, true, false, not, ◌&&◌, ◌||◌, List, [], ◌∷◌, ◌++◌, map, length, take, drop, replicate, ◌==◌, nat_eq, nat_lt, slice_range, refl}
-use Rattle.std.proofs.Common.{sym, ◌∙◌, ap, arith, take_all, drop-cons, eqb-true, eq-eqb, ne_eqb, ltb-true, ltb-false, le-leb}
-use Rattle.std.proofs.lemmas.List.{length-map, set_split}
+use Rattle.std.specs.Prelude.{◌≡◌, ℕ, zero, suc, ◌+◌, ◌-◌, ◌<◌, ◌≤◌, min, Bool, true, false, not, ◌&&◌, List, [], ◌∷◌, map, length, take, drop, ◌==◌, nat_eq, nat_lt, slice_range, refl}
+use Rattle.std.proofs.Common.{sym, ◌∙◌, ap, arith, take_all, eqb-true, eq-eqb, ltb-true, ltb-false}
+use Rattle.std.proofs.lemmas.List.{length-map}
 use mir.Val.{bool_byte}
-use Rattle.base_octets.specs.Choice.{pick, split, and_left, and_right, bit_most, impossible, tests}
+use Rattle.base_octets.specs.Choice.{pick, split, and_left, and_right, and_no}
 use Rattle.base_octets.specs.Every.{every, every_rest, every_map}
 use Rattle.base_octets.specs.Sums.{sum_of, count_of, sum_end, sum_map_most}
-use Rattle.base_octets.specs.Search.{first_of}
 use Rattle.base_octets.specs.Places.{map_first}
 use Rattle.base_distinct.specs.Apart.{none_clash, pairwise, same_key, pairwise_count, count_pairwise}
-use Rattle.unit_store.specs.Row.{store_rows, size_in, life_in, life_after, number_in, octets_in, three_in, is_unused, holds, reply_ok, kept_ok, life_taken, mark_in, after_most, life_taken_lem, three_taken, number_taken, octets_taken, ok_taken, holds-taken, mark_same}
+use Rattle.unit_store.specs.Row.{store_rows, life_in, life_after, three_in, is_unused, holds, kept_ok, life_taken, mark_in, life_taken_lem, ok_taken, holds-taken, mark_same}
 
 -- two kept replies that are equal in type, sequence number and TEID
 unfoldable pub same_three : List ℕ → List ℕ → Bool
@@ -102,7 +101,7 @@ three_shared x y e =
 pub sound_of : (l : List (List ℕ)) → store_ok l ≡ true → Sound l
 unfolding store_ok
 sound_of l e =
-    let s : nat_eq (length l) 32 ≡ true = search (and_left, and_right) in
+    let s : nat_eq (length l) 32 ≡ true = search and_left in
     let h : every kept_ok l ≡ true = search (and_left, and_right) in
     let i : pairwise same_three l ≡ true = search (and_left, and_right) in
     record { size = eqb-true (length l) 32 s; each = h; once = λ three. pairwise_count same_three (holds three) l (same_three_lem three) i }
@@ -154,10 +153,14 @@ emptied_none (r ∷ l) = rw (eq-eqb (life_in (life_taken true r)) 0 (life_taken_
 
 -- ---- laws: in the words of the code
 -- no life is left: nothing is kept, and no rule is broken
+unused_apart : (x y : List ℕ) → is_unused x ≡ true → same_three x y ≡ false
+unfolding same_three
+unused_apart x y e = rw e
+
 none_apart : (x : List ℕ) (l : List (List ℕ)) → is_unused x ≡ true → none_clash same_three x l ≡ true
-unfolding none_clash every same_three
+unfolding none_clash every
 none_apart x [] e = refl
-none_apart x (y ∷ l) e = let r = none_apart x l e in rw e (rw e at r)
+none_apart x (y ∷ l) e = rw (unused_apart x y e) (none_apart x l e)
 
 unused : (r : List ℕ) → life_in r ≡ 0 → is_unused r ≡ true
 unfolding is_unused
@@ -192,14 +195,16 @@ more_rows l i h =
     (λ e. let z = sum_end life_in l i (ltb-false i (length l) e) in absurd (omega arith))
 
 -- with rows that are unused nothing clashes
+apart_unused : (x y : List ℕ) → is_unused y ≡ true → same_three x y ≡ false
+unfolding same_three holds
+apart_unused x y e = rw (e, and_no (not (is_unused x)))
+
 vacant_none : (x : List ℕ) (l : List (List ℕ)) → sum_of life_in l ≡ 0 → none_clash same_three x l ≡ true
-unfolding sum_of none_clash every same_three holds
+unfolding sum_of none_clash every
 vacant_none x [] e = refl
 vacant_none x (y ∷ l) e =
     let z : life_in y ≡ 0 = omega arith in
-    let u : is_unused y ≡ true = unused y z in
-    let r = vacant_none x l (omega arith) in
-    split (is_unused x) (λ f. rw f (rw f at r)) (λ f. rw (f, u) (rw f at r))
+    rw (apart_unused x y (unused y z)) (vacant_none x l (omega arith))
 
 front_none : (x : List ℕ) (l : List (List ℕ)) → sum_of life_in l ≡ 0 → none_clash same_key (mark_in x) (map mark_in []) ≡ none_clash same_three x l
 unfolding none_clash every

@@ -1,6 +1,8 @@
 // The store of kept replies: rows that the caller lends, each the reply to a Modify or a Delete that was answered, the newest first.
 // A row is octets, so that it is lent as it lies: type, sequence number (3) and header TEID (4) of the request, the life that is left, the
 // number that was answered, the size of the reply, and room for its octets. A row of life 0 is unused, and nothing else of it is looked at.
+#![tactic(auto)]
+
 ghost use Rattle.std.specs.Prelude.{◌≡◌, ◌/◌, ◌%◌, ◌<◌, ◌≤◌, ◌&&◌, [], ◌∷◌, length, slice_index_or};
 ghost use Rattle.base_octets.specs.BigEndian.{number_of};
 ghost use Rattle.base_octets.specs.Every.{every};
@@ -17,7 +19,7 @@ use wire_fields::Refusal;
 use wire_messages::MessageType;
 
 // What a store and a row of it measure.
-#[derive(Drop)]
+#[derive(Clone, Copy)]
 pub struct Kept {}
 
 impl Kept {

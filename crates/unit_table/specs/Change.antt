@@ -1,8 +1,8 @@
 -- A change of one record or of all, and what only takes away keeps every rule: proved once, for freeing, closing, moving, ticking,
 -- Recovery and giving up alike.
 -- Assumes nothing.
-use Rattle.std.specs.Prelude.{◌≡◌, ℕ, zero, suc, ◌+◌, ◌<◌, ◌≤◌, Bool, true, false, ◌≢◌, List, [], ◌∷◌, map, length, get_or, ◌==◌, slice_index_or, slice_set, refl}
-use Rattle.std.proofs.Common.{sym, ◌∙◌, arith, eqb-true}
+use Rattle.std.specs.Prelude.{◌≡◌, ℕ, ◌<◌, ◌≤◌, true, ◌≢◌, List, map, length, get_or, ◌==◌, slice_index_or, slice_set}
+use Rattle.std.proofs.Common.{◌∙◌, arith, eqb-true}
 use Rattle.std.proofs.Math.ListN.{length-set}
 use Rattle.std.proofs.lemmas.List.{length-map}
 use Rattle.std.proofs.Math.Seq.{set_out, get_or-set_same, get_or-set_other}
@@ -11,14 +11,13 @@ use mir.Val.{bool_byte}
 use Rattle.base_octets.specs.Choice.{split}
 use Rattle.base_octets.specs.Every.{every, every-at, every_set, every_map}
 use Rattle.base_octets.specs.Places.{any_default}
-use Rattle.base_octets.specs.Sums.{sum_of, count_of, sum_set_most, sum_map_most}
+use Rattle.base_octets.specs.Sums.{count_of, sum_set_most, sum_map_most}
 use Rattle.unit_plan.specs.declared.Plan.{Plan}
 use Rattle.unit_plan.specs.Limits.{parties}
 use Rattle.unit_sharing.specs.Sharing.{guarantee_at, ceiling_at, within_less}
 use Rattle.unit_session.specs.declared.OwnRequest.{OwnRequest}
 use Rattle.unit_session.specs.declared.Session.{Session}
-use Rattle.unit_session.specs.declared.Bounds.{Bounds}
-use Rattle.unit_session.specs.Session.{is_free, is_on, has_id, waits_for, record_ok, blank_at, freed, ticked}
+use Rattle.unit_session.specs.Session.{is_on, has_id, waits_for, record_ok, blank_at, freed, ticked}
 use Rattle.unit_session.specs.Keep.{Lighter, ok_blank, ok_freed, ok_ticked, lighter_freed, lighter_ticked}
 use Rattle.unit_table.specs.Rules.{live_on, live, bounds_of, Rules}
 

@@ -1,12 +1,12 @@
--- Own sequence numbers: they count 0 to `lastNumber` and round, and skip any that is still awaited. The echo and the places await one
+-- Own sequence numbers: they count 0 to `last_number` and round, and skip any that is still awaited. The echo and the places await one
 -- number each at most, so one more try than there are requests always finds a number that nobody awaits.
 -- Assumes nothing.
-use Rattle.std.specs.Prelude.{◌≡◌, ℕ, zero, suc, ◌+◌, ◌%◌, ◌<◌, ◌≤◌, Bool, true, false, not, ◌&&◌, List, [], ◌∷◌, length, ◌==◌, ◌≢◌, refl}
-use Rattle.std.proofs.Common.{sym, ◌∙◌, arith, eqb-true, ne_eqb}
+use Rattle.std.specs.Prelude.{◌≡◌, ℕ, zero, suc, ◌+◌, ◌%◌, ◌≤◌, not, ◌&&◌, List, [], ◌∷◌, length, ◌==◌, ◌≢◌, refl}
+use Rattle.std.proofs.Common.{arith, eqb-true, ne_eqb}
 use Rattle.std.proofs.lemmas.Bool.{eqb-false}
 use mir.Val.{bool_byte}
-use Rattle.base_octets.specs.Choice.{pick, split, bit_most, tests}
-use Rattle.base_octets.specs.Sums.{sum_of, count_of, sum_least, sum_of_map}
+use Rattle.base_octets.specs.Choice.{pick, split}
+use Rattle.base_octets.specs.Sums.{sum_of, count_of, sum_least}
 use Rattle.base_octets.specs.Below.{sum_to, to_least, to_equal, to_none, to_sum, to_swap, to_front}
 use Rattle.unit_tunnel.specs.Numbering.{places}
 use Rattle.unit_session.specs.declared.OwnRequest.{OwnRequest}

@@ -11,7 +11,8 @@ use Rattle.base_octets.specs.Sums.{count_of, sum_set, sum_set_most}
 use Rattle.base_octets.specs.Search.{first_of, first-gone}
 use Rattle.unit_plan.specs.declared.Plan.{Plan}
 use Rattle.unit_plan.specs.Limits.{parties}
-use Rattle.unit_sharing.specs.Sharing.{admits, admitted-keeps, guarantee_at, ceiling_at}
+use Rattle.unit_sharing.specs.Sharing.{admits, guarantee_at, ceiling_at}
+use Rattle.unit_sharing.proofs.Sharing.{admitted-keeps}
 use Rattle.unit_session.specs.declared.OwnRequest.{OwnRequest}
 use Rattle.unit_session.specs.declared.Session.{Session}
 use Rattle.unit_session.specs.declared.Opening.{Opening}

@@ -1,17 +1,17 @@
 -- Room: a session that the sharing rule admits finds a free place, on every table that keeps its rules; so number 11 does not come.
 -- Assumes nothing.
-use Rattle.std.specs.Prelude.{◌≡◌, ℕ, ◌+◌, ◌<◌, ◌≤◌, Bool, true, false, not, ◌&&◌, ltb, List, length, ◌==◌, nat_lt, slice_index_or, refl}
+use Rattle.std.specs.Prelude.{◌≡◌, ℕ, ◌<◌, true, false, not, ◌&&◌, ltb, List, length, ◌==◌, nat_lt, slice_index_or}
 use Rattle.std.proofs.Common.{sym, ◌∙◌, arith, ltb-true, ltb-false}
 use mir.Val.{bool_byte}
-use Rattle.base_octets.specs.Choice.{pick, split, impossible, and_left, and_right}
+use Rattle.base_octets.specs.Choice.{split, impossible, and_left, and_right}
 use Rattle.base_octets.specs.Every.{every}
-use Rattle.base_octets.specs.Sums.{sum_of, count_of, sum_agree}
+use Rattle.base_octets.specs.Sums.{count_of, sum_agree}
 use Rattle.base_octets.specs.Below.{sum_to, to_none, to_swap, hits_in, to_equal}
 use Rattle.base_octets.specs.Search.{first_of, first-room, first_passes}
-use Rattle.unit_tunnel.specs.Numbering.{places}
 use Rattle.unit_plan.specs.declared.Plan.{Plan}
 use Rattle.unit_plan.specs.Limits.{parties}
-use Rattle.unit_sharing.specs.Sharing.{admits, admits_out, admitted-room, guarantee_at, ceiling_at}
+use Rattle.unit_sharing.specs.Sharing.{admits, admits_out, guarantee_at, ceiling_at}
+use Rattle.unit_sharing.proofs.Sharing.{admitted-room}
 use Rattle.unit_session.specs.declared.OwnRequest.{OwnRequest}
 use Rattle.unit_session.specs.declared.Session.{Session}
 use Rattle.unit_session.specs.declared.Bounds.{Bounds}

@@ -1,10 +1,10 @@
 -- What a table is and when it keeps its rules (number 2 otherwise). The rules stand first as one test that reads like document 01,
 -- then as facts by name, which is what proofs carry through every operation; the two say the same.
 -- Assumes nothing.
-use Rattle.std.specs.Prelude.{◌≡◌, ℕ, zero, suc, ◌+◌, ◌<◌, ◌≤◌, Bool, true, false, not, ◌&&◌, leb, List, [], ◌∷◌, map, length, ◌==◌, nat_eq, nat_le, refl}
-use Rattle.std.proofs.Common.{sym, ◌∙◌, arith, eqb-true, eq-eqb, le-leb}
+use Rattle.std.specs.Prelude.{◌≡◌, ℕ, ◌+◌, ◌≤◌, Bool, true, not, ◌&&◌, leb, List, ◌∷◌, map, length, ◌==◌, nat_eq, nat_le, refl}
+use Rattle.std.proofs.Common.{arith, eqb-true, eq-eqb, le-leb}
 use mir.Val.{bool_byte}
-use Rattle.base_octets.specs.Choice.{pick, and_left, and_right, tests}
+use Rattle.base_octets.specs.Choice.{and_left, and_right, tests}
 use Rattle.base_octets.specs.Every.{every}
 use Rattle.base_octets.specs.Sums.{sum_of, count_of, sum_of_map}
 use Rattle.unit_tunnel.specs.Numbering.{places}

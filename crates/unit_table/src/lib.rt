@@ -1,5 +1,7 @@
 // The table: a session record for each place, and the node, which goes with them; what becomes of a record, and which one a number names. specs/Rules
 // has the rules of a whole table.
+#![tactic(auto)]
+
 ghost use Rattle.std.specs.Prelude.{◌≡◌};
 ghost use Rattle.unit_table.specs.Become.{changed_by};
 ghost use Rattle.unit_table.specs.Number.{after};
@@ -13,7 +15,7 @@ use unit_tunnel::{ControlTeid, Holder, Unit, UserTeid};
 
 // What goes with the records: the plan, the stored Recovery, the unit's own echo, and the next sequence number.
 #[repr(C)]
-#[derive(Drop)]
+#[derive(Clone, Copy)]
 pub struct Node {
     pub plan: Plan,
     pub echo: OwnRequest,
@@ -24,7 +26,7 @@ pub struct Node {
 }
 
 // What a Recovery value of the exchange says, beside the one that is stored.
-#[derive(Drop)]
+#[derive(Clone, Copy)]
 pub enum Judged {
     Same,
     Restarted,
@@ -33,14 +35,14 @@ pub enum Judged {
 }
 
 // A place, or none.
-#[derive(Drop)]
+#[derive(Clone, Copy)]
 pub enum Owner {
     At(usize),
     Nothing,
 }
 
 // What is done to a record.
-#[derive(Drop)]
+#[derive(Clone, Copy)]
 pub enum Change {
     Free,
     Tick(u8),

@@ -1,10 +1,12 @@
 // Tunnel numbers: two kinds that are never used for each other, each found from a place and its use, and each giving them back.
+#![tactic(auto)]
+
 ghost use Rattle.std.specs.Prelude.{◌%◌, ◌≡◌};
 ghost use Rattle.unit_tunnel.specs.Numbering.{control_offset, user_offset, teids};
 ghost use Rattle.unit_tunnel.specs.Tunnel.{number_at, control_number, user_number, holder_of, next_use};
 
 // The unit, for the figure that every layer goes by.
-#[derive(Drop)]
+#[derive(Clone, Copy)]
 pub struct Unit {}
 
 impl Unit {
@@ -13,7 +15,7 @@ impl Unit {
 }
 
 // Who holds a number: a place in one of its uses, or nobody ever.
-#[derive(Drop)]
+#[derive(Clone, Copy)]
 pub enum Holder {
     At { place: usize, usage: u32 },
     Nobody,
@@ -29,11 +31,11 @@ impl Holder {
 }
 
 // A number for control datagrams (GTPv2-C).
-#[derive(Drop)]
+#[derive(Clone, Copy)]
 pub struct ControlTeid(pub u32);
 
 // A number for user datagrams (GTPv1-U).
-#[derive(Drop)]
+#[derive(Clone, Copy)]
 pub struct UserTeid(pub u32);
 
 fn number_at(offset: u32, usage: u32, place: usize) -> u32

@@ -1,8 +1,8 @@
 -- One reading a field: its value, or that it is missing, short or wrong, in this order. The octets are those of a message behind its header,
 -- or those of a Bearer Context.
 -- Assumes nothing.
-use Rattle.std.specs.Prelude.{ℕ, ◌+◌, ◌%◌, ◌<◌, ◌≤◌, Bool, true, false, ◌||◌, List, ◌≡◌, refl, get_or, eqb, ltb}
-use Rattle.std.proofs.Common.{arith, lt-ltb, le-ltb, ltb-false}
+use Rattle.std.specs.Prelude.{ℕ, ◌%◌, ◌<◌, ◌≤◌, ◌||◌, List, ◌≡◌, get_or, eqb, ltb}
+use Rattle.std.proofs.Common.{arith, ltb-false}
 use Rattle.base_octets.specs.Choice.{pick, split}
 use Rattle.wire_fields.specs.Walk.{part}
 use Rattle.wire_fields.specs.Search.{find}
@@ -14,7 +14,7 @@ use Rattle.wire_fields.specs.declared.Imsi.{Imsi}
 use Rattle.wire_fields.specs.declared.Imsi.TheVariants as I
 use Rattle.wire_fields.specs.declared.Tunnel.{Tunnel}
 use Rattle.wire_fields.specs.declared.Tunnel.TheVariants as T
-use Rattle.wire_fields.specs.Kinds.{imsi_kind, cause_kind, recovery_kind, ebi_kind, paa_kind, rat_kind, tunnel_kind}
+use Rattle.wire_fields.specs.Kinds.{imsi_kind, recovery_kind, ebi_kind, paa_kind, rat_kind, tunnel_kind}
 use Rattle.wire_fields.specs.declared.Octet.{Octet}
 use Rattle.wire_fields.specs.declared.Octet.TheVariants as O
 use Rattle.wire_fields.specs.declared.Recovery.{Recovery}

@@ -1,7 +1,7 @@
 -- The field that counts: of equal type and instance the first. Unknown fields are skipped, and a known type of another instance
 -- is an unknown field.
 -- Assumes nothing.
-use Rattle.std.specs.Prelude.{ℕ, zero, suc, ◌+◌, ◌%◌, ◌<◌, ◌≤◌, Bool, true, false, ◌&&◌, List, [], ◌∷◌, ◌++◌, ◌≡◌, refl, length, take, drop, get_or, eqb, leb}
+use Rattle.std.specs.Prelude.{ℕ, zero, suc, ◌+◌, ◌%◌, ◌≤◌, Bool, true, false, ◌&&◌, List, [], ◌∷◌, ◌++◌, ◌≡◌, refl, length, take, drop, get_or, eqb, leb}
 use Rattle.std.proofs.Common.{ap, ◌∙◌, suc-add, arith, length-append, eqb-true}
 use Rattle.base_octets.specs.Choice.{pick, split, and_left, and_right, tests}
 use Rattle.base_octets.specs.BigEndian.{number_of}

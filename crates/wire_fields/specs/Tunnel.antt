@@ -6,7 +6,7 @@ use Rattle.std.proofs.Common.{arith, le-ltb, lt-ltb, ltb-true}
 use Rattle.base_octets.specs.Choice.{pick, split, and_left, and_right}
 use Rattle.base_octets.specs.BigEndian.{number_of}
 use Rattle.wire_fields.specs.declared.Tunnel.{Tunnel}
-use Rattle.wire_fields.specs.declared.Tunnel.TheVariants.{Value, Missing, Short, Wrong}
+use Rattle.wire_fields.specs.declared.Tunnel.TheVariants.{Value, Short, Wrong}
 
 unfoldable pub tunnel_size : ℕ
 tunnel_size = 9

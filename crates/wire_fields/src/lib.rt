@@ -1,6 +1,8 @@
 // The fields of a control datagram. A walk finds the first field of a type and instance, and whether one runs past the end; two values have
 // several octets, IMSI and F-TEID; one reader a field answers an enum: the value, or that the field is missing, short or wrong. A Bearer
 // Context holds fields of the same form, so the same functions read its octets.
+#![tactic(auto)]
+
 ghost use Rattle.std.specs.Prelude.{◌≡◌, get_or, length, [], ◌∷◌, ◌+◌, ◌*◌};
 ghost use Rattle.base_octets.specs.BigEndian.{number_of};
 ghost use Rattle.wire_fields.specs.Walk.{overruns};
@@ -12,7 +14,7 @@ ghost use Rattle.wire_fields.specs.Refusal.{missing, short, wrong, bare_refusal,
 ghost use Rattle.wire_fields.specs.Readers.{octet_in, rat_in, paa_in, ebi_in, imsi_in, tunnel_in, recovery_in};
 
 // Where a field's value stands.
-#[derive(Drop)]
+#[derive(Clone, Copy)]
 pub enum Found {
     At { start: usize, size: usize },
     Missing,
@@ -102,7 +104,7 @@ pub fn over_in(s: &[u8]) -> bool
 }
 
 // Fifteen digits as one number, the first most significant.
-#[derive(Drop)]
+#[derive(Clone, Copy)]
 pub enum Imsi {
     Value(u64),
     Missing,
@@ -110,7 +112,7 @@ pub enum Imsi {
     Wrong,
 }
 
-#[derive(Drop)]
+#[derive(Clone, Copy)]
 pub enum Tunnel {
     Value { teid: u32, address: u32 },
     Missing,
@@ -212,7 +214,7 @@ pub fn tunnel_of(v: &[u8], interface: u8) -> Tunnel
 }
 
 // A cause, and the field that it names, by type and instance, where it names one.
-#[derive(Drop)]
+#[derive(Clone, Copy)]
 pub struct Refusal {
     pub cause: u8,
     pub kind: u8,
@@ -221,7 +223,7 @@ pub struct Refusal {
 }
 
 // A value of one octet.
-#[derive(Drop)]
+#[derive(Clone, Copy)]
 pub enum Octet {
     Value(u8),
     Missing,
@@ -230,7 +232,7 @@ pub enum Octet {
 }
 
 // The peer's restart counter, where it came.
-#[derive(Drop)]
+#[derive(Clone, Copy)]
 pub enum Recovery {
     None,
     Value(u8),

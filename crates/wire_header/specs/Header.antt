@@ -1,7 +1,7 @@
 -- The control header: octet 1 with version (3 bits), P, T and three ignored bits; type; length; TEID if T; 3-octet sequence number;
 -- a spare octet. Places are counted from 0 here. Every definition answers for any octets: past the end they count as 0.
 -- Assumes nothing.
-use Rattle.std.specs.Prelude.{ℕ, ◌+◌, ◌/◌, ◌%◌, Bool, true, false, List, [], ◌∷◌, ◌≡◌, get_or, eqb}
+use Rattle.std.specs.Prelude.{ℕ, ◌/◌, ◌%◌, Bool, List, [], ◌∷◌, get_or, eqb}
 use Rattle.base_octets.specs.Choice.{pick}
 use Rattle.base_octets.specs.BigEndian.{number_of}
 use Rattle.wire_header.specs.declared.HeaderCursor.{HeaderCursor}

@@ -1,4 +1,6 @@
 // The header of a control datagram: the table of message types, the first refusals, and what the header says.
+#![tactic(auto)]
+
 ghost use Rattle.std.specs.Prelude.{◌≡◌, drop};
 ghost use Rattle.wire_header.specs.Types.{flag_of, kind_by};
 ghost use Rattle.wire_header.specs.Header.{header_of, teid_octets, sequence_behind, sequence_bare};
@@ -20,7 +22,7 @@ const FLAGS: [u8; 256] = [
 ];
 
 // The kinds of control messages: what is taken is one of these.
-#[derive(Drop)]
+#[derive(Clone, Copy)]
 pub enum Kind {
     Echo,
     EchoReply,
@@ -60,7 +62,7 @@ impl Kind {
 }
 
 // What a header says, and where the fields start behind it.
-#[derive(Drop)]
+#[derive(Clone, Copy)]
 pub struct HeaderCursor {
     pub kind: u8,
     // 0 where T is unset

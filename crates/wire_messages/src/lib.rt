@@ -1,10 +1,12 @@
 // The octets of every reply and own request, laid over the front of the lent buffer; the octets past them stay.
+#![tactic(auto)]
+
 ghost use Rattle.std.specs.Prelude.{◌≡◌};
 ghost use Rattle.base_octets.specs.Overlay.{Wrote};
 ghost use Rattle.wire_messages.specs.Messages.{version_not_supported, echo_of, cause_reply, fault_reply, create_accepted, modify_bearer, delete_bearer, user_echo, error_indication, gpdu_of};
 
 // The types of control messages, by name: those that are taken, those of their replies, and the unit's own Delete Bearer.
-#[derive(Drop)]
+#[derive(Clone, Copy)]
 pub struct MessageType {}
 
 impl MessageType {
@@ -32,7 +34,7 @@ impl MessageType {
 }
 
 // What the accepted Create reply holds.
-#[derive(Drop)]
+#[derive(Clone, Copy)]
 pub struct Accepted {
     pub teid: u32,
     pub sequence: u32,

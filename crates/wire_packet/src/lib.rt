@@ -1,9 +1,11 @@
 // Packets of the carrier's side (IPv4), without the table: whether one is whole, and to which address it goes.
+#![tactic(auto)]
+
 ghost use Rattle.std.specs.Prelude.{◌≡◌};
 ghost use Rattle.wire_packet.specs.Packet.{whole_packet, destination_of};
 
 // The header of a packet, for its figures.
-#[derive(Drop)]
+#[derive(Clone, Copy)]
 pub struct Packet {}
 
 impl Packet {

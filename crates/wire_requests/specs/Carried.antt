@@ -1,7 +1,7 @@
 -- What the types 1 (Echo Request), 2 (Echo Response) and 100 (Delete Bearer Response) carry. Only the message's own fields are walked: a Bearer
 -- Context is an unknown field here.
 -- Assumes nothing.
-use Rattle.std.specs.Prelude.{ℕ, Bool, true, false, List, ◌≡◌, refl}
+use Rattle.std.specs.Prelude.{ℕ, List}
 use Rattle.base_octets.specs.Choice.{pick}
 use Rattle.wire_fields.specs.Walk.{overruns}
 use Rattle.wire_fields.specs.Kinds.{cause_kind}

@@ -11,7 +11,6 @@ use Rattle.wire_fields.specs.declared.Tunnel.{Tunnel}
 use Rattle.wire_fields.specs.declared.Tunnel.TheVariants as T
 use Rattle.wire_fields.specs.declared.Octet.{Octet}
 use Rattle.wire_fields.specs.declared.Octet.TheVariants as O
-use Rattle.wire_fields.specs.declared.Refusal.{Refusal}
 use Rattle.wire_fields.specs.Refusal.{missing, short, wrong, bare_refusal}
 use Rattle.unit_plan.specs.declared.Named.{Named}
 use Rattle.unit_plan.specs.declared.Named.TheVariants as N

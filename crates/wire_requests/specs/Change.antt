@@ -1,9 +1,9 @@
 -- Modify (34) and Delete (36), read from the octets behind the header: first the overruns, then what is tested if it is present; and what each comes to
 -- for a session whose EBI is known.
 -- Assumes nothing.
-use Rattle.std.specs.Prelude.{ℕ, ◌<◌, ◌%◌, Bool, true, false, List, ◌≡◌, eqb}
+use Rattle.std.specs.Prelude.{ℕ, ◌<◌, ◌%◌, Bool, true, List, ◌≡◌, eqb}
 use Rattle.std.proofs.Math.Path.{refl}
-use Rattle.std.proofs.Common.{sym, ◌∙◌, arith}
+use Rattle.std.proofs.Common.{arith}
 use Rattle.base_octets.specs.Choice.{pick, split}
 use Rattle.wire_fields.specs.Walk.{part}
 use Rattle.wire_fields.specs.Search.{find}
@@ -15,7 +15,6 @@ use Rattle.wire_fields.specs.declared.Tunnel.TheVariants as T
 use Rattle.wire_fields.specs.declared.Octet.{Octet}
 use Rattle.wire_fields.specs.declared.Octet.TheVariants as O
 use Rattle.wire_fields.specs.Kinds.{tunnel_kind, bearer_kind, ebi_kind}
-use Rattle.wire_fields.specs.declared.Refusal.{Refusal}
 use Rattle.wire_fields.specs.Refusal.{short_cause, short, wrong, tunnel_refusal}
 use Rattle.wire_fields.specs.Readers.{tunnel_in, ebi_in, octet_in, tunnel_in_live}
 use Rattle.wire_requests.specs.Chain.{refused_by, octet, refuse_got, octet_got}

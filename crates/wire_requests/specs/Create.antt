@@ -1,8 +1,7 @@
 -- Create (32), read from the octets behind its header under a plan: first the overruns, then the fields in document 01's order, then an unknown APN (78)
 -- and the type of the PAA (83), then Recovery.
 -- Assumes nothing.
-use Rattle.std.specs.Prelude.{ℕ, ◌<◌, ◌≤◌, Bool, true, false, not, List, ◌≡◌, refl, eqb}
-use Rattle.std.proofs.Common.{sym, ◌∙◌, arith}
+use Rattle.std.specs.Prelude.{ℕ, ◌<◌, ◌≤◌, not, List, eqb}
 use Rattle.base_octets.specs.Choice.{pick}
 use Rattle.wire_fields.specs.Walk.{part}
 use Rattle.wire_fields.specs.Search.{find}
@@ -12,22 +11,18 @@ use Rattle.wire_fields.specs.declared.Tunnel.{Tunnel}
 use Rattle.wire_fields.specs.declared.Tunnel.TheVariants as T
 use Rattle.wire_fields.specs.Refusal.{short_cause, unknown_apn_cause, address_type_cause}
 use Rattle.wire_fields.specs.Kinds.{imsi_kind, rat_kind, tunnel_kind, apn_kind, paa_kind, bearer_kind, ebi_kind, qos_kind}
-use Rattle.wire_fields.specs.Readers.{imsi_in, rat_in, tunnel_in, paa_in, ebi_in, octet_in, recovery_in, imsi_in_below, ebi_range, tunnel_in_live}
-use Rattle.wire_fields.specs.declared.Recovery.{Recovery}
+use Rattle.wire_fields.specs.Readers.{imsi_in, rat_in, tunnel_in, paa_in, ebi_in, octet_in, recovery_in}
 use Rattle.unit_plan.specs.declared.Plan.{Plan}
-use Rattle.unit_plan.specs.declared.AccessPoint.{AccessPoint}
-use Rattle.unit_plan.specs.declared.Named.{Named}
-use Rattle.unit_plan.specs.Limits.{used, parties, no_point}
-use Rattle.unit_plan.specs.Names.{named_in, named_is}
+use Rattle.unit_plan.specs.Limits.{used}
+use Rattle.unit_plan.specs.Names.{named_in}
 use Rattle.wire_requests.specs.declared.Sender.{Sender}
 use Rattle.wire_requests.specs.declared.Wanted.{Wanted}
 use Rattle.wire_requests.specs.declared.Bearer.{Bearer}
 use Rattle.wire_requests.specs.declared.Create as C
-use Rattle.wire_requests.specs.declared.Request.{Request}
-use Rattle.wire_requests.specs.declared.Request.TheVariants.{Create, Modify, Delete}
+use Rattle.wire_requests.specs.declared.Request.TheVariants.{Create}
 use Rattle.wire_requests.specs.declared.Decoded.{Decoded}
-use Rattle.wire_requests.specs.declared.Decoded.TheVariants.{Sound, Refused}
-use Rattle.wire_requests.specs.Chain.{refused_by, place, octet, imsi, tunnel, point, refuse_got, place_got, octet_got, imsi_got, tunnel_got, point_got}
+use Rattle.wire_requests.specs.declared.Decoded.TheVariants.{Sound}
+use Rattle.wire_requests.specs.Chain.{refused_by, place, octet, imsi, tunnel, point}
 
 -- the one PAA type that is served: IPv4
 abbrev pub ipv4 : ℕ
@@ -88,15 +83,6 @@ wanted_of plan s who =
     place bearer_kind 0 (find s bearer_kind 0) λ start all.
     bearer_of (part s start all) who (record { named = named_in (used plan) (part s apn size); paa = paa; recovery = recovery_in s })
 
-pub create_stages : (plan : Plan) (s : List ℕ) → create_of plan s ≡
-    refused_by short_cause (over_in s) (
-    imsi imsi_kind 0 (imsi_in s) λ imsi.
-    octet rat_kind 0 (rat_in s) λ rat.
-    tunnel tunnel_kind 0 (tunnel_in s 0 6) λ control controladdr.
-    wanted_of plan s (record { imsi = imsi; control = control; controladdr = controladdr }))
-unfolding create_of wanted_of bearer_of settled_of
-create_stages plan s = refl
-
 -- the TEID that a cause reply to a Create goes to: that of a Sender F-TEID that passes its own checks, else 0; 0 after an overrun
 unfoldable pub teid_in : Tunnel → ℕ
 teid_in (T.Value teid address) = teid
@@ -115,41 +101,3 @@ pub record CreateSound (parties : ℕ) (c : C.Create) : Type 0 where
   pub control : 0 < c.control
   pub user : 0 < c.user
   pub point : c.point < parties
-
--- a request that came of it is a Create that is sound
-module _ (plan : Plan) (s : List ℕ) (q : Request) (P : Request → Type 0) where
-  is_create_lem : (r : C.Create) → Sound (Create r) ≡ Sound q → P (Create r) → P q
-  is_create_lem r e h = let g : Create r ≡ q = cc in rw (← g) h
-
-  pub create_is : create_of plan s ≡ Sound q → ((c : C.Create) → CreateSound (parties plan) c → P (Create c)) → P q
-  unfolding create_of
-  create_is e k =
-      refuse_got q short_cause (over_in s) _ e λ o e0.
-      imsi_got q imsi_kind 0 (imsi_in s) _ e0 λ x hx e1.
-      octet_got q rat_kind 0 (rat_in s) _ e1 λ rat hr e2.
-      tunnel_got q tunnel_kind 0 (tunnel_in s 0 6) _ e2 λ t a ht e3.
-      place_got q apn_kind 0 (find s apn_kind 0) _ e3 λ apn size ha e4.
-      octet_got q paa_kind 0 (paa_in s) _ e4 λ paa hp e5.
-      place_got q bearer_kind 0 (find s bearer_kind 0) _ e5 λ start all hb e6.
-      octet_got q ebi_kind 0 (ebi_in (part s start all)) _ e6 λ ebi he e7.
-      tunnel_got q tunnel_kind 2 (tunnel_in (part s start all) 2 4) _ e7 λ u b hu e8.
-      octet_got q qos_kind 0 (octet_in (part s start all) qos_kind 22) _ e8 λ qos hq e9.
-      point_got q unknown_apn_cause (named_in (used plan) (part s apn size)) _ e9 λ p hn e10.
-      refuse_got q address_type_cause (not (eqb paa ipv4)) _ e10 λ hv e11.
-      is_create_lem _ e11 (k _ (record {
-        imsi = imsi_in_below s x hx;
-        low = (ebi_range (part s start all) ebi he).0;
-        high = (ebi_range (part s start all) ebi he).1;
-        control = tunnel_in_live s 0 6 t a ht;
-        user = tunnel_in_live (part s start all) 2 4 u b hu;
-        point = (named_is (used plan) (part s apn size) p no_point hn).0;
-      }))
-
-unfoldable SoundIf : ℕ → Request → Type 0
-SoundIf n (Create c) = CreateSound n c
-SoundIf n (Modify m) = Unit {0}
-SoundIf n (Delete d) = Unit {0}
-
-pub create_sound : (plan : Plan) (s : List ℕ) (c : C.Create) → create_of plan s ≡ Sound (Create c) → CreateSound (parties plan) c
-unfolding SoundIf
-create_sound plan s c e = create_is plan s (Create c) (SoundIf (parties plan)) e (λ x h. h)

@@ -1,5 +1,7 @@
 // What control datagrams carry, decoded from the octets behind the header: Create, Modify and Delete, each a value or the cause and field that
 // refuse it; and what Echo Request (1), Echo Response (2) and Delete Bearer Response (100) carry.
+#![tactic(auto)]
+
 ghost use Rattle.std.specs.Prelude.{◌≡◌};
 ghost use Rattle.wire_requests.specs.Create.{create_of, wanted_of, bearer_of, settled_of, reply_to};
 ghost use Rattle.wire_requests.specs.Change.{moved_of, within_of, modify_of, delete_of, moves_of, means_of};
@@ -9,7 +11,7 @@ use unit_plan::{Named, Plan};
 use wire_fields::{Found, Imsi, Octet, Recovery, Refusal, Tunnel};
 
 // A session that is asked for.
-#[derive(Drop)]
+#[derive(Clone, Copy)]
 pub struct Create {
     pub imsi: u64,
     pub ebi: u8,
@@ -24,47 +26,47 @@ pub struct Create {
 }
 
 // A tunnel end of the peer: as it was, or moved.
-#[derive(Drop)]
+#[derive(Clone, Copy)]
 pub enum Peer {
     Same,
     New { teid: u32, address: u32 },
 }
 
 // A Bearer Context of a Modify, if it came: its EBI, and its F-TEID as it was read, which is judged once the EBI is known to be the session's.
-#[derive(Drop)]
+#[derive(Clone, Copy)]
 pub enum Context {
     Absent,
     Present { ebi: u8, user: Tunnel },
 }
 
 // A session's peer, moved.
-#[derive(Drop)]
+#[derive(Clone, Copy)]
 pub struct Modify {
     pub control: Peer,
     pub context: Context,
 }
 
 // The EBI of a Delete, if it came.
-#[derive(Drop)]
+#[derive(Clone, Copy)]
 pub enum Ebi {
     Absent,
     Given(u8),
 }
 
 // A session given up.
-#[derive(Drop)]
+#[derive(Clone, Copy)]
 pub struct Delete {
     pub ebi: Ebi,
 }
 
-#[derive(Drop)]
+#[derive(Clone, Copy)]
 pub enum Request {
     Create(Create),
     Modify(Modify),
     Delete(Delete),
 }
 
-#[derive(Drop)]
+#[derive(Clone, Copy)]
 pub enum Decoded {
     Sound(Request),
     Refused(Refusal),
@@ -89,7 +91,7 @@ impl Request {
 }
 
 // What the first fields of a Create tell: who asks.
-#[derive(Drop)]
+#[derive(Clone, Copy)]
 pub struct Sender {
     pub imsi: u64,
     pub control: u32,
@@ -97,7 +99,7 @@ pub struct Sender {
 }
 
 // What the fields after them tell: what is asked for.
-#[derive(Drop)]
+#[derive(Clone, Copy)]
 pub struct Wanted {
     pub named: Named,
     pub paa: u8,
@@ -105,7 +107,7 @@ pub struct Wanted {
 }
 
 // What the Bearer Context tells.
-#[derive(Drop)]
+#[derive(Clone, Copy)]
 pub struct Bearer {
     pub ebi: u8,
     pub user: u32,
@@ -251,7 +253,7 @@ pub fn reply_to(s: &[u8]) -> u32
 }
 
 // An F-TEID if present: where the tunnel end is from now on, or that it is refused.
-#[derive(Drop)]
+#[derive(Clone, Copy)]
 pub enum Moved {
     To(Peer),
     Not,
@@ -322,7 +324,7 @@ pub fn read_delete(s: &[u8]) -> Decoded
 }
 
 // What a Modify comes to for a session: where its peer is from now on, or a refusal.
-#[derive(Drop)]
+#[derive(Clone, Copy)]
 pub enum Moves {
     To { control: Peer, user: Peer },
     Refused(Refusal),
@@ -359,13 +361,13 @@ pub fn means_of(d: Delete, ebi: u8) -> bool
     x == ebi
 }
 
-#[derive(Drop)]
+#[derive(Clone, Copy)]
 pub enum EchoReply {
     Carries(Recovery),
     Unreadable,
 }
 
-#[derive(Drop)]
+#[derive(Clone, Copy)]
 pub enum BearerReply {
     Cause(u8),
     Unreadable,

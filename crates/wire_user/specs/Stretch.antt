@@ -2,7 +2,7 @@
 -- Assumes nothing.
 use Prim.Native.Nat.{ℕ, zero, suc, ◌+◌, ◌-◌, ◌<◌, ◌≤◌}
 use Rattle.std.specs.Prelude.{true, false, ◌||◌, List, ◌≡◌, refl, length, drop, get_or, eqb, leb, ltb}
-use Rattle.std.proofs.Common.{sym, ◌∙◌, ap, zero_add, drop-drop}
+use Rattle.std.proofs.Common.{sym, ◌∙◌, ap, zero-add, drop-drop}
 use Rattle.std.proofs.Math.Nat.{sub-zero}
 use native.Mathlib.Omega.{arith}
 use Rattle.std.proofs.Math.ListN.{length-drop}
@@ -98,7 +98,7 @@ pub resumed_start : (l : List ℕ) (type : ℕ) → resumed l (stretch taken typ
 unfolding resumed
 resumed_start l type =
     let z : length l - length l ≡ 0 = omega arith in
-    split (eqb type 0) (λ a. rw (a, z) (sym (ext_end l type (eqb-true type 0 a)))) (λ a. rw (a, z, zero_add))
+    split (eqb type 0) (λ a. rw (a, z) (sym (ext_end l type (eqb-true type 0 a)))) (λ a. rw (a, z, zero-add))
 
 -- a stretch past the first n octets
 pub resumed_past : (l : List ℕ) (n : ℕ) (s : Stretch) → n ≤ length l → s.left ≤ length (drop n l) → resumed l s ≡ beyond n (resumed (drop n l) s)

@@ -1,6 +1,6 @@
 -- How a user datagram is read, without the table: document 01's number, and where its payload begins.
 -- Assumes nothing.
-use Rattle.std.specs.Prelude.{ℕ, ◌+◌, ◌-◌, ◌≤◌, true, false, List, ◌++◌, ◌≡◌, length, drop, take, eqb}
+use Rattle.std.specs.Prelude.{ℕ, ◌+◌, ◌≤◌, true, false, List, ◌++◌, ◌≡◌, length, drop, take, eqb}
 use Rattle.std.proofs.Math.Path.{refl}
 use Rattle.std.proofs.Math.Nat.{add-zero}
 use Rattle.std.proofs.Common.{arith, length-take, length-drop, take-append-drop, eq-eqb, ne_eqb, eqb-true}

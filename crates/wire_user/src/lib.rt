@@ -1,4 +1,6 @@
 // Reading user datagrams (GTPv1-U), without the table: what a datagram is by its header, and its payload as a part of it.
+#![tactic(auto)]
+
 ghost use Rattle.std.specs.Prelude.{◌≡◌, ◌*◌, length};
 ghost use Rattle.base_octets.specs.Number.{taken};
 ghost use Rattle.wire_user.specs.Header.{ours, extended, sequenced, optional, type_taken, type_of, user_teid_of, user_sequence_of, refusal_of, user_header_of};
@@ -11,7 +13,7 @@ use base_octets::Number;
 use unit_tunnel::UserTeid;
 
 // What a user datagram is, as its first 12 octets say: that it is not refused is another question.
-#[derive(Drop)]
+#[derive(Clone, Copy)]
 pub enum Header {
     Echo { sequence: u16 },
     Packet { teid: UserTeid },

@@ -1,0 +1,6 @@
+use Rattle.unit_table.specs.Own.{fresh_node}
+use Rattle.unit_table.proofs.Node.fresh.Goals as goal
+
+pub returns : goal.returns
+unfolding fresh_node
+returns c = rw (c.rested-echo.ensures, c.idle-none.ensures)
