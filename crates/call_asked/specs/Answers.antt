@@ -18,7 +18,6 @@ use Rattle.wire_fields.specs.declared.Tunnel.{Tunnel}
 use Rattle.wire_fields.specs.declared.Tunnel.TheVariants as T
 use Rattle.wire_fields.specs.declared.Octet.{Octet}
 use Rattle.wire_fields.specs.declared.Octet.TheVariants as O
-use Rattle.wire_fields.specs.declared.Refusal.{Refusal}
 use Rattle.wire_fields.specs.Refusal.{short_cause, wrong_cause, missing_cause, unknown_apn_cause, address_type_cause}
 use Rattle.wire_fields.specs.Kinds.{imsi_kind, rat_kind, tunnel_kind, apn_kind, paa_kind, bearer_kind, ebi_kind, qos_kind}
 use Rattle.wire_fields.specs.Readers.{octet_at, octet_in, imsi_in, rat_in, tunnel_in, paa_in, ebi_in}
@@ -38,7 +37,7 @@ use Rattle.wire_requests.specs.declared.Request.TheVariants.{Create, Modify, Del
 use Rattle.wire_requests.specs.declared.Decoded.{Decoded}
 use Rattle.wire_requests.specs.declared.Decoded.TheVariants.{Sound, Refused}
 use Rattle.wire_requests.specs.declared.Ebi.{Ebi}
-use Rattle.wire_requests.specs.Change.{modify_of, delete_of, peer, context, given}
+use Rattle.wire_requests.specs.Change.{modify_of, peer, context, given}
 
 -- document 01's number of an answer: 0 where the request goes on, else the cause
 unfoldable pub number_for : Decoded → ℕ
@@ -66,7 +65,7 @@ pub record Answers (numbers : List ℕ) (kind : Request → Bool) (d : Decoded) 
   pub sort : (q : Request) → d ≡ Sound q → kind q ≡ true
 
 -- the same as one test
-unfoldable right : List ℕ → (Request → Bool) → Decoded → Bool
+unfoldable pub right : List ℕ → (Request → Bool) → Decoded → Bool
 right l kind (Sound q) = among 0 l && kind q
 right l kind (Refused w) = among w.cause l
 
@@ -79,12 +78,12 @@ right_sort : (l : List ℕ) (kind : Request → Bool) (d : Decoded) (q : Request
 unfolding right
 right_sort l kind d q e h = and_right (among 0 l) (kind q) (rw h at e)
 
-answers : (l : List ℕ) (kind : Request → Bool) (d : Decoded) → right l kind d ≡ true → Answers l kind d
+pub answers : (l : List ℕ) (kind : Request → Bool) (d : Decoded) → right l kind d ≡ true → Answers l kind d
 answers l kind d e = record { number = right_number l kind d e; sort = λ q. right_sort l kind d q e }
 
 -- ---- each step of a list of fields keeps it
 module _ (l : List ℕ) (kind : Request → Bool) where
-  refuse_right : (cause : ℕ) (t : Bool) (rest : Decoded) → among cause l ≡ true → right l kind rest ≡ true → right l kind (refused_by cause t rest) ≡ true
+  pub refuse_right : (cause : ℕ) (t : Bool) (rest : Decoded) → among cause l ≡ true → right l kind rest ≡ true → right l kind (refused_by cause t rest) ≡ true
   unfolding right
   refuse_right cause true rest e r = e
   refuse_right cause false rest e r = r
@@ -133,7 +132,7 @@ module _ (l : List ℕ) (kind : Request → Bool) where
     peer-right k i T.Short f r = e67
     peer-right k i T.Wrong f r = e69
 
-  given-right : (m : Octet) (f : Ebi → Decoded) → among short_cause l ≡ true → (m ≡ O.Wrong → ⊥) → ((e : Ebi) → right l kind (f e) ≡ true) → right l kind (given m f) ≡ true
+  pub given-right : (m : Octet) (f : Ebi → Decoded) → among short_cause l ≡ true → (m ≡ O.Wrong → ⊥) → ((e : Ebi) → right l kind (f e) ≡ true) → right l kind (given m f) ≡ true
   unfolding right
   given-right (O.Value x) f e67 w r = r _
   given-right O.Missing f e67 w r = r _
@@ -141,7 +140,7 @@ module _ (l : List ℕ) (kind : Request → Bool) where
   given-right O.Wrong f e67 w r = absurd (w refl)
 
 -- the octet of a field as it stands is never wrong: only a judgement of it is
-octet_not_wrong : (s : List ℕ) (least : ℕ) (f : Found) → octet_at s least f ≡ O.Wrong → ⊥
+pub octet_not_wrong : (s : List ℕ) (least : ℕ) (f : Found) → octet_at s least f ≡ O.Wrong → ⊥
 unfolding octet_at
 octet_not_wrong s least F.Missing e = let z : ◌≡◌ {A = ℕ} 0 1 = cc in omega arith
 octet_not_wrong s least (F.At a n) e =
@@ -167,7 +166,7 @@ modify_sort : (m : M.Modify) → right modify_numbers is_modify (Sound (Modify m
 unfolding right is_modify modify_numbers
 modify_sort m = refl
 
-delete_sort : (d : D.Delete) → right delete_numbers is_delete (Sound (Delete d)) ≡ true
+pub delete_sort : (d : D.Delete) → right delete_numbers is_delete (Sound (Delete d)) ≡ true
 unfolding right is_delete delete_numbers
 delete_sort d = refl
 
@@ -196,17 +195,8 @@ modify_right s =
     octet-right modify_numbers is_modify refl refl refl ebi_kind 0 (ebi_in (part s start size)) _ λ x.
     modify_sort _)
 
-delete_right : (s : List ℕ) → right delete_numbers is_delete (delete_of s) ≡ true
-unfolding delete_of delete_numbers octet_in
-delete_right s =
-    refuse_right delete_numbers is_delete short_cause (over_in s) _ refl
-    (given-right delete_numbers is_delete (octet_in s ebi_kind 1) _ refl (octet_not_wrong s 1 (find s ebi_kind 0)) λ ebi. delete_sort _)
-
 pub create-answers : (plan : Plan) (s : List ℕ) → Answers create_numbers is_create (create_of plan s)
 create-answers plan s = answers create_numbers is_create (create_of plan s) (create-right plan s)
 
 pub modify_answers : (s : List ℕ) → Answers modify_numbers is_modify (modify_of s)
 modify_answers s = answers modify_numbers is_modify (modify_of s) (modify_right s)
-
-pub delete_answers : (s : List ℕ) → Answers delete_numbers is_delete (delete_of s)
-delete_answers s = answers delete_numbers is_delete (delete_of s) (delete_right s)

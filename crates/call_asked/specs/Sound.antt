@@ -1,11 +1,11 @@
 -- What a control datagram asks for is as it was read: a Create's values are in range, no tunnel end that moves has the TEID 0, and the creating
 -- number has three octets.
 -- Assumes nothing.
-use Rattle.std.specs.Prelude.{ℕ, ◌≤◌, true, false, List, [], ◌∷◌, ◌≡◌, drop, get_or, eqb}
+use Rattle.std.specs.Prelude.{ℕ, ◌≤◌, true, List, [], ◌∷◌, ◌≡◌, drop, get_or, eqb}
 use Rattle.std.proofs.Math.Path.{refl}
 use Rattle.std.proofs.Common.{arith, ltb-true}
 use Rattle.base_octets.specs.Number.{taken, other_version}
-use Rattle.base_octets.specs.Choice.{pick, split}
+use Rattle.base_octets.specs.Choice.{split}
 use Rattle.base_octets.specs.Every.{every, every-at}
 use Rattle.base_octets.specs.BigEndian.{is_octet, number_of, number_from}
 use Rattle.unit_plan.specs.declared.Plan.{Plan}
@@ -28,7 +28,8 @@ use Rattle.wire_requests.specs.declared.Decoded.{Decoded}
 use Rattle.wire_requests.specs.declared.Decoded.TheVariants as D
 use Rattle.wire_requests.specs.declared.Request.{Request}
 use Rattle.wire_requests.specs.declared.Request.TheVariants as Q
-use Rattle.wire_requests.specs.Create.{create_of, CreateSound, create_is}
+use Rattle.wire_requests.specs.Create.{create_of, CreateSound}
+use Rattle.wire_requests.proofs.CreateLaws.{create_is}
 use Rattle.wire_requests.specs.Change.{modify_of, delete_of, ModifySound, modify_is, delete_is}
 use Rattle.call_asked.specs.declared.Concern.{Concern}
 use Rattle.call_asked.specs.declared.Concern.TheVariants as S

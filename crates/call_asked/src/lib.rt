@@ -1,4 +1,6 @@
 // What a control datagram asks for. It is read once, all of it, before any record is looked at: the header, and by its kind what it carries.
+#![tactic(auto)]
+
 ghost use Rattle.std.specs.Prelude.{◌≡◌};
 ghost use Rattle.call_asked.specs.Asked.{end_asked, session_asked, create_refused, change_refused, sound_asked, request_asked, kind_asked, asked_of};
 
@@ -11,7 +13,7 @@ use wire_messages::MessageType;
 use wire_requests::{BearerReply, Create, Decoded, Delete, EchoReply, Modify, Request};
 
 // What is asked of one session.
-#[derive(Drop)]
+#[derive(Clone, Copy)]
 pub enum Concern {
     Modify(Modify),
     Delete(Delete),
@@ -21,7 +23,7 @@ pub enum Concern {
     Bearer(BearerReply),
 }
 
-#[derive(Drop)]
+#[derive(Clone, Copy)]
 pub enum Asked {
     // a number alone
     Silent(u8),

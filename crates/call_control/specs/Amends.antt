@@ -38,7 +38,7 @@ cause_taken type teid seq w node t reply = replied w.cause node t (cause_octets 
 unfoldable pub cause_on : ℕ → ℕ → ℕ → Refusal → Session → Done
 cause_on type teid seq w s = record { number = w.cause; session = s; message = cause_octets type teid seq w }
 
--- a session that is not there: `notLiveCause`, to nobody
+-- a session that is not there: `not_live_cause`, to nobody
 unfoldable pub not_live : Refusal
 not_live = bare_refusal not_live_cause
 
@@ -76,7 +76,7 @@ modify_by (N.To c u) context seq s = moved_on context (peers_of c u s) seq s
 unfoldable pub modify_on : M.Modify → ℕ → Session → Done
 modify_on m seq s = modify_by (moves_of m s.ebi) m.context seq s
 
--- ---- Delete: another EBI than the session's is `notLiveCause`
+-- ---- Delete: another EBI than the session's is `not_live_cause`
 unfoldable pub freed_on : ℕ → Session → Done
 freed_on seq s = record { number = taken; session = freed s; message = cause_reply delete_reply_type s.control seq accepted_cause }
 
@@ -95,7 +95,7 @@ concern_on (S.Delete d) seq s = delete_on d seq s
 concern_on (S.Refused type w) seq s = cause_on type s.control seq w s
 concern_on (S.Bearer b) seq s = bearer_on b seq s
 
--- where the number is no live session's: `notLiveCause`, to nobody; the reply to a Delete Bearer is not awaited
+-- where the number is no live session's: `not_live_cause`, to nobody; the reply to a Delete Bearer is not awaited
 unfoldable pub none_on : Concern → ℕ → Session → Done
 none_on (S.Modify m) seq s = cause_on modify_reply_type 0 seq not_live s
 none_on (S.Delete d) seq s = cause_on delete_reply_type 0 seq not_live s

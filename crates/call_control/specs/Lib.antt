@@ -5,4 +5,3 @@ pub mod Creates
 pub mod CreatesKept
 pub mod Control
 pub mod Kept
-pub mod Outside

@@ -1,5 +1,7 @@
 // The control call on values. specs/ defines it, message by message and as a whole; here is what of it is worked out on a node, a record or a decoded
 // message alone. step_session and step_control compute it on single records.
+#![tactic(auto)]
+
 ghost use Rattle.std.specs.Prelude.{◌≡◌};
 ghost use Rattle.call_control.specs.Echoes.{restarts_by, heard_node};
 ghost use Rattle.base_octets.specs.Overlay.{Wrote};

@@ -1,5 +1,5 @@
--- A way to compute what `downTaken` says, from the one record of the place that has the destination address. Nothing here is to be
--- believed: the law `one-is` says that it comes to `downTaken`, for every packet and every table.
+-- A way to compute what `down_taken` says, from the one record of the place that has the destination address. Nothing here is to be
+-- believed: the law `one_is` says that it comes to `down_taken`, for every packet and every table.
 -- Assumes nothing.
 use Rattle.std.specs.Prelude.{ℕ, ◌≤◌, Bool, List, ◌≡◌, length, get_or}
 use Rattle.std.proofs.Common.{arith}

@@ -1,5 +1,7 @@
 // The downlink call on values: a packet of the carrier's side is written as a G-PDU to the peer of the session that has its destination address.
 // The table stays as it is: once its rules are known to be kept, one record of it says all.
+#![tactic(auto)]
+
 ghost use Rattle.std.specs.Prelude.{◌≡◌};
 ghost use Rattle.call_down.specs.Down.{output, down_on};
 ghost use Rattle.call_down.specs.OneRecord.{place_for, down_by};
@@ -11,7 +13,7 @@ use wire_user::Header;
 
 // What a packet comes to: the number, the place of the session, how many octets were written, and the peer's user address, to which they go.
 #[repr(C)]
-#[derive(Drop)]
+#[derive(Clone, Copy)]
 pub struct Written {
     pub number: u8,
     pub place: usize,

@@ -50,7 +50,7 @@ rest_text s = pick (is_free s) dashes (held_text s)
 unfoldable pub line_text : ℕ → Session → List ℕ
 line_text place s = decimal 1 place ++ number_text s.usage ++ (9 ∷ []) ++ (state_letter s ∷ []) ++ rest_text s
 
--- ---- the call: 1, 2, 10; a line that is longer than the buffer would be cut, and none is (`line-fits`)
+-- ---- the call: 1, 2, 10; a line that is longer than the buffer would be cut, and none is (`line_fits`)
 -- of the record of a place, where it is known whether the rules are kept and whether there is such a place
 unfoldable pub line_by : Bool → Bool → Node → ℕ → Session → List ℕ → Back
 line_by kept there node place s reply =

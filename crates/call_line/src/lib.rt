@@ -1,4 +1,6 @@
 // The line of a place, on values: what the bench prints of it, without a line end; and where its session is.
+#![tactic(auto)]
+
 ghost use Rattle.std.specs.Prelude.{◌≡◌, ◌++◌};
 ghost use Rattle.base_numerals.specs.Laid.{laid, written};
 ghost use Rattle.call_line.specs.Line.{number_text, imsi_text, address_text, state_letter, held_text, line_text, rest_text};

@@ -1,22 +1,21 @@
 -- Each of these calls keeps the table rules: a table that kept them before keeps them after.
 -- Assumes nothing.
-use Rattle.std.specs.Prelude.{ℕ, ◌<◌, ◌≤◌, Bool, true, false, not, ◌&&◌, ◌≡◌, refl, length, get_or, replicate, eqb, ltb}
-use mathlib.Core.List.{List, [], map}
-use Rattle.std.proofs.Common.{sym, ◌∙◌, arith, eqb-true, eq-eqb, ltb-true}
-use Rattle.base_octets.specs.Choice.{pick, split}
+use Rattle.std.specs.Prelude.{ℕ, ◌<◌, ◌≤◌, true, ◌≡◌, length, get_or, replicate, eqb, ltb}
+use mathlib.Core.List.{List, []}
+use Rattle.std.proofs.Common.{eqb-true, eq-eqb, ltb-true}
+use Rattle.base_octets.specs.Choice.{split}
 use Rattle.base_octets.specs.Search.{first_of, first_passes}
 use Rattle.unit_tunnel.specs.Numbering.{places}
 use Rattle.unit_plan.specs.declared.Plan.{Plan}
 use Rattle.unit_plan.specs.Plan.{accepted}
-use Rattle.unit_session.specs.declared.OwnRequest.{OwnRequest}
 use Rattle.unit_session.specs.declared.Session.{Session}
-use Rattle.unit_session.specs.OwnRequest.{last_number, idle, sent_once}
+use Rattle.unit_session.specs.OwnRequest.{last_number, sent_once}
 use Rattle.unit_session.specs.Session.{is_due, sent}
 use Rattle.unit_table.specs.declared.Node.{Node}
 use Rattle.unit_table.specs.Rules.{bounds_of, keeps_rules, Rules, rules_of, rules_to}
 use Rattle.unit_table.specs.Change.{nobody, changed_at}
-use Rattle.unit_table.specs.Number.{after, after_range, awaited, taken_number, taken_free, taken_range}
-use Rattle.unit_table.specs.Own.{rested, fresh_node, due_place, echo_ticked, all_ticked, rules_fresh, rules_tick, rules_next, rules_echo_sent, rules-sent}
+use Rattle.unit_table.specs.Number.{after_range, awaited, taken_number, taken_free, taken_range}
+use Rattle.unit_table.specs.Own.{fresh_node, due_place, echo_ticked, all_ticked, rules_fresh, rules_tick, rules_next, rules_echo_sent, rules-sent}
 use Rattle.call_own.specs.OnSession.{on_keeps, fits-closed}
 use Rattle.call_own.specs.Outcome.{outcome, least_reply, no_reply}
 use Rattle.call_own.specs.Calls.{fresh_of, timed, fresh_answer, fresh_held, tick_of, close_on, close_of, stepped, echo_sent, place_sent, due_sent, send_of}

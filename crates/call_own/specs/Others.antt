@@ -1,7 +1,7 @@
 -- What another count of records than there are places comes to: it is one of the table's rules, so it is number 2, or 1 where the reply
 -- buffer is short, with all as lent.
 -- Assumes nothing.
-use Rattle.std.specs.Prelude.{ℕ, Bool, false, ◌&&◌, List, [], ◌≡◌, length, ltb}
+use Rattle.std.specs.Prelude.{ℕ, false, List, [], ◌≡◌, length, ltb}
 use Rattle.std.proofs.Math.Bool.{true}
 use Rattle.std.proofs.Common.{sym, ◌∙◌}
 use Rattle.std.proofs.Math.Dec.{eqb}

@@ -1,6 +1,6 @@
 -- What a call comes to: what it answers by value, the records and the reply buffer as they are left; of the records it is answered which places
 -- may have changed (`Span`). What concerns one session is said of its
--- record alone (`Done`), and one operator carries it to the table: to a place (`onSession`), or to the session of a control TEID (`onOwner`).
+-- record alone (`Done`), and one operator carries it to the table: to a place (`on_session`), or to the session of a control TEID (`on_owner`).
 -- Assumes nothing.
 use Rattle.std.specs.Prelude.{ℕ, ◌+◌, List, [], length, get_or, ltb}
 use Rattle.base_octets.specs.Choice.{pick}

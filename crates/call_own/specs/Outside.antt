@@ -1,6 +1,6 @@
 -- Outside the places that a call answers every record is as it was: for any table whatever.
 -- Assumes nothing.
-use Rattle.std.specs.Prelude.{ℕ, ◌+◌, ◌<◌, ◌≤◌, Bool, not, ◌&&◌, ◌≡◌, refl, length, get_or, replicate, eqb, leb}
+use Rattle.std.specs.Prelude.{ℕ, ◌+◌, ◌<◌, ◌≤◌, Bool, ◌&&◌, ◌≡◌, refl, length, get_or, replicate, eqb, leb}
 use Rattle.std.proofs.Math.Bool.{true, false}
 use mathlib.Core.List.{List, [], ◌∷◌, map}
 use Rattle.std.proofs.Common.{sym, ◌∙◌, arith}
@@ -8,7 +8,7 @@ use Rattle.std.proofs.Math.ListN.{length-map, get_or-eq_default}
 use Rattle.std.proofs.lemmas.List.{length-replicate, set-get_or}
 use Rattle.std.proofs.Math.Dec.{ltb}
 use borrow.Author.Tests.{eqb-true, lt-ltb, le-leb, ltb-true, ltb-false}
-use Rattle.base_octets.specs.Choice.{pick, split, impossible, and_left, and_right, tests}
+use Rattle.base_octets.specs.Choice.{split, impossible, and_left, and_right, tests}
 use Rattle.base_octets.specs.Every.{every}
 use Rattle.unit_tunnel.specs.Numbering.{places}
 use Rattle.unit_plan.specs.declared.Plan.{Plan}

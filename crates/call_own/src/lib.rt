@@ -1,6 +1,8 @@
 // The calls that no datagram brings: fresh, tick, close and send next due. Their definitions are in specs/, with what a call comes to and
 // answers by value; here is what of fresh and of a send is worked out on a plan and on numbers alone. The calls themselves are made on
 // lent records.
+#![tactic(auto)]
+
 ghost use Rattle.std.specs.Prelude.{◌≡◌};
 ghost use Rattle.call_own.specs.Outcome.{first_places, one_place, between, two_places, bare, spanning};
 ghost use Rattle.call_own.specs.Calls.{fresh_by, stepped};
@@ -12,7 +14,7 @@ use unit_tunnel::Unit;
 
 // The places whose records a call may have changed: those from `from` on and below `to`. Every other record is as it was.
 #[repr(C)]
-#[derive(Drop)]
+#[derive(Clone, Copy)]
 pub struct Span {
     pub from: usize,
     pub to: usize,
@@ -21,7 +23,7 @@ pub struct Span {
 // What a call answers by value: document 01's number, the reply's length, what goes with the records, and where these may have changed. The
 // records are the caller's.
 #[repr(C)]
-#[derive(Drop)]
+#[derive(Clone, Copy)]
 pub struct Answer {
     pub number: u8,
     pub size: usize,

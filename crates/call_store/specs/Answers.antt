@@ -1,13 +1,13 @@
 -- What a Modify and a Delete that ask the store are answered with can be kept: a number that the store's rules know, and a reply that its rows
 -- have room for.
 -- Assumes nothing.
-use Rattle.std.specs.Prelude.{ℕ, ◌≤◌, Bool, false, ◌||◌, List, ◌≡◌, length, get_or, drop}
+use Rattle.std.specs.Prelude.{ℕ, ◌≤◌, false, ◌||◌, List, ◌≡◌, length, get_or, drop}
 use Rattle.std.proofs.Math.Bool.{true}
 use Rattle.std.proofs.Math.Path.{refl}
-use Rattle.std.proofs.Common.{sym, ◌∙◌, eqb-true}
+use Rattle.std.proofs.Common.{sym, eqb-true}
 use native.Mathlib.Omega.{arith}
 use Rattle.std.proofs.Math.Dec.{eqb}
-use Rattle.base_octets.specs.Choice.{pick, split, and_left, and_right, or_split, or_true, impossible}
+use Rattle.base_octets.specs.Choice.{split, and_left, and_right, or_split, impossible}
 use Rattle.unit_tunnel.specs.Numbering.{control_offset}
 use Rattle.unit_session.specs.declared.Session.{Session}
 use Rattle.unit_session.specs.Session.{is_free}
@@ -34,13 +34,13 @@ use Rattle.wire_requests.specs.declared.Context.{Context}
 use Rattle.wire_requests.specs.declared.Context.TheVariants as X
 use Rattle.wire_requests.specs.declared.Request.{Request}
 use Rattle.wire_requests.specs.Change.{modify_of, delete_of, end_moves, context_moves, moves_of, means_of}
-use Rattle.call_own.specs.Outcome.{Outcome, Done, on_session, on_owner}
+use Rattle.call_own.specs.Outcome.{Done, on_session, on_owner}
 use Rattle.call_asked.specs.declared.Concern.{Concern}
 use Rattle.call_asked.specs.declared.Concern.TheVariants as S
 use Rattle.call_asked.specs.declared.Asked.{Asked}
-use Rattle.call_asked.specs.declared.Asked.TheVariants as A
 use Rattle.call_asked.specs.Asked.{session_asked, change_refused, sound_asked, request_asked, kind_asked, asked_of}
-use Rattle.call_asked.specs.Answers.{Answers, number_for, is_create, is_modify, is_delete, modify_numbers, delete_numbers, modify_answers, delete_answers}
+use Rattle.call_asked.specs.Answers.{number_for, is_create, is_modify, is_delete, modify_numbers, delete_numbers, modify_answers}
+use Rattle.call_asked.proofs.DeleteAnswers.{delete_answers}
 use Rattle.call_control.specs.Amends.{cause_octets, cause_on, not_live, modify_octets, moved_on, modify_by, modify_on, freed_on, delete_on, concern_on, none_on, session_on}
 use Rattle.call_control.specs.Control.{restarts_in, asked_taken}
 use Rattle.call_store.specs.Stored.{asks_store}

@@ -41,7 +41,8 @@ use Rattle.call_asked.specs.declared.Concern.TheVariants as S
 use Rattle.call_asked.specs.declared.Asked.{Asked}
 use Rattle.call_asked.specs.declared.Asked.TheVariants as A
 use Rattle.call_asked.specs.Asked.{session_asked, change_refused, sound_asked, request_asked, kind_asked, asked_of}
-use Rattle.call_asked.specs.Answers.{is_modify, is_delete, modify_answers, delete_answers}
+use Rattle.call_asked.specs.Answers.{is_modify, is_delete, modify_answers}
+use Rattle.call_asked.proofs.DeleteAnswers.{delete_answers}
 use Rattle.call_control.specs.Control.{control_taken}
 use Rattle.call_store.specs.Stored.{stored, keeps, broken_number, close_stored, send_stored, line_stored, user_stored, down_stored, empty_store, fresh_stored, tick_stored, asks_store, is_kept, kept_for, store_after, taken_stored, control_stored, three_asked, kept_place}
 

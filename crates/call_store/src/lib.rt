@@ -1,5 +1,7 @@
 // The control call with the store of kept replies: what a datagram asks of the store is found before the records are looked at, and what
 // becomes of the store is done after them.
+#![tactic(auto)]
+
 ghost use Rattle.std.specs.Prelude.{◌≡◌};
 ghost use Rattle.call_store.specs.Stored.{asks_store};
 ghost use Rattle.call_store.specs.Steps.{ask_of, wish_of, kept_after, is_told, settled, settled_of, how_with, count_with, cleared_rows, aged_count};
@@ -14,7 +16,7 @@ use wire_messages::MessageType;
 
 // What a datagram asks of the store: whether the store keeps its rules, whether the datagram is one that asks it, the three that it asks for,
 // and the place of the kept reply, past the last where there is none.
-#[derive(Drop)]
+#[derive(Clone, Copy)]
 pub struct Ask {
     pub sound: bool,
     pub asks: bool,

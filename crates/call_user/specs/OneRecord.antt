@@ -1,5 +1,5 @@
--- A way to compute what `userTaken` says, from the one record of the place that the datagram's tunnel number names. Nothing here is to be
--- believed: the law `done-is` says that it comes to `userTaken`, for every datagram and every table.
+-- A way to compute what `user_taken` says, from the one record of the place that the datagram's tunnel number names. Nothing here is to be
+-- believed: the law `done_is` says that it comes to `user_taken`, for every datagram and every table.
 -- Assumes nothing.
 use Rattle.std.specs.Prelude.{ℕ, ◌<◌, ◌≤◌, Bool, true, false, List, ◌≡◌, length, get_or, eqb, ltb}
 use Rattle.std.proofs.Math.Path.{refl}

@@ -1,6 +1,8 @@
 // The user call on values: an echo is answered, a packet under a live user number is handed up as the part of the datagram that it is, and any other
 // gets an Error Indication or its refusal. The table stays as it is: once its rules are known to be kept, one record of it says all. The datagram is
 // read once.
+#![tactic(auto)]
+
 ghost use Rattle.std.specs.Prelude.{◌≡◌};
 ghost use Rattle.wire_user.specs.Part.{IsRest};
 ghost use Rattle.call_user.specs.User.{took};
@@ -16,7 +18,7 @@ use wire_user::Header;
 // What a user datagram comes to, in numbers: document 01's number, the place of the session, the reply's length, and where in the
 // datagram the payload begins and how many octets it has. Where nothing is handed up it is the datagram's empty end.
 #[repr(C)]
-#[derive(Drop)]
+#[derive(Clone, Copy)]
 pub struct Handed {
     pub number: u8,
     pub place: usize,

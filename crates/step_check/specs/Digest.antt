@@ -2,19 +2,18 @@
 -- point in the top two. A free record has 0, and one that is not as the rules want it has every bit, that above the key too. Of a good
 -- record the digest says what the survey of the rules asks.
 -- Assumes nothing.
-use Rattle.std.specs.Prelude.{◌≡◌, ℕ, zero, suc, ◌+◌, ◌*◌, ◌/◌, ◌%◌, ◌^◌, ◌<◌, ◌≤◌, Bool, true, false, not, ◌&&◌, leb, ◌==◌, bit_or, nat_eq, nat_le, nat_lt, refl}
+use Rattle.std.specs.Prelude.{◌≡◌, ℕ, ◌+◌, ◌*◌, ◌/◌, ◌%◌, ◌<◌, ◌≤◌, Bool, true, false, not, ◌&&◌, leb, ◌==◌, bit_or, nat_eq, nat_le, nat_lt, refl}
 use Rattle.std.proofs.Common.{sym, ◌∙◌, ap}
 use native.Mathlib.Omega.{arith}
-use borrow.Author.Tests.{eqb-true, eqb-false, eq-eqb, ne_eqb, ltb-true, leb-true, le-leb, not-true, not-false}
+use borrow.Author.Tests.{eqb-true, eqb-false, eq-eqb, ne_eqb, leb-true, le-leb}
 use Rattle.base_octets.specs.Choice.{pick, split, impossible, and_left, and_right, tests}
 use Rattle.unit_tunnel.specs.Numbering.{last_use}
 use Rattle.unit_session.specs.declared.OwnRequest.{OwnRequest}
 use Rattle.unit_session.specs.declared.Session.{Session}
 use Rattle.unit_session.specs.declared.Bounds.{Bounds}
-use Rattle.unit_session.specs.OwnRequest.{idle, last_number, request_ok}
+use Rattle.unit_session.specs.OwnRequest.{idle, last_number}
 use Rattle.unit_session.specs.Session.{free_ok, is_free, is_closing, is_due, blank, record_ok, held_ok, phase_ok, read_ok, imsis, blank_at}
 use Rattle.unit_session.specs.Keep.{live_of}
-use Rattle.unit_session.specs.Phase.{live_phase, other_phase}
 use Rattle.unit_session.specs.Wide.{or_none, words}
 use Rattle.step_keys.specs.Survey.{key_of, point_unit, weight_of, awaits_none}
 

@@ -1,7 +1,7 @@
 -- What the pass over the digests has found when it has come to a place: of the digests from there on, es. Marks need only be complete
 -- for keys: a key without its mark is none of theirs.
 -- Assumes nothing.
-use Rattle.std.specs.Prelude.{◌≡◌, ℕ, zero, suc, ◌+◌, ◌-◌, ◌*◌, ◌/◌, ◌%◌, ◌<◌, ◌≤◌, Bool, true, false, not, ◌&&◌, List, [], ◌∷◌, map, length, drop, set, ◌==◌, ◌≢◌, bit_or, nat_eq, nat_le, slice_index, slice_index_or, slice_set, refl}
+use Rattle.std.specs.Prelude.{◌≡◌, ℕ, zero, suc, ◌+◌, ◌-◌, ◌*◌, ◌/◌, ◌%◌, ◌<◌, ◌≤◌, Bool, true, false, not, ◌&&◌, List, [], ◌∷◌, map, length, drop, ◌==◌, ◌≢◌, bit_or, nat_eq, nat_le, slice_index, slice_index_or, slice_set, refl}
 use Rattle.std.proofs.Math.Path.{sym}
 use Rattle.std.proofs.Common.{◌∙◌, ap, arith, length-set, get_or-set_same, get_or-set_other}
 use Rattle.std.proofs.lemmas.List.{length-map}
@@ -16,7 +16,6 @@ use Rattle.base_distinct.specs.Apart.{none_clash, pairwise, same_key}
 use Rattle.base_distinct.specs.Lacks.{lacks, lacks_hit, lacks_on, lacks_end, none_same, none_zero}
 use Rattle.unit_session.specs.Wide.{or_none, long_words}
 use Rattle.step_keys.specs.Survey.{point_unit, second_unit, third_unit, fourth_unit}
-use Rattle.step_check.specs.declared.Summary.{Summary}
 use Rattle.step_check.specs.Digest.{key_in, point_in, weight_in, clear, unset, quiet_in, idle_in, good_in, mark_of, mark_small, key_bit, due_bit, await_bit}
 use Rattle.step_check.specs.Summary.{no_summary, summary_of}
 use Rattle.unit_tunnel.specs.Numbering.{places}

@@ -1,19 +1,18 @@
 -- The digest of a record that is taken, by the tests that make it, in their order.
 -- Assumes nothing.
-use Rattle.std.specs.Prelude.{◌≡◌, ℕ, ◌+◌, ◌*◌, ◌/◌, ◌%◌, ◌<◌, ◌≤◌, Bool, true, false, not, ◌&&◌, leb, ◌==◌, ◌≢◌, bit_or, nat_eq, nat_le, nat_lt}
+use Rattle.std.specs.Prelude.{◌≡◌, ℕ, ◌+◌, ◌*◌, ◌/◌, ◌%◌, ◌<◌, Bool, true, false, not, ◌&&◌, leb, ◌==◌, ◌≢◌, bit_or, nat_eq, nat_le, nat_lt}
 use Rattle.std.proofs.Math.Path.{refl, sym}
 use Rattle.std.proofs.Common.{◌∙◌, arith}
-use Rattle.std.proofs.lemmas.Nat.{or_lt}
-use borrow.Author.Tests.{eqb-true, eqb-false, eq-eqb, ne_eqb, ltb-true, leb-true, le-leb, lt-leb, not-true, not-false}
-use Rattle.base_octets.specs.Choice.{pick, split, impossible, and_left, and_right, and_no, tests}
+use borrow.Author.Tests.{eqb-true, eqb-false, eq-eqb, ne_eqb, leb-true, not-true, not-false}
+use Rattle.base_octets.specs.Choice.{pick, split, impossible, and_left, and_right, tests}
 use Rattle.unit_tunnel.specs.Numbering.{last_use}
 use Rattle.unit_session.specs.declared.OwnRequest.{OwnRequest}
 use Rattle.unit_session.specs.declared.Session.{Session}
 use Rattle.unit_session.specs.declared.Bounds.{Bounds}
 use Rattle.unit_session.specs.OwnRequest.{last_number, request_ok}
-use Rattle.unit_session.specs.Session.{is_free, is_closing, is_due, blank, held_ok, phase_ok, read_ok, imsis}
+use Rattle.unit_session.specs.Session.{is_free, is_closing, is_due, held_ok, phase_ok, read_ok, imsis}
 use Rattle.unit_session.specs.Phase.{live_phase, other_phase}
-use Rattle.unit_session.specs.Wide.{or_none, both_ways, blank_bits, long_words}
+use Rattle.unit_session.specs.Wide.{long_words}
 use Rattle.step_keys.specs.Survey.{key_of, awaits_none}
 use Rattle.step_check.specs.Digest.{flags_of, spoilt, taken_digest, rests_ok, rests_bits, key_bit, due_bit, await_bit, point_bit, past_range}
 

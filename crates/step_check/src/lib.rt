@@ -1,6 +1,8 @@
 // Whether a table keeps its rules, from one number for each record: a record's digest has its key, its access point, and whether its
 // request is due and it awaits a number. Whoever lends records reads them once, where they lie; the rest of the check is done on the
 // digests, and so are searches for a place.
+#![tactic(auto)]
+
 ghost use Rattle.std.specs.Prelude.{◌≡◌, ℕ, ◌-◌, ◌<◌, ◌≤◌, true, false, not, ◌&&◌, map, length, drop, ◌==◌};
 ghost use Rattle.base_octets.specs.Choice.{pick};
 ghost use Rattle.unit_table.specs.Rules.{bounds_of};
@@ -19,7 +21,7 @@ use unit_table::Node;
 use unit_tunnel::Unit;
 
 // What the digests of a table say: every record good and no key twice, no number awaited, nothing due, the counts packed.
-#[derive(Drop)]
+#[derive(Clone, Copy)]
 pub struct Summary {
     pub good: bool,
     pub quiet: bool,
@@ -29,7 +31,7 @@ pub struct Summary {
 
 // With it the places that are looked for: that of a key and the first free one, where a key is asked for, and the first whose request is
 // due; past the last where there is none.
-#[derive(Drop)]
+#[derive(Clone, Copy)]
 pub struct Findings {
     pub summary: Summary,
     pub old: usize,
@@ -390,7 +392,7 @@ pub fn kept_but(count: usize, node: Node, v: Findings) -> bool
 }
 
 // What the check of a table has found: how it stands, and what its digests say.
-#[derive(Drop)]
+#[derive(Clone, Copy)]
 pub struct Checked {
     // 0 where a rule is broken, 1 where all are kept and no place awaits a number, else 2
     pub how: u8,

@@ -1,5 +1,5 @@
 -- A way to compute the control call on the two records that it can concern: which record is asked about, whether a place is opened, what becomes
--- of the two and what is put back. Nothing here is to be believed: crate step_whole shows that this is `controlTaken` of the whole table.
+-- of the two and what is put back. Nothing here is to be believed: crate step_whole shows that this is `control_taken` of the whole table.
 -- Assumes nothing.
 use Rattle.std.specs.Prelude.{◌≡◌, ℕ, ◌+◌, ◌-◌, ◌%◌, ◌<◌, ◌≤◌, Bool, true, false, ◌&&◌, List, length, ◌==◌, nat_lt, slice_index, slice_index_or, slice_set}
 use Rattle.std.proofs.Common.{sym, arith, lt-ltb, le-ltb}

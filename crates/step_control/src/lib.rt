@@ -1,5 +1,7 @@
 // The control call on the two records that it can concern: which record is asked about, whether a place is opened, and what becomes of the two. No
 // other record is looked at. Where the exchange restarted all records are freed first.
+#![tactic(auto)]
+
 ghost use Rattle.std.specs.Prelude.{◌≡◌};
 ghost use Rattle.unit_table.specs.declared.Change.TheVariants.{Free};
 ghost use Rattle.call_control.specs.Control.{restarts_in};
@@ -18,7 +20,7 @@ use wire_requests::Create;
 
 // Which record is asked about: the one with a key of IMSI and EBI, or where the key is 0, which no session has, the one of a place; past the last
 // where there is none.
-#[derive(Drop)]
+#[derive(Clone, Copy)]
 pub struct Target {
     pub key: u64,
     pub place: usize,
@@ -26,7 +28,7 @@ pub struct Target {
 
 // What the call goes by, of what the check found: whether the rules are kept, whether all are freed first, the packed counts, the place
 // of the record that it is about, and the first free place; past the last where there is none.
-#[derive(Drop)]
+#[derive(Clone, Copy)]
 pub struct Basis {
     pub kept: bool,
     pub all: bool,
@@ -36,7 +38,7 @@ pub struct Basis {
 }
 
 // Whether a place is opened: none, since it is a repeat of the Create that made the session, or no Create; or this one; or there is no room.
-#[derive(Drop)]
+#[derive(Clone, Copy)]
 pub enum Verdict {
     Still,
     Opens(usize),
@@ -45,7 +47,7 @@ pub enum Verdict {
 
 // The two records that are concerned, and where they lie: one that it is about, and one that is to be opened; and whether all are freed
 // before these two are put back.
-#[derive(Drop)]
+#[derive(Clone, Copy)]
 pub struct Concerned {
     pub kept: bool,
     pub all: bool,
@@ -58,7 +60,7 @@ pub struct Concerned {
 
 // Document 01's number, the reply's length, whether the unit's own echo ended, the Recovery that is to be stored, the two records as they
 // are then, and the places of those that may have changed.
-#[derive(Drop)]
+#[derive(Clone, Copy)]
 pub struct Taken {
     pub number: u8,
     pub size: usize,

@@ -8,7 +8,6 @@ use Rattle.base_octets.specs.Choice.{split, and_left, and_right, and_no, tests}
 use Rattle.base_octets.specs.Every.{every, every_rest}
 use Rattle.base_octets.specs.Sums.{sum_of, count_most}
 use Rattle.unit_tunnel.specs.Numbering.{places}
-use Rattle.unit_plan.specs.Limits.{parties}
 use Rattle.unit_plan.specs.Plan.{accepted, parties_four}
 use Rattle.unit_sharing.specs.Sharing.{within_ok, within_agree}
 use Rattle.base_distinct.specs.Apart.{none_clash, pairwise, same_key, none_keys, pairwise_keys}

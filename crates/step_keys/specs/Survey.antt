@@ -1,7 +1,7 @@
 -- One pass over the records: each held to its rules, its key (IMSI and EBI), whether it awaits a number, and its share of four counts
 -- that are packed into one number. Where nobody awaits one, the whole check needs no more of the records.
 -- Assumes nothing.
-use Rattle.std.specs.Prelude.{ℕ, zero, suc, ◌+◌, ◌-◌, ◌*◌, ◌%◌, ◌^◌, ◌<◌, ◌≤◌, Bool, true, false, not, ◌&&◌, List, map, ◌≡◌, refl, replicate, eqb}
+use Rattle.std.specs.Prelude.{ℕ, zero, suc, ◌+◌, ◌*◌, ◌%◌, ◌^◌, ◌<◌, ◌≤◌, Bool, true, false, ◌&&◌, List, map, ◌≡◌, refl, replicate, eqb}
 use Rattle.std.proofs.Common.{arith, ne_eqb}
 use Rattle.base_octets.specs.Choice.{pick, split}
 use Rattle.base_octets.specs.Every.{every}

@@ -1,22 +1,20 @@
 -- A way to compute the number that the next first send takes, from what is awaited as keys. unit_table has the definition; here are the laws
 -- that the loop needs.
 -- Assumes nothing.
-use Rattle.std.specs.Prelude.{ℕ, zero, suc, ◌+◌, ◌-◌, ◌*◌, ◌%◌, ◌<◌, ◌≤◌, Bool, true, false, not, ◌&&◌, List, [], ◌∷◌, map, ◌≡◌, refl, length, get_or, eqb}
-use Rattle.std.proofs.Common.{sym, ◌∙◌, ap, arith, add-one, eqb-true, eq-eqb, ne_eqb}
+use Rattle.std.specs.Prelude.{ℕ, zero, suc, ◌+◌, ◌-◌, ◌<◌, Bool, true, false, not, ◌&&◌, List, [], ◌∷◌, ◌≡◌, refl, eqb}
+use Rattle.std.proofs.Common.{sym, arith, eqb-true, eq-eqb, ne_eqb}
 use mir.Val.{bool_byte}
 use Rattle.std.proofs.lemmas.Bool.{eqb-false}
-use Rattle.base_octets.specs.Choice.{pick, split, bit_most}
+use Rattle.base_octets.specs.Choice.{pick, split}
 use Rattle.base_octets.specs.Every.{every}
 use Rattle.base_octets.specs.Sums.{sum_of, count_of}
 use Rattle.base_distinct.specs.Apart.{none_clash, same_key}
 use Rattle.unit_session.specs.declared.OwnRequest.{OwnRequest}
 use Rattle.unit_session.specs.declared.Session.{Session}
 use Rattle.unit_session.specs.OwnRequest.{awaits}
-use Rattle.unit_session.specs.Session.{is_free, waits_for}
-use Rattle.unit_table.specs.Rules.{live_on}
+use Rattle.unit_session.specs.Session.{waits_for}
 use Rattle.unit_table.specs.Number.{awaited, after, free_from}
-use Rattle.step_keys.specs.Survey.{wait_of, waits_of, weight_of}
-use Rattle.step_keys.specs.Check.{unpacked_of, unpacked_at}
+use Rattle.step_keys.specs.Survey.{wait_of, waits_of}
 
 -- nobody awaits k: it is neither the echo's key nor that of a place
 unfoldable pub unclaimed : ℕ → ℕ → List ℕ → Bool

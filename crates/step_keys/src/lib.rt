@@ -1,5 +1,7 @@
 // A record in numbers, for the check of a whole table: its key and what it awaits as numbers that must differ, its share of the packed counts,
 // what of the plan it is held to; and the next sequence number that nobody awaits, found among such keys.
+#![tactic(auto)]
+
 ghost use Rattle.std.specs.Prelude.{◌≡◌, ◌+◌};
 ghost use Rattle.unit_table.specs.Rules.{bounds_of};
 ghost use Rattle.step_keys.specs.Check.{unpacked_of};
@@ -12,7 +14,7 @@ use unit_session::{Bounds, OwnRequest, Session};
 use unit_tunnel::Unit;
 
 // The parts of a session's key and of the packed counts.
-#[derive(Drop)]
+#[derive(Clone, Copy)]
 pub struct Parts {}
 
 impl Parts {

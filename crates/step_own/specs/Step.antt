@@ -1,5 +1,5 @@
 -- A way to compute a tick and a close: the change and how many records it is made of, what becomes of one record, what is answered. Nothing here is to
--- be believed: the laws show that these steps are `tickOf` and `closeOf`.
+-- be believed: the laws show that these steps are `tick_of` and `close_of`.
 -- Assumes nothing.
 use Rattle.std.specs.Prelude.{ℕ, Bool, true, false, not, ◌&&◌, ◌||◌, List, [], ◌∷◌, map, ◌≡◌, refl, length, get_or, set, eqb}
 use Rattle.std.proofs.Common.{sym, ◌∙◌, arith, eqb-true}

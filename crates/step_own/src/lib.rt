@@ -1,5 +1,7 @@
 // Tick, close and send next due on values: which change is made of how many records or of which one, what becomes of it, and what is answered.
 // The lent records are read and changed by lent_own.
+#![tactic(auto)]
+
 ghost use Rattle.std.specs.Prelude.{◌≡◌};
 ghost use Rattle.call_own.specs.Outcome.{back};
 ghost use Rattle.step_own.specs.Send.{taken_among, awaiting_in, next_due, due_with, place_of, sent_by, echo_answer, place_answer, send_answer};
@@ -14,7 +16,7 @@ use unit_tunnel::Unit;
 use wire_messages::MessageType;
 
 // What is sent next: nothing, with the number that says why; or the echo; or the request of a place. The number is that of a first send.
-#[derive(Drop)]
+#[derive(Clone, Copy)]
 pub enum Sending {
     Nothing(u8),
     Echo(u32),

@@ -1,5 +1,7 @@
 // What concerns one session, done on the record of the place that its control TEID names: what becomes of it, and the reply. No other record is
 // looked at.
+#![tactic(auto)]
+
 ghost use Rattle.std.specs.Prelude.{◌≡◌};
 ghost use Rattle.call_own.specs.Outcome.{bare_on};
 ghost use Rattle.call_control.specs.Amends.{cause_on, moved_on, modify_on, freed_on, delete_on, bearer_on, concern_on, none_on, session_on};
@@ -14,7 +16,7 @@ use wire_messages::MessageType;
 use wire_requests::{BearerReply, Delete, Modify, Moves};
 
 // Document 01's number, the reply's length, and the session's record as it is then.
-#[derive(Drop)]
+#[derive(Clone, Copy)]
 pub struct Amended {
     pub number: u8,
     pub size: usize,
