@@ -1,4 +1,6 @@
 // The check of the caller's lent records and of the lent store: they are read where they lie, one number of each, and nothing is copied but these numbers.
+#![tactic(auto)]
+
 ghost use Rattle.std.specs.Prelude.{true, ◌≡◌, get_or, replicate};
 ghost use Rattle.unit_tunnel.specs.Numbering.{places};
 ghost use Rattle.unit_session.specs.Session.{blank_at};

@@ -39,8 +39,10 @@ use Rattle.step_control.specs.declared.Concerned.{Concerned}
 use Rattle.step_control.specs.declared.Taken.{Taken}
 use Rattle.step_control.specs.declared.Verdict.{Verdict}
 use Rattle.step_control.specs.Step.{restarts_now, target_of, basis_of, verdict_in, opens_at, concerned_of, concerned_in, taken_with, taken_on, node_after, freed_count, concerned_put, changed_places, placed_concerned}
-use Rattle.step_whole.specs.Basis.{CheckTold, Sees, basis_sees}
-use Rattle.step_whole.specs.Whole.{InPlace, control_same}
+use Rattle.step_whole.specs.Basis.{CheckTold, Sees}
+use Rattle.step_whole.proofs.Basis.{basis_sees}
+use Rattle.step_whole.specs.Whole.{InPlace}
+use Rattle.step_whole.proofs.Whole.{control_same}
 
 -- what is seen of lent records is what is gone by
 checked_told : (node : Node) (key : ℕ) (l : List Session) → CheckTold node key l (checked_of node key l)

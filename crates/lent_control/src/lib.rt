@@ -1,5 +1,7 @@
 // The control call, as firmware makes it: the caller lends its records and the store, the node goes in and comes back by value. What the datagram asks
 // for is done on the two records that it can concern, where they lie, unless the store has the reply.
+#![tactic(auto)]
+
 ghost use Rattle.std.specs.Prelude.{◌≡◌};
 ghost use Rattle.call_own.specs.Outcome.{outcome};
 ghost use Rattle.call_store.specs.Stored.{stored, control_stored};
@@ -94,8 +96,7 @@ fn settled_taken(
 
 // Take control datagram: it is read, and what it asks of the store is found; what is left to ask of the records is done, and then what becomes of
 // the store.
-#[unsafe(no_mangle)]
-pub extern "C" fn grugavorn_control(
+pub fn grugavorn_control(
     node: Node,
     recs: &mut [Session],
     store: &mut [[u8; Kept::OCTETS]],

@@ -1,5 +1,7 @@
 // The downlink call, as firmware makes it: the caller lends its records and the store to be read where they lie, the packet, and the buffer that the G-PDU is
 // written into. A crate of its own, so that the other calls are compiled without it.
+#![tactic(auto)]
+
 ghost use Rattle.std.specs.Prelude.{◌≡◌};
 ghost use Rattle.call_down.specs.Down.{output};
 ghost use Rattle.call_store.specs.Stored.{down_stored};
@@ -10,8 +12,7 @@ use unit_store::Kept;
 use unit_table::Node;
 
 // Take downlink packet.
-#[unsafe(no_mangle)]
-pub extern "C" fn grugavorn_down(
+pub fn grugavorn_down(
     node: Node,
     recs: &[Session],
     store: &[[u8; Kept::OCTETS]],

@@ -1,5 +1,7 @@
 // Fresh state from a plan, as firmware asks for it: the caller's records and the store are made zero where they lie, the node comes back by value. A crate of its
 // own, so that it is compiled without the check of a table, which takes three times its stack.
+#![tactic(auto)]
+
 ghost use Rattle.std.specs.Prelude.{[], ◌≡◌};
 ghost use Rattle.unit_table.specs.declared.Change.TheVariants.{Blank};
 ghost use Rattle.call_own.specs.Outcome.{outcome};
@@ -19,12 +21,7 @@ fn blanking() -> Change
 }
 
 // Fresh state from a plan.
-#[unsafe(no_mangle)]
-pub extern "C" fn grugavorn_fresh(
-    plan: Plan,
-    recs: &mut [Session],
-    store: &mut [[u8; Kept::OCTETS]],
-) -> Answer
+pub fn grugavorn_fresh(plan: Plan, recs: &mut [Session], store: &mut [[u8; Kept::OCTETS]]) -> Answer
     ensures { stored (outcome result recs.new []) store.new ≡ fresh_stored plan recs.old store.old }
 {
     let count = call_store::count_with(recs.len(), store.len());

@@ -1,5 +1,7 @@
 // What is read of a place, as firmware asks for it: its line, the peer of its session, its address. The caller lends its records and the store. A crate of its own,
 // so that the user call is compiled without it: what two calls share is not laid into either.
+#![tactic(auto)]
+
 ghost use Rattle.std.specs.Prelude.{◌≡◌, ltb};
 ghost use Rattle.unit_tunnel.specs.Numbering.{places};
 ghost use Rattle.call_own.specs.Outcome.{outcome, back};
@@ -38,8 +40,7 @@ pub fn line_by(kept: bool, node: Node, place: usize, s: Session, reply: &mut [u8
 }
 
 // Line of a place.
-#[unsafe(no_mangle)]
-pub extern "C" fn grugavorn_line(
+pub fn grugavorn_line(
     node: Node,
     recs: &[Session],
     store: &[[u8; Kept::OCTETS]],
@@ -54,8 +55,7 @@ pub extern "C" fn grugavorn_line(
 }
 
 // The control address of the peer of a place's session.
-#[unsafe(no_mangle)]
-pub extern "C" fn grugavorn_peer(recs: &[Session], place: usize) -> u32
+pub fn grugavorn_peer(recs: &[Session], place: usize) -> u32
     ensures { result ≡ peer_at recs.now place }
 {
     let s = lent_records::read(recs, place);
@@ -63,8 +63,7 @@ pub extern "C" fn grugavorn_peer(recs: &[Session], place: usize) -> u32
 }
 
 // The address of a place's session.
-#[unsafe(no_mangle)]
-pub extern "C" fn grugavorn_address(node: Node, place: usize) -> u32
+pub fn grugavorn_address(node: Node, place: usize) -> u32
     ensures { result ≡ address_at node place }
 {
     call_line::address_at(node, place)

@@ -1,4 +1,6 @@
 // Tick, close and send next due, as firmware makes these calls: the caller lends its records and the store, the node goes in and comes back by value.
+#![tactic(auto)]
+
 ghost use Rattle.std.specs.Prelude.{[], ◌≡◌};
 ghost use Rattle.call_own.specs.Outcome.{outcome};
 ghost use Rattle.call_store.specs.Stored.{stored, tick_stored, close_stored, send_stored};
@@ -9,12 +11,7 @@ use unit_store::Kept;
 use unit_table::Node;
 
 // Tick.
-#[unsafe(no_mangle)]
-pub extern "C" fn grugavorn_tick(
-    node: Node,
-    recs: &mut [Session],
-    store: &mut [[u8; Kept::OCTETS]],
-) -> Answer
+pub fn grugavorn_tick(node: Node, recs: &mut [Session], store: &mut [[u8; Kept::OCTETS]]) -> Answer
     ensures { stored (outcome result recs.new []) store.new ≡ tick_stored node recs.old store.old }
 {
     let sound = unit_store::store_ok(store);
@@ -29,8 +26,7 @@ pub extern "C" fn grugavorn_tick(
 }
 
 // Close a place.
-#[unsafe(no_mangle)]
-pub extern "C" fn grugavorn_close(
+pub fn grugavorn_close(
     node: Node,
     recs: &mut [Session],
     store: &[[u8; Kept::OCTETS]],
@@ -46,8 +42,7 @@ pub extern "C" fn grugavorn_close(
 }
 
 // Send next due.
-#[unsafe(no_mangle)]
-pub extern "C" fn grugavorn_send(
+pub fn grugavorn_send(
     node: Node,
     recs: &mut [Session],
     store: &[[u8; Kept::OCTETS]],

@@ -1,5 +1,7 @@
 // The caller's records, lent as a slice: how many of them a call changes, and single ones read, put and changed where they lie. No call
-// copies the others. Every function that has a lent slice in hand is proved by a walk of its code; proofs/ has what those walks share.
+// copies the others.
+#![tactic(auto)]
+
 ghost use Rattle.std.specs.Prelude.{◌≡◌, get_or, set};
 ghost use Rattle.lent_records.specs.Records.{whole_of};
 ghost use Rattle.base_octets.specs.Places.{map_first};

@@ -1,5 +1,7 @@
 // The user call, as firmware makes it: the caller lends its records and the store to be read where they lie. `take_user` hands the payload back as the part of the
 // datagram that it is; at the C boundary, where no part can be handed back, its place and length are.
+#![tactic(auto)]
+
 ghost use Rattle.std.specs.Prelude.{◌≡◌, length};
 ghost use Rattle.wire_user.specs.Part.{IsRest};
 ghost use Rattle.call_user.specs.User.{took};
@@ -54,8 +56,7 @@ pub fn take_user<'a>(
 }
 
 // Take user datagram, answered in numbers.
-#[unsafe(no_mangle)]
-pub extern "C" fn grugavorn_user(
+pub fn grugavorn_user(
     node: Node,
     recs: &[Session],
     store: &[[u8; Kept::OCTETS]],

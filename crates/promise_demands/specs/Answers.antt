@@ -3,18 +3,17 @@
 -- Assumes nothing.
 use Rattle.std.specs.Prelude.{ℕ, List, ◌≡◌, take}
 use Rattle.wire_fields.specs.Walk.{part}
-use Rattle.wire_fields.specs.Search.{find, Stands, find_stands, find_value}
+use Rattle.wire_fields.specs.Search.{find, Stands}
 use Rattle.wire_fields.specs.declared.Found.TheVariants as F
 use Rattle.unit_plan.specs.declared.Plan.{Plan}
 use Rattle.unit_plan.specs.Limits.{parties}
-use Rattle.wire_requests.specs.Create.{create_of, CreateSound, create_sound}
+use Rattle.wire_requests.specs.Create.{create_of, CreateSound}
 use Rattle.wire_requests.specs.declared.Create as C
 use Rattle.wire_requests.specs.declared.Modify as M
 use Rattle.wire_requests.specs.declared.Request.TheVariants.{Create, Modify}
 use Rattle.wire_requests.specs.declared.Decoded.TheVariants.{Sound}
-use Rattle.wire_requests.specs.Change.{modify_of, delete_of, ModifySound, modify_sound}
+use Rattle.wire_requests.specs.Change.{modify_of, delete_of, ModifySound}
 use Rattle.call_asked.specs.Answers.{Answers, is_create, is_modify, is_delete, create_numbers, modify_numbers, delete_numbers}
-use Rattle.call_asked.specs.Answers as asked
 
 -- ---- the claims
 unfoldable pub CreateAnswers : Type 0
@@ -40,27 +39,3 @@ pub record ItsOctets (s : List ℕ) (kind inst start size : ℕ) : Type 0 where
 
 unfoldable pub ValuesAreTheirOctets : Type 0
 ValuesAreTheirOctets = (s : List ℕ) (kind inst start size : ℕ) → find s kind inst ≡ F.At start size → ItsOctets s kind inst start size
-
-pub create-answers : CreateAnswers
-unfolding CreateAnswers
-create-answers = asked.create-answers
-
-pub modify_answers : ModifyAnswers
-unfolding ModifyAnswers
-modify_answers = asked.modify_answers
-
-pub delete_answers : DeleteAnswers
-unfolding DeleteAnswers
-delete_answers = asked.delete_answers
-
-pub creates_sound : CreatesSound
-unfolding CreatesSound
-creates_sound = create_sound
-
-pub modifies_sound : ModifiesSound
-unfolding ModifiesSound
-modifies_sound = modify_sound
-
-pub values_are_their_octets : ValuesAreTheirOctets
-unfolding ValuesAreTheirOctets
-values_are_their_octets s kind inst start size e = record { stands = find_stands s kind inst start size e; value = find_value s kind inst start size e }

@@ -1,25 +1,17 @@
 -- An encoder for Create, Modify and Delete: every request in range as fields in the order of document 01's list, with any octets behind the
 -- values; and each value that it writes fits the 2 octets of its length.
 -- Assumes nothing.
-use Rattle.std.specs.Prelude.{ℕ, zero, suc, ◌+◌, ◌*◌, ◌/◌, ◌%◌, ◌^◌, ◌<◌, ◌≤◌, Bool, ◌||◌, List, [], ◌∷◌, ◌++◌, ◌≡◌, length, get_or, eqb, leb}
+use Rattle.std.specs.Prelude.{ℕ, zero, suc, ◌/◌, ◌%◌, ◌<◌, ◌≤◌, ◌||◌, List, [], ◌∷◌, ◌++◌, ◌≡◌, length, get_or, eqb}
 use Rattle.std.proofs.Math.Bool.{true}
-use Rattle.std.proofs.Math.Path.{refl}
-use Rattle.std.proofs.Common.{pow-suc, length-take, le-leb, leb-true, lt-ltb}
-use native.Mathlib.Omega.{arith}
-use Rattle.std.proofs.Math.ListN.{length-append}
-use Rattle.base_octets.specs.Choice.{and_left, and_right}
-use Rattle.base_octets.specs.Every.{every, every_in}
-use Rattle.base_octets.specs.BigEndian.{octets_of, length_octets}
-use Rattle.wire_fields.specs.Imsi.{is_half, decimal_from}
+use Rattle.base_octets.specs.BigEndian.{octets_of}
 use Rattle.wire_fields.specs.declared.Tunnel.{Tunnel}
 use Rattle.wire_fields.specs.declared.Tunnel.TheVariants as T
 use Rattle.wire_fields.specs.Kinds.{imsi_kind, rat_kind, tunnel_kind, apn_kind, paa_kind, bearer_kind, ebi_kind, qos_kind, recovery_kind}
 use Rattle.wire_fields.specs.declared.Recovery.{Recovery}
 use Rattle.wire_fields.specs.declared.Recovery.TheVariants as R
 use Rattle.unit_plan.specs.declared.Plan.{Plan}
-use Rattle.unit_plan.specs.Limits.{used, parties, no_point, point_ok, longest_name}
+use Rattle.unit_plan.specs.Limits.{used, parties, no_point}
 use Rattle.unit_plan.specs.Names.{name_of}
-use Rattle.unit_plan.specs.Plan.{accepted}
 use Rattle.wire_requests.specs.declared.Create as C
 use Rattle.wire_requests.specs.declared.Modify as M
 use Rattle.wire_requests.specs.declared.Delete as D
@@ -30,8 +22,8 @@ use Rattle.wire_requests.specs.declared.Context.TheVariants as X
 use Rattle.wire_requests.specs.declared.Ebi.{Ebi}
 use Rattle.wire_requests.specs.declared.Ebi.TheVariants as E
 use Rattle.wire_requests.specs.Create.{CreateSound}
-use Rattle.promise_demands.specs.Sent.{Sent, fits, sent_octets}
-use Rattle.promise_demands.specs.Values.{packed, packed_most}
+use Rattle.promise_demands.specs.Sent.{Sent, sent_octets}
+use Rattle.promise_demands.specs.Values.{packed}
 use Rattle.promise_demands.specs.Written.{Word}
 
 -- ---- fields
@@ -164,155 +156,3 @@ encoded_modify m x = sent_octets (modify_fields m x (context_bearer m.context x)
 
 unfoldable pub encoded_delete : D.Delete → Besides → List ℕ
 encoded_delete d x = sent_octets (delete_fields d.ebi x)
-
--- ---- laws: digits write their number
-every_last : (p : ℕ → Bool) (l : List ℕ) (x : ℕ) → every p l ≡ true → p x ≡ true → every p (l ++ (x ∷ [])) ≡ true
-unfolding every
-every_last p [] x e h = rw h
-every_last p (y ∷ l) x e h = rw (and_left (p y) (every p l) e) (every_last p l x (and_right (p y) (every p l) e) h)
-
-decimal_last : (n : ℕ) (l : List ℕ) (x : ℕ) → decimal_from n (l ++ (x ∷ [])) ≡ decimal_from n l * 10 + x
-unfolding decimal_from
-decimal_last n [] x = refl
-decimal_last n (y ∷ l) x = decimal_last (n * 10 + y) l x
-
-pub digits_each : (w n : ℕ) → every is_half (digits_of w n) ≡ true
-unfolding digits_of every is_half
-digits_each zero n = refl
-digits_each (suc w) n = every_last is_half (digits_of w (n / 10)) (n % 10) (digits_each w (n / 10)) (le-leb (n % 10) 9 (omega arith))
-
-pub digits-length : (w n : ℕ) → length (digits_of w n) ≡ w
-unfolding digits_of
-digits-length zero n = refl
-digits-length (suc w) n = let r = digits-length w (n / 10) in simp length-append (omega arith)
-
-pub digits-back : (w n : ℕ) → n < 10 ^ w → decimal_from 0 (digits_of w n) ≡ n
-unfolding digits_of decimal_from
-digits-back zero n h = omega arith
-digits-back (suc w) n h =
-    let p = pow-suc 10 w in
-    let r = digits-back w (n / 10) (omega arith) in
-    let s = decimal_last 0 (digits_of w (n / 10)) (n % 10) in
-    omega arith
-
--- ---- laws: lengths
-fits-field : (kind inst : ℕ) (v : List ℕ) → length v < 65536 → fits (field kind inst v) ≡ true
-unfolding fits
-fits-field kind inst v h = lt-ltb (length v) 65536 h
-
-tunnel-short : (flags teid addr : ℕ) (behind : List ℕ) → length (tunnel_octets flags teid addr behind) ≡ length behind + 9
-unfolding tunnel_octets octets_of
-tunnel-short flags teid addr behind = omega arith
-
-name-short : (plan : Plan) (i : ℕ) → accepted plan ≡ true → i < parties plan → length (name_of (get_or (used plan) i no_point)) ≤ longest_name
-unfolding accepted name_of point_ok longest_name
-name-short plan i p h =
-    let a : every point_ok (used plan) ≡ true = search (and_left, and_right) depth 5 in
-    let o = every_in point_ok (used plan) i no_point a h in
-    let k : leb (get_or (used plan) i no_point).size longest_name ≡ true = search (and_left, and_right) depth 7 in
-    let m = leb-true (get_or (used plan) i no_point).size longest_name k in
-    simp length-take (omega arith)
-
-module _ (x : Besides) (s : Short x) where
-  pub create_bearer_fits : (c : C.Create) → every fits (create_bearer c x) ≡ true
-  unfolding create_bearer every
-  create_bearer_fits c =
-      let a = s.within ebi_kind in
-      let b = s.within tunnel_kind in
-      let q = s.qos in
-      let t = tunnel-short user_flags c.user c.useraddr (x.within tunnel_kind) in
-      rw (
-        fits-field ebi_kind 0 (c.ebi ∷ x.within ebi_kind) (omega arith),
-        fits-field tunnel_kind 2 (tunnel_octets user_flags c.user c.useraddr (x.within tunnel_kind)) (omega arith),
-        fits-field qos_kind 0 x.qos (omega arith),
-      )
-
-  create_bearer_short : (c : C.Create) → length (sent_octets (create_bearer c x)) < 65536
-  unfolding create_bearer sent_octets octets_of
-  create_bearer_short c =
-      let a = s.within ebi_kind in
-      let b = s.within tunnel_kind in
-      let q = s.qos in
-      let t = tunnel-short user_flags c.user c.useraddr (x.within tunnel_kind) in
-      simp length-append (omega arith)
-
-  recovery_fits : (r : Recovery) → every fits (recovery_field r x) ≡ true
-  unfolding recovery_field every
-  recovery_fits R.None = refl
-  recovery_fits (R.Value r) = let a = s.behind recovery_kind in rw (fits-field recovery_kind 0 (r ∷ x.behind recovery_kind) (omega arith))
-
-  pub create-fits : (plan : Plan) (c : C.Create) → accepted plan ≡ true → c.point < parties plan
-      → every fits (create_fields plan c x (create_bearer c x)) ≡ true
-  unfolding create_fields every longest_name
-  create-fits plan c p h =
-      let digits = digits-length 15 c.imsi in
-      let most = packed_most (digits_of 15 c.imsi) in
-      let imsi = length-append (packed (digits_of 15 c.imsi)) (x.behind imsi_kind) in
-      let paa = length-append (octets_of 4 x.address) (x.behind paa_kind) in
-      let four = length_octets 4 x.address in
-      let tunnel = tunnel-short control_flags c.control c.controladdr (x.behind tunnel_kind) in
-      let name = name-short plan c.point p h in
-      let b1 = s.behind imsi_kind in
-      let b2 = s.behind rat_kind in
-      let b3 = s.behind tunnel_kind in
-      let b4 = s.behind paa_kind in
-      rw (
-        fits-field imsi_kind 0 (packed (digits_of 15 c.imsi) ++ x.behind imsi_kind) (omega arith),
-        fits-field rat_kind 0 (x.rat ∷ x.behind rat_kind) (omega arith),
-        fits-field tunnel_kind 0 (tunnel_octets control_flags c.control c.controladdr (x.behind tunnel_kind)) (omega arith),
-        fits-field apn_kind 0 (name_of (get_or (used plan) c.point no_point)) (omega arith),
-        fits-field paa_kind 0 (1 ∷ octets_of 4 x.address ++ x.behind paa_kind) (omega arith),
-        fits-field bearer_kind 0 (sent_octets (create_bearer c x)) (create_bearer_short c),
-      )
-      (recovery_fits c.recovery)
-
-  user_fits : (t : Tunnel) → every fits (user_field t x) ≡ true
-  unfolding user_field every
-  user_fits (T.Value teid addr) =
-      let b = s.within tunnel_kind in
-      let t = tunnel-short user_flags teid addr (x.within tunnel_kind) in
-      rw (fits-field tunnel_kind 1 (tunnel_octets user_flags teid addr (x.within tunnel_kind)) (omega arith))
-  user_fits T.Missing = refl
-  user_fits T.Short = refl
-  user_fits T.Wrong = refl
-
-  user_short : (t : Tunnel) → length (sent_octets (user_field t x)) ≤ 10013
-  unfolding user_field sent_octets octets_of
-  user_short (T.Value teid addr) =
-      let b = s.within tunnel_kind in
-      let t = tunnel-short user_flags teid addr (x.within tunnel_kind) in
-      simp length-append (omega arith)
-  user_short T.Missing = omega arith
-  user_short T.Short = omega arith
-  user_short T.Wrong = omega arith
-
-  pub context-fits : (k : Context) → every fits (context_bearer k x) ≡ true
-  unfolding context_bearer every
-  context-fits X.Absent = refl
-  context-fits (X.Present ebi t) = let a = s.within ebi_kind in rw (fits-field ebi_kind 0 (ebi ∷ x.within ebi_kind) (omega arith)) (user_fits t)
-
-  context-short : (k : Context) → length (sent_octets (context_bearer k x)) < 65536
-  unfolding context_bearer sent_octets octets_of
-  context-short X.Absent = omega arith
-  context-short (X.Present ebi t) = let a = s.within ebi_kind in let b = user_short t in simp length-append (omega arith)
-
-  bearer_fits : (k : Context) → every fits (context_field k (context_bearer k x)) ≡ true
-  unfolding context_field every
-  bearer_fits X.Absent = refl
-  bearer_fits (X.Present ebi t) = rw (fits-field bearer_kind 0 (sent_octets (context_bearer (X.Present ebi t) x)) (context-short (X.Present ebi t)))
-
-  pub modify_fits : (m : M.Modify) → every fits (modify_fields m x (context_bearer m.context x)) ≡ true
-  unfolding modify_fields control_field every
-  modify_fits m = by m.control
-    where
-      by : (p : Peer) → every fits (control_field p x ++ context_field m.context (context_bearer m.context x)) ≡ true
-      by P.Same = bearer_fits m.context
-      by (P.New teid addr) =
-          let b = s.behind tunnel_kind in
-          let t = tunnel-short control_flags teid addr (x.behind tunnel_kind) in
-          rw (fits-field tunnel_kind 0 (tunnel_octets control_flags teid addr (x.behind tunnel_kind)) (omega arith)) (bearer_fits m.context)
-
-  pub delete_fits : (k : Ebi) → every fits (delete_fields k x) ≡ true
-  unfolding delete_fields every
-  delete_fits E.Absent = refl
-  delete_fits (E.Given ebi) = let a = s.behind ebi_kind in rw (fits-field ebi_kind 0 (ebi ∷ x.behind ebi_kind) (omega arith))

@@ -34,9 +34,7 @@ pub mod Run
 pub mod Sent
 pub mod Share
 pub mod Sixteen
-pub mod Stays
 pub mod Ticks
-pub mod UserLeaves
 pub mod UserNumbers
 pub mod Uses
 pub mod Values

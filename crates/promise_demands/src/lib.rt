@@ -1,4 +1,6 @@
 // The customer's three demands, each a function with nothing in it, whose contract is the theorem.
+#![tactic(auto)]
+
 ghost use Rattle.promise_demands.specs.Demands.{Demand1, Demand2, Demand3};
 ghost use Rattle.std.specs.Prelude.{true, ◌≡◌};
 ghost use Rattle.base_octets.specs.Every.{every};

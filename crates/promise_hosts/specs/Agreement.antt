@@ -4,7 +4,7 @@ use Rattle.std.specs.Prelude.{ℕ, List, ◌≡◌}
 use Rattle.std.proofs.Common.{sym, ◌∙◌, ap}
 use Rattle.unit_session.specs.declared.Session.{Session}
 use Rattle.call_own.specs.declared.Answer.{Answer}
-use Rattle.call_own.specs.Outcome.{Outcome, outcome}
+use Rattle.call_own.specs.Outcome.{outcome}
 use Rattle.call_store.specs.Stored.{Stored, stored}
 use Rattle.call_user.specs.declared.Handed.{Handed}
 use Rattle.call_user.specs.Parcel.{Parcel, parcel}
@@ -61,14 +61,6 @@ AgreedWritten x y r x' y' = x ≡ y → SameWritten r x' y'
 
 -- ---- laws
 -- f is the call's definition, of the records and of the reply buffer
-pub agrees : (f : List Session → List ℕ → Outcome) (l m l' m' : List Session) (x y x' y' : List ℕ) (a b : Answer) (r : Two)
-    → outcome a l' x' ≡ f l x → outcome b m' y' ≡ f m y → r ≡ two a b → Agreed l m x y r l' m' x' y'
-unfolding two Agreed
-agrees f l m l' m' x y x' y' a b r e g h p q =
-    let t : f l x ≡ f m y = rw (p, q) in
-    let s : outcome a l' x' ≡ outcome b m' y' = e ∙ t ∙ sym g in
-    record { answer = rw h (ap (λ (o : Outcome). o.answer) s); records = ap (λ (o : Outcome). o.table) s; reply = ap (λ (o : Outcome). o.reply) s }
-
 pub agrees_stored : (f : List Session → List (List ℕ) → List ℕ → Stored) (l m l' m' : List Session) (v w v' w' : List (List ℕ)) (x y x' y' : List ℕ) (a b : Answer) (r : Two)
     → stored (outcome a l' x') v' ≡ f l v x → stored (outcome b m' y') w' ≡ f m w y → r ≡ two a b → AgreedStored l m v w x y r l' m' v' w' x' y'
 unfolding two AgreedStored

@@ -1,5 +1,7 @@
 // The exported calls, as a host sees them: by their contracts and types alone. Each call made twice on equal arguments comes to the same, in the
 // answer, the lent records, the store and the reply buffer; and each meets what the demands say of a call in a run (`Called`, in promise_demands).
+#![tactic(auto)]
+
 ghost use Rattle.std.specs.Prelude.{[], ◌≡◌};
 ghost use Rattle.promise_hosts.specs.Agreement.{two, twins, both_written, Agreed, AgreedStored, AgreedHanded, AgreedWritten};
 ghost use Rattle.promise_demands.specs.Run.{control, user, down, tick, send, close, line};
@@ -14,19 +16,19 @@ use unit_session::Session;
 use unit_store::Kept;
 use unit_table::Node;
 
-#[derive(Drop)]
+#[derive(Clone, Copy)]
 pub struct Two {
     pub first: Answer,
     pub second: Answer,
 }
 
-#[derive(Drop)]
+#[derive(Clone, Copy)]
 pub struct Twins {
     pub first: Handed,
     pub second: Handed,
 }
 
-#[derive(Drop)]
+#[derive(Clone, Copy)]
 pub struct BothWritten {
     pub first: Written,
     pub second: Written,

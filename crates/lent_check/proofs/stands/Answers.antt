@@ -1,0 +1,7 @@
+use Rattle.std.proofs.Common.{◌∙◌, ap}
+use Rattle.step_check.specs.declared.Checked.{Checked}
+use Rattle.lent_check.specs.Kept.{checked_how}
+use Rattle.lent_check.proofs.stands.Goals as goal
+
+pub returns : goal.returns
+returns c = c.how_of.ensures ∙ ap (λ (z : Checked). z.how) c.checked-v.ensures ∙ checked_how c.args.node 0 c.args.recs.now
