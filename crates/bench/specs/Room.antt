@@ -1,4 +1,4 @@
--- The program's buffer of 65,536 octets is emptied wherever there is no room for a line, so that no line's output is ever cut (`run-whole`).
+-- The program's buffer of 65,536 octets is emptied wherever there is no room for a line, so that no line's output is ever cut (`run_whole`).
 -- Assumes nothing.
 use Rattle.std.specs.Prelude.{ℕ, ◌+◌, ◌-◌, ◌≤◌, Bool, true, false, not, ◌||◌, List, [], ◌++◌, ◌≡◌, refl, length, take, drop, get_or, eqb}
 use Rattle.std.proofs.Common.{ap, ◌∙◌, arith, length-append}

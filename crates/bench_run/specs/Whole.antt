@@ -1,5 +1,5 @@
--- Nothing that the bench prints for a line of input is cut. What a line prints is told as a text without a buffer (`linePrints`); every line lays that
--- text behind what was printed before (`line-adds`), and it is laid whole wherever there is room for a line (`lineRoom`, `line-whole`). The same of the
+-- Nothing that the bench prints for a line of input is cut. What a line prints is told as a text without a buffer (`line_prints`); every line lays that
+-- text behind what was printed before (`line_adds`), and it is laid whole wherever there is room for a line (`line_room`, `line_whole`). The same of the
 -- lines at the end (`end_whole`). The program `bench` keeps that room.
 -- Assumes nothing.
 use Rattle.std.specs.Prelude.{ℕ, zero, suc, ◌+◌, ◌*◌, ◌≤◌, true, false, not, ◌&&◌, List, [], ◌++◌, ◌≡◌, length, take, drop, replicate, eqb, leb}

@@ -1,5 +1,7 @@
 // The bench's run: what one line of input does to the unit and what is printed for it. The unit's records and its store of kept replies are
 // lent, and the firmware's own calls work on them where they lie.
+#![tactic(auto)]
+
 ghost use Rattle.std.specs.Prelude.{not, ◌&&◌, ◌≡◌, eqb, drop, take};
 ghost use Rattle.call_own.specs.Outcome.{back};
 ghost use Rattle.call_user.specs.Parcel.{parcel};
@@ -20,7 +22,7 @@ use unit_tunnel::Unit;
 use wire_user::Header;
 
 // One datagram that is due, sent and printed; whether there was one.
-#[derive(Drop)]
+#[derive(Clone, Copy)]
 struct Sent {
     go: bool,
     bench: Bench,
@@ -208,7 +210,7 @@ fn run_close(
 }
 
 // What a line asks of the unit, in numbers: which call, of how many octets a datagram or a packet, of which place.
-#[derive(Drop)]
+#[derive(Clone, Copy)]
 struct Call {
     kind: u8,
     size: usize,

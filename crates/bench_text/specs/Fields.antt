@@ -1,8 +1,8 @@
 -- The fields of a line, parted by tabs.
 -- Assumes nothing.
-use Prim.Native.Nat.{ℕ, zero, suc, ◌+◌, ◌<◌, ◌≤◌, ◌-◌}
-use Rattle.std.specs.Prelude.{Bool, true, false, List, [], ◌∷◌, ◌≡◌, refl, length, take, drop, get_or, eqb}
-use Rattle.std.proofs.Common.{sym, ◌∙◌, add-one, drop_of_length-le}
+use Prim.Native.Nat.{ℕ, zero, suc, ◌+◌, ◌≤◌, ◌-◌}
+use Rattle.std.specs.Prelude.{Bool, List, [], ◌≡◌, refl, length, take, drop, eqb}
+use Rattle.std.proofs.Common.{sym, ◌∙◌, drop_of_length-le}
 use native.Mathlib.Omega.{arith}
 use mir.Val.{bool_byte}
 use Rattle.base_octets.specs.Choice.{bit_most}

@@ -2,7 +2,7 @@
 -- hex, g, c. C or U with a datagram in hex, D with a packet in hex. T. X and a place. Any other line is a bad one; one whose first field is A is a bad line
 -- of an access point.
 -- Assumes nothing.
-use Rattle.std.specs.Prelude.{ℕ, ◌+◌, ◌/◌, ◌<◌, ◌≤◌, Bool, true, false, ◌&&◌, List, [], ◌∷◌, ◌≡◌, refl, length, get_or, eqb, ltb}
+use Rattle.std.specs.Prelude.{ℕ, ◌/◌, ◌&&◌, List, length, get_or, eqb, ltb}
 use Rattle.base_octets.specs.Choice.{pick}
 use Rattle.base_octets.specs.Search.{first_of}
 use Rattle.base_octets.specs.Sums.{count_of}

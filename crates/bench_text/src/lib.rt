@@ -1,4 +1,6 @@
 // The bench's text: a line of its input read into an enum, and the lines that it prints. Fields are parted by tabs.
+#![tactic(auto)]
+
 ghost use Rattle.std.specs.Prelude.{◌≡◌};
 ghost use Rattle.base_numerals.specs.Laid.{laid, written};
 ghost use mir.Val.{bool_byte};
@@ -13,7 +15,7 @@ use base_numerals::{Numeral, Size, Word};
 use unit_plan::AccessPoint;
 
 // A line of input. The octets of a name, a datagram or a packet are in the buffer that was lent, `size` of them.
-#[derive(Drop)]
+#[derive(Clone, Copy)]
 pub enum Line {
     Node {
         control: u32,

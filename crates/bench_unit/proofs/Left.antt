@@ -2,20 +2,19 @@
 -- Assumes nothing.
 use Prim.Native.Nat.{ℕ}
 use mathlib.Core.Path.{◌≡◌, refl}
-use mathlib.Core.List.{List, [], ◌∷◌}
-use types.Run.{OneOf, miss}
-use denote.Enum.Declared.{tag_of}
+use mathlib.Core.List.{List}
 use Rattle.bench_text.specs.declared.Line.{Line}
 use Rattle.bench_text.specs.declared.Line.TheVariants.{Node, Point, Control, User, Down, Tick, Close, BadPoint, Bad}
-use Rattle.bench_text.specs.contracts.Line as Lt
 use Rattle.bench_unit.specs.declared.Bench.{Bench}
 use Rattle.bench_unit.specs.State.{end_bad}
 use Rattle.bench_unit.specs.Plans.{start_line}
 
 -- no N line
-pub not_node : (line : Line) (b : Bench) (out : List ℕ) → OneOf (1 ∷ 2 ∷ 3 ∷ 4 ∷ 5 ∷ 6 ∷ 7 ∷ 8 ∷ []) (tag_of Lt.the_type line) → end_bad b out ≡ start_line line b out
+pub not_node : (line : Line) (b : Bench) (out : List ℕ)
+    → ((control user pool recovery resend sends interval : ℕ) → line ≡ Node control user pool recovery resend sends interval → ⊥)
+    → end_bad b out ≡ start_line line b out
 unfolding start_line
-not_node (Node control user pool recovery resend sends interval) b out h = absurd (miss (1 ∷ 2 ∷ 3 ∷ 4 ∷ 5 ∷ 6 ∷ 7 ∷ 8 ∷ []) 0 tt h)
+not_node (Node control user pool recovery resend sends interval) b out h = absurd (h control user pool recovery resend sends interval refl)
 not_node (Point guarantee ceiling size) b out h = refl
 not_node (Control size) b out h = refl
 not_node (User size) b out h = refl

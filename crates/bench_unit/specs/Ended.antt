@@ -1,6 +1,6 @@
 -- What the bench prints at the end: the live count, and the lines of the places ever used. A plan that is not taken yet is taken first.
 -- Assumes nothing.
-use Prim.Native.Nat.{ℕ, zero, suc, ◌+◌, ◌<◌, ◌≤◌, ◌-◌}
+use Prim.Native.Nat.{ℕ, zero, suc, ◌+◌, ◌<◌, ◌≤◌}
 use Rattle.std.specs.Prelude.{Bool, true, false, not, List, [], ◌∷◌, ◌++◌, ◌≡◌, refl, take, get_or, replicate, eqb}
 use Rattle.std.proofs.Common.{ap, ◌∙◌, lt-ltb}
 use native.Mathlib.Omega.{arith}

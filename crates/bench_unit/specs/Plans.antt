@@ -37,7 +37,7 @@ first_line b control user pool recovery resend sends interval = record {
   });
 }
 
--- A: a name of at most `longestName` octets, the rest of its octets zero
+-- A: a name of at most `longest_name` octets, the rest of its octets zero
 unfoldable pub point_from : ℕ → ℕ → List ℕ → AccessPoint
 point_from guarantee ceiling octets =
     record { name = overlay octets (replicate longest_name 0); size = length octets % 256; guarantee = guarantee; ceiling = ceiling }

@@ -1,10 +1,10 @@
 -- Where the bench's run stands, and what is printed for what the unit answers: number and reply in hex, or -. A bad line prints E and ends.
 -- The unit's records and its store of kept replies stand beside the run.
 -- Assumes nothing.
-use Rattle.std.specs.Prelude.{ℕ, ◌+◌, List, ◌≡◌, refl, length, take, replicate, ltb}
+use Rattle.std.specs.Prelude.{ℕ, ◌+◌, List, ◌≡◌, take, replicate, ltb}
 use Rattle.std.proofs.Common.{ap}
 use Rattle.base_octets.specs.Choice.{pick}
-use Rattle.base_numerals.specs.Laid.{laid, written, Written, laid-length}
+use Rattle.base_numerals.specs.Laid.{laid, written, Written}
 use Rattle.unit_plan.specs.Limits.{no_plan}
 use Rattle.unit_session.specs.declared.Session.{Session}
 use Rattle.unit_table.specs.declared.Node.{Node}

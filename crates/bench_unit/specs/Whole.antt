@@ -1,6 +1,6 @@
 -- Nothing that the bench prints is cut: what a step prints is told as a text without a buffer; every step lays that text behind what was printed
--- before (`Adds`), and text that fits the rest of the buffer is laid whole (`adds-whole`). Here: the plan and the end of the input, which prints at
--- most 46 characters and `placeRoom` for each place (`end-most`).
+-- before (`Adds`), and text that fits the rest of the buffer is laid whole (`adds_whole`). Here: the plan and the end of the input, which prints at
+-- most 46 characters and `place_room` for each place (`end_most`).
 -- Assumes nothing.
 use Prim.Native.Nat.{ℕ, zero, suc, ◌+◌, ◌*◌, ◌≤◌, min}
 use Rattle.std.specs.Prelude.{List, [], ◌∷◌, ◌++◌, ◌≡◌, length, take, drop, get_or, eqb, ltb}

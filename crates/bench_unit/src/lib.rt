@@ -1,6 +1,8 @@
 // The two ends of the bench's run: where a run stands, what is printed for an answer, the lines of the plan; and at the end of the input the
 // live count and a line for each place that was ever used. The unit's records and its store of kept replies are lent, and the calls work on
 // them where they lie. Output goes into a lent buffer from a place on; the programs write it out.
+#![tactic(auto)]
+
 ghost use Rattle.std.specs.Prelude.{[], ◌≡◌, eqb, take};
 ghost use Rattle.unit_tunnel.specs.Numbering.{places};
 ghost use Rattle.unit_table.specs.Room.{sessions};
@@ -19,7 +21,7 @@ use unit_tunnel::Unit;
 
 // How far the run is, how many lines were taken, how much of the output buffer is in use, and what goes with the unit's records. Before the
 // plan is taken, the unit's plan is the one that is being read.
-#[derive(Drop)]
+#[derive(Clone, Copy)]
 pub struct Bench {
     pub phase: u8,
     pub lines: u64,

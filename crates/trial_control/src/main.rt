@@ -1,9 +1,13 @@
 // Runs the decoder over control datagrams. Standard input has a datagram in hex on each line; a line that begins with # is a note and is
 // written as it is. Each datagram's line has the first refusal by its header; where that is 0, type, TEID and sequence number follow, and
 // what the fields give, as numbers, under the trial plan and for a session of EBI 5.
-ghost use Rattle.std.specs.Prelude.{◌<◌, ◌≤◌};
+#![tactic(auto)]
+
+ghost use Rattle.std.specs.Prelude.{◌≡◌, ◌<◌, ◌≤◌, length, IfOk};
 
 use base_octets::Number;
+use std::io;
+use std::io::Read;
 use trial_readers::{Carried, Decoding};
 use wire_messages::MessageType;
 
@@ -12,53 +16,48 @@ fn session_ebi() -> u8 {
     5
 }
 
-fn show_row(row: &[u64]) {
-    let mut i: usize = 0;
-    while i < row.len() {
-        io::write_all(1, b" ");
-        io::print_decimal(1, row[i]);
-        i += 1;
+fn show_row(rt: &impl Print, row: &[u64]) -> io::Result<()> {
+    for n in row {
+        print!(rt; " {}", *n)?;
     }
+    Ok(())
 }
 
-fn show_answer(a: Decoding) {
+fn show_answer(rt: &impl Print, a: Decoding) -> io::Result<()> {
     let row = trial_readers::answer_row(a);
-    show_row(&row);
+    show_row(rt, &row)
 }
 
-fn show_carried(c: Carried) {
+fn show_carried(rt: &impl Print, c: Carried) -> io::Result<()> {
     let row = trial_readers::carried_row(c);
-    show_row(&row);
+    show_row(rt, &row)
 }
 
-fn show_fields(kind: u32, s: &[u8]) {
+fn show_fields(rt: &impl Print, kind: u32, s: &[u8]) -> io::Result<()> {
     if kind == MessageType::CREATE as u32 {
-        show_answer(trial_readers::requests_create(s));
-        return;
+        return show_answer(rt, trial_readers::requests_create(s));
     }
     if kind == MessageType::MODIFY as u32 {
-        show_answer(trial_readers::requests_modify(s, session_ebi()));
-        return;
+        return show_answer(rt, trial_readers::requests_modify(s, session_ebi()));
     }
     if kind == MessageType::DELETE as u32 {
-        show_answer(trial_readers::requests_delete(s, session_ebi()));
-        return;
+        return show_answer(rt, trial_readers::requests_delete(s, session_ebi()));
     }
-    show_carried(trial_readers::requests_carried(s));
+    show_carried(rt, trial_readers::requests_carried(s))
 }
 
-fn show(d: &[u8]) {
+fn show(rt: &impl Print, d: &[u8]) -> io::Result<()> {
     let h = trial_readers::requests_head(d);
-    io::print_decimal(1, h.number as u64);
+    rt.print(h.number)?;
     if h.number == Number::TAKEN as u32 {
         let head = [h.kind as u64, h.teid as u64, h.sequence as u64];
-        show_row(&head);
+        show_row(rt, &head)?;
         let at = h.fields as usize;
         if at <= d.len() {
-            show_fields(h.kind, &d[at..]);
+            show_fields(rt, h.kind, &d[at..])?;
         }
     }
-    io::write_all(1, b"\n");
+    rt.write_all(b"\n")
 }
 
 // The half octet that a capital hex digit writes.
@@ -86,20 +85,20 @@ fn octets_of(hex: &[u8], out: &mut [u8]) -> usize {
     n
 }
 
-fn show_line(line: &[u8]) {
+fn show_line(rt: &impl Print, line: &[u8]) -> io::Result<()> {
     if line.len() == 0 {
-        return;
+        return Ok(());
     }
     if line[0] == b'#' {
-        io::write_all(1, line);
-        io::write_all(1, b"\n");
-        return;
+        rt.write_all(line)?;
+        return rt.write_all(b"\n");
     }
     let mut d = [0u8; 2048];
     let n = octets_of(line, &mut d);
     if n <= 2048 {
-        show(&d[0..n]);
+        show(rt, &d[0..n])?;
     }
+    Ok(())
 }
 
 // Where the line that starts at a place ends.
@@ -116,21 +115,38 @@ fn line_end(s: &[u8], from: usize) -> usize
     i
 }
 
-fn each(s: &[u8]) {
+fn each(rt: &impl Print, s: &[u8]) -> io::Result<()> {
     let mut p: usize = 0;
     while p < s.len() {
         let e = line_end(s, p);
         if e < s.len() {
-            show_line(&s[p..e]);
+            show_line(rt, &s[p..e])?;
             p = e + 1;
         } else {
-            return;
+            return Ok(());
         }
     }
+    Ok(())
 }
 
-fn main() {
-    let mut text = io::large_buffer();
-    let n = io::read_full(0, &mut text);
-    each(&text[..n]);
+// Reads until the buffer is full or the input ends: how many octets were put at its start.
+fn read_full(input: &mut impl Read, buf: &mut [u8]) -> io::Result<usize>
+    ensures room { IfOk result (λ n. n ≤ length buf.new) }
+    ensures left { length buf.new ≡ length buf.old }
+{
+    let mut done: usize = 0;
+    while done < buf.len() {
+        let n = input.read(&mut buf[done..])?;
+        if n == 0 {
+            break;
+        }
+        done += n;
+    }
+    Ok(done)
+}
+
+fn main(rt: HostRuntime) -> io::Result<()> {
+    let mut text = [0u8; 65536];
+    let n = read_full(&mut rt.stdin(), &mut text)?;
+    each(&rt, &text[..n])
 }

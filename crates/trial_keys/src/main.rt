@@ -4,6 +4,12 @@
 // The keys are those of bearer 5 of IMSIs one after the other; strewn about where the first octet of standard input is `r`. Each octet
 // after it is a check, with so many batches of keys as it says: they are read, so that nothing of a check is known
 // to the compiler.
+#![tactic(auto)]
+
+ghost use Rattle.std.specs.Prelude.{◌≡◌, ◌≤◌, length, IfOk};
+
+use std::io;
+use std::io::Read;
 
 // The IMSI after this one.
 fn next_imsi(imsi: u64, kind: u8) -> u64 {
@@ -63,15 +69,29 @@ fn apart_in(d: &[u8]) -> u64 {
     apart_of(&d[1..], &keys)
 }
 
-fn run(d: &[u8]) {
+fn run(rt: &impl Print, d: &[u8]) -> io::Result<()> {
     let found = apart_in(d);
-    io::print_decimal(1, found);
-    let end = [b'\n'];
-    io::write_all(1, &end);
+    println!(rt; "{found}")
 }
 
-fn main() {
-    let mut buf = io::buffer();
-    let n = io::read_full(0, &mut buf);
-    run(&buf[..n]);
+// Reads until the buffer is full or the input ends: how many octets were put at its start.
+fn read_full(input: &mut impl Read, buf: &mut [u8]) -> io::Result<usize>
+    ensures room { IfOk result (λ n. n ≤ length buf.new) }
+    ensures left { length buf.new ≡ length buf.old }
+{
+    let mut done: usize = 0;
+    while done < buf.len() {
+        let n = input.read(&mut buf[done..])?;
+        if n == 0 {
+            break;
+        }
+        done += n;
+    }
+    Ok(done)
+}
+
+fn main(rt: HostRuntime) -> io::Result<()> {
+    let mut buf = [0u8; 4096];
+    let n = read_full(&mut rt.stdin(), &mut buf)?;
+    run(&rt, &buf[..n])
 }

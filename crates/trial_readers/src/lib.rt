@@ -1,5 +1,7 @@
-// The readers of user and control datagrams, exported for hosts that compare them with readings of their own: each function takes octets and
-// answers numbers. Where a part of the answer does not apply it is 0; a Recovery that is not there is 256.
+// The readers of user and control datagrams, for hosts that compare them with readings of their own (trial_readers_c exports them): each function
+// takes octets and answers numbers. Where a part of the answer does not apply it is 0; a Recovery that is not there is 256.
+#![tactic(auto)]
+
 ghost use Rattle.std.specs.Prelude.{◌≡◌, ◌-◌, length};
 ghost use Rattle.wire_user.specs.User.{user_of};
 ghost use Rattle.trial_readers.specs.Said.{said, said_of, said_in};
@@ -33,8 +35,7 @@ fn said(h: Header, kind: &mut u8, teid: &mut u32, sequence: &mut u16)
 }
 
 // The size of the payload, which ends where the datagram ends; the number and what the header says are written to the host's places.
-#[unsafe(no_mangle)]
-pub extern "C" fn gpdu_read(
+pub fn gpdu_read(
     d: &[u8],
     number: &mut u8,
     kind: &mut u8,
@@ -58,7 +59,7 @@ pub extern "C" fn gpdu_read(
 }
 
 #[repr(C)]
-#[derive(Drop)]
+#[derive(Clone, Copy)]
 pub struct Head {
     // the first refusal, 0 where the header passes
     pub number: u32,
@@ -70,7 +71,7 @@ pub struct Head {
 
 // A decoded request: number 0 and its kind, or the cause with the field that it names.
 #[repr(C)]
-#[derive(Drop)]
+#[derive(Clone, Copy)]
 pub struct Decoding {
     pub imsi: u64,
     pub number: u64,
@@ -96,7 +97,7 @@ pub struct Decoding {
 
 // What types 1, 2 and 100 carry.
 #[repr(C)]
-#[derive(Drop)]
+#[derive(Clone, Copy)]
 pub struct Carried {
     pub echo: u32,
     // 1 where a reply cannot be read
@@ -107,7 +108,7 @@ pub struct Carried {
 }
 
 // A tunnel end that a Modify moves: 0 where it stays.
-#[derive(Drop)]
+#[derive(Clone, Copy)]
 pub struct End {
     pub moved: u64,
     pub teid: u64,
@@ -342,8 +343,7 @@ fn decoded_decoding(d: Decoded, ebi: u8) -> Decoding
     }
 }
 
-#[unsafe(no_mangle)]
-pub extern "C" fn requests_head(d: &[u8]) -> Head
+pub fn requests_head(d: &[u8]) -> Head
     ensures { result ≡ head_numbers d.now }
 {
     let number = wire_header::gate(d);
@@ -366,8 +366,7 @@ fn replied_to(to: u32, mut a: Decoding) -> Decoding
 }
 
 // Each takes the octets behind the header.
-#[unsafe(no_mangle)]
-pub extern "C" fn requests_create(s: &[u8]) -> Decoding
+pub fn requests_create(s: &[u8]) -> Decoding
     ensures { result ≡ create_in s.now }
 {
     let plan = trial_plan();
@@ -376,15 +375,13 @@ pub extern "C" fn requests_create(s: &[u8]) -> Decoding
     replied_to(wire_requests::reply_to(s), a)
 }
 
-#[unsafe(no_mangle)]
-pub extern "C" fn requests_modify(s: &[u8], ebi: u8) -> Decoding
+pub fn requests_modify(s: &[u8], ebi: u8) -> Decoding
     ensures { result ≡ modify_in s.now ebi }
 {
     decoded_decoding(wire_requests::read_modify(s), ebi)
 }
 
-#[unsafe(no_mangle)]
-pub extern "C" fn requests_delete(s: &[u8], ebi: u8) -> Decoding
+pub fn requests_delete(s: &[u8], ebi: u8) -> Decoding
     ensures { result ≡ delete_in s.now ebi }
 {
     decoded_decoding(wire_requests::read_delete(s), ebi)
@@ -426,8 +423,7 @@ fn bearer_cause(e: BearerReply) -> u32
     }
 }
 
-#[unsafe(no_mangle)]
-pub extern "C" fn requests_carried(s: &[u8]) -> Carried
+pub fn requests_carried(s: &[u8]) -> Carried
     ensures { result ≡ carried_in s.now }
 {
     let echo = recovery_number(wire_requests::read_echo(s));

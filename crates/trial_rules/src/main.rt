@@ -21,8 +21,14 @@
 // live on access point 0; place 1 is closing on access point 1 and was sent once, with number 5; place 2 is closing on it and was not
 // sent; place 3 is free in use 7; no other place was ever used. The store's first row is the reply to a Delete, its second that to a Modify,
 // of one sequence number and header TEID; the others are unused.
+#![tactic(auto)]
+
+ghost use Rattle.std.specs.Prelude.{◌≡◌, ◌≤◌, length, IfOk};
+
 use base_octets::Number;
 use call_own::Answer;
+use std::io;
+use std::io::Read;
 use unit_plan::{AccessPoint, Plan};
 use unit_session::{Opening, OwnRequest, Session};
 use unit_store::Kept;
@@ -31,7 +37,7 @@ use unit_tunnel::Unit;
 use wire_messages::MessageType;
 
 // The records, by value.
-#[derive(Drop)]
+#[derive(Clone, Copy)]
 struct Table {
     recs: [Session; Unit::PLACES],
 }
@@ -39,20 +45,20 @@ struct Table {
 // A store has as many rows; one more can be lent.
 const MOST_ROWS: usize = Kept::ROWS + 1;
 
-#[derive(Drop)]
+#[derive(Clone, Copy)]
 struct Row {
     octets: [u8; Kept::OCTETS],
 }
 
 // The rows of the store, by value, and how many of them are lent.
-#[derive(Drop)]
+#[derive(Clone, Copy)]
 struct Store {
     rows: [Row; MOST_ROWS],
     count: usize,
 }
 
 // A table with what goes with it.
-#[derive(Drop)]
+#[derive(Clone, Copy)]
 struct Case {
     node: Node,
     table: Table,
@@ -60,7 +66,7 @@ struct Case {
 }
 
 // The number that is being read, and those of its triple before it.
-#[derive(Drop)]
+#[derive(Clone, Copy)]
 struct Triple {
     // how many of the triple are whole
     have: u8,
@@ -72,7 +78,7 @@ struct Triple {
 }
 
 // Where the reading stands: in which line, and what its edits have made so far.
-#[derive(Drop)]
+#[derive(Clone, Copy)]
 struct Reading {
     case: Case,
     triple: Triple,
@@ -441,14 +447,11 @@ fn number_ended(mut r: Reading) -> Reading {
     r
 }
 
-fn print_verdict(line: u64, kept: bool) {
-    io::print_decimal(1, line);
+fn print_verdict(rt: &impl Print, line: u64, kept: bool) -> io::Result<()> {
     if kept {
-        let word = [b' ', b'k', b'e', b'p', b't', b'\n'];
-        io::write_all(1, &word);
+        println!(rt; "{line} kept")
     } else {
-        let word = [b' ', b'b', b'r', b'o', b'k', b'e', b'n', b'\n'];
-        io::write_all(1, &word);
+        println!(rt; "{line} broken")
     }
 }
 
@@ -487,42 +490,57 @@ fn ticked_case(c: Case) -> Answer {
 }
 
 // The line is whole: its verdict is printed, and the next begins with the base table.
-fn line_ended(r: Reading) -> Reading {
+fn line_ended(rt: &impl Print, r: Reading) -> io::Result<Reading> {
     let a = ticked_case(r.case);
-    print_verdict(r.line, a.number != Number::RULES_BROKEN);
-    started(std::num::wrapping_add_u64(r.line, 1))
+    print_verdict(rt, r.line, a.number != Number::RULES_BROKEN)?;
+    Ok(started(std::num::wrapping_add_u64(r.line, 1)))
 }
 
-fn with_octet_read(mut r: Reading, octet: u8) -> Reading {
+fn with_octet_read(rt: &impl Print, mut r: Reading, octet: u8) -> io::Result<Reading> {
     if octet == b'\n' {
         let whole = number_ended(r);
-        return line_ended(whole);
+        return line_ended(rt, whole);
     }
     if r.comment {
-        return r;
+        return Ok(r);
     }
     if octet == b' ' {
-        return number_ended(r);
+        return Ok(number_ended(r));
     }
     if octet == b'#' {
         r.comment = true;
-        return r;
+        return Ok(r);
     }
     r.triple = with_digit(r.triple, octet);
-    r
+    Ok(r)
 }
 
-fn each_line(d: &[u8]) {
+fn each_line(rt: &impl Print, d: &[u8]) -> io::Result<()> {
     let mut r = started(1);
-    let mut i: usize = 0;
-    while i < d.len() {
-        r = with_octet_read(r, d[i]);
-        i += 1;
+    for octet in d {
+        r = with_octet_read(rt, r, *octet)?;
     }
+    Ok(())
 }
 
-fn main() {
-    let mut buf = io::large_buffer();
-    let n = io::read_full(0, &mut buf);
-    each_line(&buf[..n]);
+// Reads until the buffer is full or the input ends: how many octets were put at its start.
+fn read_full(input: &mut impl Read, buf: &mut [u8]) -> io::Result<usize>
+    ensures room { IfOk result (λ n. n ≤ length buf.new) }
+    ensures left { length buf.new ≡ length buf.old }
+{
+    let mut done: usize = 0;
+    while done < buf.len() {
+        let n = input.read(&mut buf[done..])?;
+        if n == 0 {
+            break;
+        }
+        done += n;
+    }
+    Ok(done)
+}
+
+fn main(rt: HostRuntime) -> io::Result<()> {
+    let mut buf = [0u8; 65536];
+    let n = read_full(&mut rt.stdin(), &mut buf)?;
+    each_line(&rt, &buf[..n])
 }

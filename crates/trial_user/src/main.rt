@@ -1,9 +1,12 @@
 // Reads user datagrams, one line of hex each, and prints how each is read: as it came, and in its damaged forms, with each of E, S
 // and PN set alone and together and cut at every octet, once with the length as it came and once with the length set right.
-ghost use Rattle.std.specs.Prelude.{◌≡◌, ◌≤◌, ◌<◌, length};
+#![tactic(auto)]
+
+ghost use Rattle.std.specs.Prelude.{◌≡◌, ◌≤◌, ◌<◌, length, IfOk};
 
 use base_octets::Number;
-use libc::{STDIN_FILENO, STDOUT_FILENO};
+use std::io;
+use std::io::Read;
 use wire_user::Header;
 
 // A hex digit's value; 0 for what is none.
@@ -47,56 +50,56 @@ fn line_end(text: &[u8], from: usize) -> usize
     i
 }
 
-fn put(text: &[u8]) {
-    io::write_all(STDOUT_FILENO, text);
+fn put(rt: &impl Print, text: &[u8]) -> io::Result<()> {
+    rt.write_all(text)
 }
 
-fn put_number(n: u64) {
-    io::print_decimal(STDOUT_FILENO, n);
+fn put_number(rt: &impl Print, n: u64) -> io::Result<()> {
+    rt.print(n)
 }
 
-fn put_hex(part: &[u8]) {
-    let mut i: usize = 0;
-    while i < part.len() {
-        io::print_hex(STDOUT_FILENO, base_octets::wide(part[i]) as u64, 2);
-        i += 1;
+fn put_hex(rt: &impl Print, part: &[u8]) -> io::Result<()> {
+    for b in part {
+        print!(rt; "{:02x}", *b)?;
     }
+    Ok(())
 }
 
 // What the datagram is, and its payload in hex.
-fn show(d: &[u8]) {
+fn show(rt: &impl Print, d: &[u8]) -> io::Result<()> {
     let mut number: u8 = Number::TAKEN;
     let part = wire_user::payload(d, &mut number);
-    put_number(number as u64);
+    put_number(rt, number as u64)?;
     if number == Number::TAKEN {
         match Header::of(d) {
             Header::Echo { sequence } => {
-                put(b" echo ");
-                put_number(sequence as u64);
+                put(rt, b" echo ")?;
+                put_number(rt, sequence as u64)?;
             }
             Header::Packet { teid } => {
-                put(b" packet ");
-                put_number(teid.0 as u64);
+                put(rt, b" packet ")?;
+                put_number(rt, teid.0 as u64)?;
             }
         }
-        put(b" ");
-        put_hex(part);
+        put(rt, b" ")?;
+        put_hex(rt, part)?;
     }
-    put(b"\n");
+    put(rt, b"\n")
 }
 
 // The number alone, and where the payload begins if it is taken.
-fn mark(d: &[u8]) {
+fn mark(rt: &impl Print, d: &[u8]) -> io::Result<()> {
     let mut number: u8 = Number::TAKEN;
     let part = wire_user::payload(d, &mut number);
-    put(b" ");
-    put_number(number as u64);
+    put(rt, b" ")?;
+    put_number(rt, number as u64)?;
     if number == Number::TAKEN {
-        put(b"@");
+        put(rt, b"@")?;
         if part.len() <= d.len() {
-            put_number((d.len() - part.len()) as u64);
+            put_number(rt, (d.len() - part.len()) as u64)?;
         }
     }
+    Ok(())
 }
 
 // The length set to that of a datagram of n octets, if it is to be right.
@@ -118,16 +121,16 @@ fn set_length(d: &mut [u8], n: usize, right: bool)
 }
 
 // The datagram cut at every octet.
-fn cuts(d: &mut [u8], right: bool)
+fn cuts(rt: &impl Print, d: &mut [u8], right: bool) -> io::Result<()>
     ensures { length d.new ≡ length d.old }
 {
     let mut n: usize = 0;
     while n <= d.len() {
         set_length(d, n, right);
-        mark(&d[0..n]);
+        mark(rt, &d[0..n])?;
         n += 1;
     }
-    put(b"\n");
+    put(rt, b"\n")
 }
 
 fn flagged(first: u8, flags: u8) -> u8 {
@@ -145,36 +148,52 @@ fn set_flags(d: &mut [u8], flags: u8)
 }
 
 // The datagram with each set of those flags.
-fn damaged(d: &mut [u8], right: bool)
+fn damaged(rt: &impl Print, d: &mut [u8], right: bool) -> io::Result<()>
     ensures { length d.new ≡ length d.old }
 {
-    let mut flags: u8 = 0;
-    while flags < 8 {
+    for flags in 0..8u8 {
         set_flags(d, flags);
-        put_number(flags as u64);
-        cuts(d, right);
-        flags += 1;
+        put_number(rt, flags as u64)?;
+        cuts(rt, d, right)?;
     }
+    Ok(())
 }
 
 // One line.
-fn answer(line: &[u8]) {
+fn answer(rt: &impl Print, line: &[u8]) -> io::Result<()> {
     let mut space = [0u8; 256];
     let size = spelled(line, &mut space);
     let d = &mut space[0..size];
-    show(d);
-    damaged(d, false);
-    damaged(d, true);
+    show(rt, d)?;
+    damaged(rt, d, false)?;
+    damaged(rt, d, true)
 }
 
-fn main() {
-    let mut buffer = io::buffer();
-    let n = io::read_full(STDIN_FILENO, &mut buffer);
+// Reads until the buffer is full or the input ends: how many octets were put at its start.
+fn read_full(input: &mut impl Read, buf: &mut [u8]) -> io::Result<usize>
+    ensures room { IfOk result (λ n. n ≤ length buf.new) }
+    ensures left { length buf.new ≡ length buf.old }
+{
+    let mut done: usize = 0;
+    while done < buf.len() {
+        let n = input.read(&mut buf[done..])?;
+        if n == 0 {
+            break;
+        }
+        done += n;
+    }
+    Ok(done)
+}
+
+fn main(rt: HostRuntime) -> io::Result<()> {
+    let mut buffer = [0u8; 4096];
+    let n = read_full(&mut rt.stdin(), &mut buffer)?;
     let text = &buffer[..n];
     let mut from: usize = 0;
     while from < text.len() {
         let end = line_end(text, from);
-        answer(&text[from..end]);
+        answer(&rt, &text[from..end])?;
         from = end + 1;
     }
+    Ok(())
 }
