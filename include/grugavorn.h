@@ -19,11 +19,11 @@
  *
  * The library is proved: every call ends and answers for any octets in any of its arguments, also for a
  * table, a plan or a datagram that makes no sense. It allocates nothing, keeps no static state, calls
- * nothing outside (but memcpy and memset) and writes only to what a call's comment says. What it takes on
- * trust is the C side: that each pointer has as many elements behind it as the count beside it says and is
- * not null, not even for a count of 0, and that the records, the store, the datagram or packet and the reply
- * or output buffer of one call do not overlap where one of them is written to: a packet is not wrapped where
- * it lies.
+ * nothing outside (but memcpy, memmove and memset) and writes only to what a call's comment says. What it
+ * takes on trust is the C side: that each pointer has as many elements behind it as the count beside it
+ * says and is not null, not even for a count of 0, and that the records, the store, the datagram or
+ * packet and the reply or output buffer of one call do not overlap where one of them is written to: a
+ * packet is not wrapped where it lies.
  *
  * Numbers are those of documents 01 and 02 (enum grugavorn_number, docs/NUMBERS.md). Every refusal leaves
  * the records, the store, the node and the reply or output buffer as they were, unless the call's comment or
