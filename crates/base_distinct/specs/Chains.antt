@@ -6,23 +6,17 @@ use Rattle.std.specs.Prelude.{ℕ, ◌+◌, ◌-◌, ◌*◌, ◌/◌, ◌%◌, 
 use Rattle.std.proofs.Common.{sym, ◌∙◌, ap, arith, get_or-set_same, get_or-set_other, eqb-true}
 use Rattle.std.proofs.lemmas.List.{get_or-replicate}
 use Rattle.std.proofs.lemmas.Bool.{eqb-false}
+use Rattle.std.proofs.lemmas.Nat.{mod_below}
 use Rattle.base_octets.specs.Choice.{split}
 use Rattle.base_distinct.specs.Lacks.{lacks, lacks_hit, lacks_on, lacks_end}
 
--- ---- slots: bits of a product, by which near keys and evenly spaced ones come apart
-unfoldable pub few_slot : ℕ → ℕ
-few_slot x = x % 4294967296 * 1023530803 / 16777216 % 256
+-- ---- slots, so many: bits of a product, by which near keys and evenly spaced ones come apart
+unfoldable pub slot_of : ℕ → ℕ → ℕ
+slot_of n x = x % 4294967296 * 1023530803 / (4294967296 / n) % n
 
-pub few_slot_small : (x : ℕ) → few_slot x < 256
-unfolding few_slot
-few_slot_small x = omega arith
-
-unfoldable pub many_slot : ℕ → ℕ
-many_slot x = x % 4294967296 * 1023530803 / 2097152 % 2048
-
-pub many_slot_small : (x : ℕ) → many_slot x < 2048
-unfolding many_slot
-many_slot_small x = omega arith
+pub slot_small : (n x : ℕ) → 0 < n → slot_of n x < n
+unfolding slot_of
+slot_small n x h = mod_below _ n h
 
 -- the key with number j
 abbrev pub key_at : List ℕ → ℕ → ℕ

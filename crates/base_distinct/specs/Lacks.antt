@@ -3,7 +3,10 @@
 -- Assumes nothing.
 use Rattle.std.specs.Prelude.{ℕ, ◌+◌, ◌-◌, ◌<◌, ◌≤◌, Bool, true, false, List, [], ◌∷◌, ◌≡◌, refl, length, drop, get_or, eqb}
 use Rattle.std.proofs.Math.Bool.{not}
-use Rattle.std.proofs.Common.{◌∙◌, arith, eq-eqb, ne_eqb}
+use Rattle.std.specs.List.{list_any}
+use Rattle.std.proofs.Common.{sym, ◌∙◌, arith, eq-eqb, ne_eqb, eqb-true}
+use Rattle.std.proofs.lemmas.Bool.{eqb-false}
+use Rattle.base_octets.specs.Choice.{split}
 use Rattle.base_octets.specs.Every.{every, every_agree, every_stop, every_on, every_end, rest_stop, rest_on, rest_end, rest_fails}
 use Rattle.base_distinct.specs.Apart.{none_clash, pairwise, same_key}
 
@@ -34,6 +37,18 @@ pub none_zero : (l : List ℕ) → none_clash same_key 0 l ≡ true
 unfolding none_clash same_key every
 none_zero [] = refl
 none_zero (y ∷ l) = none_zero l
+
+-- ---- it is what `contains` tells, of a key
+lacks_none : (x : ℕ) (l : List ℕ) → not (list_any (λ y. eqb y x) l) ≡ lacks x l
+unfolding lacks every
+lacks_none x [] = refl
+lacks_none x (y ∷ l) = split (eqb y x) (λ e. rw (e, eq-eqb x y (sym (eqb-true y x e)))) (λ e. rw (e, ne_eqb x y (λ q. eqb-false y x e (sym q)), lacks_none x l))
+
+pub absent_zero : (x : ℕ) (l : List ℕ) → x ≡ 0 → eqb x 0 ≡ none_clash same_key x l
+absent_zero x l e = rw e (sym (none_zero l))
+
+pub absent_rest : (x : ℕ) (l : List ℕ) (r : Bool) → (x ≡ 0 → ⊥) → r ≡ list_any (λ y. eqb y x) l → not r ≡ none_clash same_key x l
+absent_rest x l r h e = rw e (lacks_none x l ∙ sym (none_same x l h))
 
 -- ---- a loop from the end down, going from place i to the place before it
 module _ (l : List ℕ) (i : ℕ) (some : 0 < i) (inside : i ≤ length l) where

@@ -3,180 +3,141 @@
 // Few keys have small chains that are quickly cleared, many have more slots.
 #![tactic(auto)]
 
-ghost use Rattle.std.specs.Prelude.{true, ◌≡◌, ◌-◌, ◌≤◌, length, drop};
+ghost use Rattle.std.specs.Prelude.{ℕ, ◌≡◌, ◌-◌, ◌^◌, ◌<◌, ◌≤◌, length, drop, map};
+ghost use Rattle.std.specs.Mem.{type_size};
 ghost use Rattle.base_distinct.specs.Apart.{none_clash, pairwise, same_key};
-ghost use Rattle.base_distinct.specs.Chains.{Search, few_slot, many_slot};
+ghost use Rattle.base_distinct.specs.Chains.{Search, slot_of};
 ghost use Rattle.base_distinct.specs.Lacks.{lacks};
 
-// Whether x is not among the keys from a place on.
-fn lacks(keys: &[u64], x: u64, from: usize) -> bool
-    ensures { result ≡ lacks x (drop from keys.now) }
-{
-    let mut i = from;
-    while i < keys.len() {
-        if x == keys[i] {
-            return false;
-        }
-        i += 1;
-    }
-    true
-}
-
-// Whether x clashes with no key from a place on.
-fn fresh(keys: &[u64], x: u64, from: usize) -> bool
-    ensures { result ≡ none_clash same_key x (drop from keys.now) }
-{
-    if x == 0 {
-        return true;
-    }
-    lacks(keys, x, from)
-}
-
 // Whether x, if it is a key, is none of the keys.
+#[tactic(auto, using(crate::specs::Lacks::absent_zero, crate::specs::Lacks::absent_rest))]
 pub fn absent(keys: &[u64], x: u64) -> bool
     ensures { result ≡ none_clash same_key x keys.now }
 {
-    if x == 0 {
-        return true;
-    }
-    lacks(keys, x, 0)
+    x == 0 || !keys.contains(&x)
 }
 
-// The slot of a key among 256.
-fn few_slot(x: u64) -> usize
-    ensures { result ≡ few_slot x }
+// The number of a key, in as few octets as serve. The type's last number is past each key, and ends a chain.
+trait Link: Copy {
+    const END: usize;
+
+    ghost END: { ℕ };
+
+    ghost number: { Self → ℕ };
+
+    fn of(n: usize) -> Self
+        requires { n ≤ END }
+        ensures { number result ≡ n };
+
+    fn number(self) -> usize
+        ensures { result ≡ number self };
+}
+
+impl Link for u8 {
+    const END: usize = u8::MAX as usize;
+
+    ghost END = { 255 };
+
+    ghost number = { λ n. n };
+
+    fn of(n: usize) -> u8 {
+        n as u8
+    }
+
+    fn number(self) -> usize {
+        usize::from(self)
+    }
+}
+
+impl Link for u16 {
+    const END: usize = u16::MAX as usize;
+
+    ghost END = { 65535 };
+
+    ghost number = { λ n. n };
+
+    fn of(n: usize) -> u16 {
+        n as u16
+    }
+
+    fn number(self) -> usize {
+        usize::from(self)
+    }
+}
+
+// The slot of a key: bits of a product.
+#[tactic(auto, unfolding(crate::specs::Chains::slot_of))]
+fn slot_of<const SLOTS: usize>(x: u64) -> usize
+    requires some { 0 < SLOTS }
+    requires most { SLOTS ≤ 2 ^ 32 }
+    ensures { result ≡ slot_of SLOTS x }
 {
-    (x % 4294967296 * 1023530803 / 16777216 % 256) as usize
+    let slots = SLOTS as u64;
+    (x % (1 << 32) * 1023530803 / ((1 << 32) / slots) % slots) as usize
 }
 
 // Whether x is none of the keys from a number on, by the chain that starts there.
-fn few_lack(keys: &[u64], links: &[u8], x: u64, from: u8) -> bool
-    requires { Search few_slot keys.now links.now x from }
+fn chain_lacks<L: Link, const SLOTS: usize>(keys: &[u64], links: &[L], x: u64, from: usize) -> bool
+    requires { Search (slot_of SLOTS) keys.now (map L.number links.now) x from }
     ensures { result ≡ lacks x (drop (from - 1) keys.now) }
 {
-    let mut j = base_octets::wide(from);
+    let mut j = from;
     while j <= keys.len() {
         if x == keys[j - 1] {
             return false;
         }
-        j = base_octets::wide(links[j]);
+        j = links[j].number();
     }
     true
 }
 
-// Whether no two of at most 128 keys are the same.
-fn few_differ(keys: &[u64]) -> bool
-    requires { length keys.now ≤ 128 }
+// Whether no two of fewer keys than there are links are the same. It is no part of its caller, so that few keys have no stack that
+// many need.
+// Kept: the chains are arrays beside the keys, of the fewest octets: a store of every message clears them, and there is no heap.
+#[inline(never)]
+fn chained_differ<L: Link, const SLOTS: usize, const LINKS: usize>(keys: &[u64]) -> bool
+    requires some { 0 < SLOTS }
+    requires most { SLOTS ≤ 2 ^ 32 }
+    requires room { length keys.now < LINKS }
+    requires numbered { LINKS ≤ L.END }
+    requires few { LINKS ≤ 2 ^ 32 }
+    requires narrow { type_size L.row ≤ 8 }
     ensures { result ≡ pairwise same_key keys.now }
 {
-    let mut heads = [255u8; 256];
-    let mut links = [255u8; 129];
-    let mut i = keys.len();
-    while 0 < i {
-        let x = keys[i - 1];
+    let mut heads = [L::of(L::END); SLOTS];
+    let mut links = [L::of(L::END); LINKS];
+    for at in (0..keys.len()).rev() {
+        let x = keys[at];
         if x != 0 {
-            let h = few_slot(x);
+            let h = slot_of::<SLOTS>(x);
             let first = heads[h];
-            heads[h] = i as u8;
-            if first != 255 {
-                let ok = few_lack(keys, &links, x, first);
-                if !ok {
+            heads[h] = L::of(at + 1);
+            if first.number() != L::END {
+                if !chain_lacks::<L, SLOTS>(keys, &links, x, first.number()) {
                     return false;
                 }
-                links[i] = first;
+                links[at + 1] = first;
             }
         }
-        i -= 1;
     }
     true
 }
 
-// A number of two octets as a place.
-fn wide(n: u16) -> usize
-    ensures { result ≡ n }
-{
-    n as usize
-}
-
-// The slot of a key among 2,048.
-fn many_slot(x: u64) -> usize
-    ensures { result ≡ many_slot x }
-{
-    (x % 4294967296 * 1023530803 / 2097152 % 2048) as usize
-}
-
-// Whether x is none of the keys from a number on, by the chain that starts there.
-fn many_lack(keys: &[u64], links: &[u16], x: u64, from: u16) -> bool
-    requires { Search many_slot keys.now links.now x from }
-    ensures { result ≡ lacks x (drop (from - 1) keys.now) }
-{
-    let mut j = wide(from);
-    while j <= keys.len() {
-        if x == keys[j - 1] {
-            return false;
-        }
-        j = wide(links[j]);
-    }
-    true
-}
-
-// Whether no two of at most 1,024 keys are the same.
-fn many_differ(keys: &[u64]) -> bool
-    requires { length keys.now ≤ 1024 }
-    ensures { result ≡ pairwise same_key keys.now }
-{
-    let mut heads = [65535u16; 2048];
-    let mut links = [65535u16; 1025];
-    let mut i = keys.len();
-    while 0 < i {
-        let x = keys[i - 1];
-        if x != 0 {
-            let h = many_slot(x);
-            let front = heads[h];
-            heads[h] = i as u16;
-            if front != 65535 {
-                let ok = many_lack(keys, &links, x, front);
-                if !ok {
-                    return false;
-                }
-                links[i] = front;
-            }
-        }
-        i -= 1;
-    }
-    true
-}
-
-// Whether no two of any number of keys are the same: the last 1,024 by their chains, those before by a search each.
-// It calls itself so that no compiler puts its large arrays where there are few keys.
-fn all_differ(keys: &[u64]) -> bool
-    ensures { result ≡ pairwise same_key keys.now }
-{
-    if keys.len() <= 1024 {
-        return many_differ(keys);
-    }
-    let mut i = keys.len() - 1024;
-    let last = all_differ(&keys[i..]);
-    if !last {
-        return false;
-    }
-    while 0 < i {
-        let x = keys[i - 1];
-        let ok = fresh(keys, x, i);
-        if !ok {
-            return false;
-        }
-        i -= 1;
-    }
-    true
-}
-
-// Whether no two keys are the same.
+// Whether no two keys are the same: the last 1,024 by their chains, those before by a search each.
 pub fn distinct(keys: &[u64]) -> bool
     ensures { result ≡ pairwise same_key keys.now }
 {
     if keys.len() <= 128 {
-        return few_differ(keys);
+        return chained_differ::<u8, 256, 129>(keys);
     }
-    all_differ(keys)
+    let last = keys.len().saturating_sub(1024);
+    if !chained_differ::<u16, 2048, 1025>(&keys[last..]) {
+        return false;
+    }
+    for i in (0..last).rev() {
+        if !absent(&keys[i + 1..], keys[i]) {
+            return false;
+        }
+    }
+    true
 }

@@ -1,14 +1,12 @@
 -- Decimal text: a number with zeros in front up to a width, and the number of at most 255 that digits write. What is written reads
 -- back, for every width and every number of digits.
 -- Assumes nothing.
-use Rattle.std.specs.Prelude.{ℕ, zero, suc, ◌+◌, ◌*◌, ◌-◌, ◌/◌, ◌%◌, ◌^◌, ◌<◌, ◌≤◌, min, Bool, true, false, ◌&&◌, ◌||◌, List, [], ◌∷◌, ◌++◌, ◌≡◌, refl, length, drop, get_or, eqb, ltb, leb}
+use Rattle.std.specs.Prelude.{ℕ, zero, suc, ◌+◌, ◌*◌, ◌-◌, ◌/◌, ◌%◌, ◌^◌, ◌<◌, ◌≤◌, Bool, true, false, ◌&&◌, ◌||◌, List, [], ◌∷◌, ◌++◌, ◌≡◌, refl, length, drop, get_or, eqb, ltb, leb, Option, Some, None}
 use Rattle.std.proofs.Common.{sym, ◌∙◌, pow-suc, arith, drop_of_length-le, length-append}
-use borrow.Author.Tests.{leb-true, leb-false, ltb-true, ltb-false, le-ltb, le-leb, lt-leb}
-use Rattle.base_octets.specs.Choice.{pick, split, impossible, and_left, and_no}
+use borrow.Author.Tests.{leb-false, le-ltb, le-leb, lt-leb}
+use Rattle.base_octets.specs.Choice.{pick, split, impossible, and_no}
 use Rattle.base_octets.specs.Every.{every, every_stop}
 use Rattle.base_octets.specs.Places.{next_of}
-use Rattle.base_numerals.specs.declared.Numeral.{Numeral}
-use Rattle.base_numerals.specs.declared.Numeral.TheVariants as N
 
 -- the last digits of n, at most k of them and at least w
 unfoldable pub digits : ℕ → ℕ → ℕ → List ℕ
@@ -62,16 +60,12 @@ value_from n (c ∷ l) = value_from (n * 10 + (c - 48)) l
 unfoldable pub value_of : List ℕ → ℕ
 value_of l = value_from 0 l
 
-unfoldable pub read_from : ℕ → List ℕ → Numeral
-read_from n l = pick (every is_digit l && leb (value_from n l) 255) (N.Is (value_from n l)) N.Not
+unfoldable pub read_from : ℕ → List ℕ → Option ℕ
+read_from n l = pick (every is_digit l && leb (value_from n l) 255) (Some (value_from n l)) None
 
 -- digits, one or more, and the number at most 255
-unfoldable pub number_in : List ℕ → Numeral
-number_in l = pick (eqb (length l) 0) N.Not (read_from 0 l)
-
--- what was read, with a digit more; 256 stands for all that is over 255
-unfoldable pub with_digit : ℕ → ℕ → ℕ
-with_digit n c = pick {A = ℕ} (leb 256 n || ltb c 48) 256 (min (n * 10 + (c - 48)) 256)
+unfoldable pub number_in : List ℕ → Option ℕ
+number_in l = pick (eqb (length l) 0) None (read_from 0 l)
 
 -- ---- laws of the reading loop, which has come to place i with n read
 value_most : (n : ℕ) (l : List ℕ) → n ≤ value_from n l
@@ -79,53 +73,29 @@ unfolding value_from
 value_most n [] = omega arith
 value_most n (c ∷ l) = let r = value_most (n * 10 + (c - 48)) l in omega arith
 
--- over 255 it stays, so that the number that stands for it serves as well
-over : (n m : ℕ) (l : List ℕ) → 255 < n → 255 < m → read_from n l ≡ read_from m l
+over : (n : ℕ) (l : List ℕ) → 255 < n → read_from n l ≡ None
 unfolding read_from
-over n m l h g =
-    let a = value_most n l in
-    let b = value_most m l in
-    rw (lt-leb (value_from n l) 255 (omega arith), lt-leb (value_from m l) 255 (omega arith), and_no (every is_digit l))
+over n l h = let a = value_most n l in rw (lt-leb (value_from n l) 255 (omega arith), and_no (every is_digit l))
 
-with_fits : (n c : ℕ) → n < 256 → 48 ≤ c → with_digit n c ≡ min (n * 10 + (c - 48)) 256
-unfolding with_digit
-with_fits n c h g = rw (lt-leb 256 n h, le-ltb c 48 g)
+next_digit : (n c : ℕ) (l : List ℕ) → is_digit c ≡ true → read_from n (c ∷ l) ≡ read_from (n * 10 + (c - 48)) l
+unfolding read_from every value_from
+next_digit n c l e = rw e
 
-with_over : (n c : ℕ) → 256 ≤ n → with_digit n c ≡ 256
-unfolding with_digit
-with_over n c h = rw (le-leb 256 n h)
-
-taken : (n c : ℕ) (l : List ℕ) → 48 ≤ c → read_from (n * 10 + (c - 48)) l ≡ read_from (with_digit n c) l
-taken n c l g =
-    split (ltb n 256)
-    (λ e. let h = ltb-true n 256 e in
-    split (ltb (n * 10 + (c - 48)) 256)
-    (λ f. let k = ltb-true (n * 10 + (c - 48)) 256 f in
-    let z : with_digit n c ≡ n * 10 + (c - 48) = with_fits n c h g ∙ omega arith in rw z)
-    (λ f. let k = ltb-false (n * 10 + (c - 48)) 256 f in
-    let z : with_digit n c ≡ 256 = with_fits n c h g ∙ omega arith in rw z (over _ 256 l (omega arith) (omega arith))))
-    (λ e. let h = ltb-false n 256 e in rw (with_over n c h) (over _ 256 l (omega arith) (omega arith)))
-
-read_digit : (n c : ℕ) (l : List ℕ) → is_digit c ≡ true → read_from n (c ∷ l) ≡ read_from (with_digit n c) l
-unfolding read_from every value_from is_digit
-read_digit n c l e = rw e (taken n c l (leb-true 48 c (and_left (leb 48 c) (leb c 57) e)))
-
-module _ (l : List ℕ) (i n : ℕ) (d : ℕ) where
-  pub read_stop : i < length l → is_digit (get_or l i d) ≡ false → read_from n (drop i l) ≡ N.Not
+module _ (l : List ℕ) (i n : ℕ) (d : ℕ) (h : i < length l) where
+  pub read_stop : is_digit (get_or l i d) ≡ false → read_from n (drop i l) ≡ None
   unfolding read_from
-  read_stop h e = rw (every_stop l i is_digit d h e)
+  read_stop e = rw (every_stop l i is_digit d h e)
 
-  pub read_on : i < length l → is_digit (get_or l i d) ≡ true → read_from n (drop i l) ≡ read_from (with_digit n (get_or l i d)) (drop (i + 1) l)
-  read_on h e = rw (next_of l i d h) (read_digit n (get_or l i d) (drop (i + 1) l) e)
+  module _ (e : is_digit (get_or l i d) ≡ true) where
+    pub read_on : read_from n (drop i l) ≡ read_from (n * 10 + (get_or l i d - 48)) (drop (i + 1) l)
+    read_on = rw (next_of l i d h) (next_digit n (get_or l i d) (drop (i + 1) l) e)
 
-module _ (l : List ℕ) (i n : ℕ) where
-  pub read_big : length l ≤ i → 255 < n → read_from n (drop i l) ≡ N.Not
-  unfolding read_from every value_from
-  read_big h g = rw (drop_of_length-le l, lt-leb n 255 g)
+    pub read_over : 255 < n * 10 + (get_or l i d - 48) → read_from n (drop i l) ≡ None
+    read_over g = read_on ∙ over (n * 10 + (get_or l i d - 48)) (drop (i + 1) l) g
 
-  pub read_end : length l ≤ i → n ≤ 255 → read_from n (drop i l) ≡ N.Is n
-  unfolding read_from every value_from
-  read_end h g = rw (drop_of_length-le l, le-leb n 255 g)
+pub read_end : (l : List ℕ) (i n : ℕ) → length l ≤ i → n ≤ 255 → read_from n (drop i l) ≡ Some n
+unfolding read_from every value_from
+read_end l i n h g = rw (drop_of_length-le l, le-leb n 255 g)
 
 -- ---- the round trip
 value_last : (n : ℕ) (l : List ℕ) (c : ℕ) → value_from n (l ++ (c ∷ [])) ≡ value_from n l * 10 + (c - 48)

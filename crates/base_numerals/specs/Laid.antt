@@ -2,11 +2,12 @@
 -- is at most the buffer's end. So every writer is total, and pieces written one after another are one text (`laid_on`).
 -- Assumes nothing.
 use Prim.Native.Nat.{ℕ, zero, suc, ◌+◌, ◌<◌, ◌≤◌, min}
-use Rattle.std.specs.Prelude.{List, [], ◌∷◌, ◌++◌, ◌≡◌, refl, set}
-use Rattle.std.proofs.Common.{ap, add-zero, length-append}
+use Rattle.std.specs.Prelude.{◌-◌, List, [], ◌∷◌, ◌++◌, ◌≡◌, refl, take, drop, set}
+use Rattle.std.proofs.Common.{ap, add-zero, append-nil, length-append, length-drop, drop_of_length-le}
 use native.Mathlib.Omega.{arith}
 use Rattle.std.proofs.Math.ListN.{length}
 use Rattle.base_octets.specs.Overlay.{overlay, length-overlay}
+use Rattle.base_octets.specs.Places.{tail_part}
 
 unfoldable pub lay_at : ℕ → List ℕ → List ℕ → List ℕ
 lay_at zero m d = overlay m d
@@ -107,6 +108,26 @@ module _ (at c : ℕ) (d : List ℕ) where
   pub laid_out : length d ≤ at → written (length d) d ≡ laid at (c ∷ []) d
   unfolding laid
   laid_out h = let n : min (at + 1) (length d) ≡ length d = omega arith in rw (n, lay_past at (c ∷ []) d h)
+
+-- ---- the text laid over what is behind the place
+lay_part : (k : ℕ) (m d : List ℕ) → take (min k (length d)) d ++ overlay m (drop (min k (length d)) d) ≡ lay_at k m d
+unfolding lay_at overlay
+lay_part zero m d = let z : min 0 (length d) ≡ 0 = omega arith in rw z
+lay_part (suc k) [] [] = let z : min (suc k) 0 ≡ 0 = omega arith in rw z
+lay_part (suc k) (x ∷ m) [] = let z : min (suc k) 0 ≡ 0 = omega arith in rw z
+lay_part (suc k) m (y ∷ d) =
+    let z : min (suc k) (suc (length d)) ≡ suc (min k (length d)) = omega arith in
+    rw z (ap (λ (l : List ℕ). y ∷ l) (lay_part k m d))
+
+-- `&mut out[n..]` is lent to be written
+pub laid_part : (at n r : ℕ) (m d x : List ℕ) → n ≡ min at (length d) → x ≡ overlay m (take (length d - n) (drop n d)) → r ≡ min (length d) (n + length m)
+    → written r (take n d ++ (x ++ drop (length d - n) (drop n d))) ≡ laid at m d
+unfolding laid
+laid_part at n r m d x e f g =
+    let p : r ≡ min (at + length m) (length d) = omega arith in
+    let l = length-drop n d in
+    let y : drop (length d - n) (drop n d) ≡ [] = drop_of_length-le (drop n d) {i = length d - n} (omega arith) in
+    rw (p, y, append-nil x, f, tail_part d n, e, lay_part at m d)
 
 -- from the front: text that fits, then the rest as lent
 pub laid-front : (m d : List ℕ) → length m ≤ length d → laid 0 m d ≡ written (length m) (overlay m d)

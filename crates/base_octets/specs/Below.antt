@@ -5,7 +5,7 @@ use Rattle.std.specs.Prelude.{ℕ, zero, suc, ◌+◌, ◌<◌, ◌≤◌, Bool,
 use Rattle.std.proofs.Common.{sym, ◌∙◌, add-one, arith, eqb-true, ne_eqb, ltb-true, ltb-false}
 use Rattle.std.proofs.lemmas.Bool.{eqb-false}
 use mir.Val.{bool_byte}
-use Rattle.base_octets.specs.Choice.{split, impossible, and_left, and_right}
+use Rattle.base_octets.specs.Choice.{split, impossible, and_left, and_right, and_no}
 use Rattle.base_octets.specs.Sums.{sum_of}
 
 -- f 0 + .. + f (n - 1)
@@ -63,6 +63,11 @@ to_front f zero = refl
 to_front f (suc n) = let r = to_front f n in omega arith
 
 -- the places of a list are numbers: a sum over them, and on past its end, is the sum over the list
+pub all_front : (p : ℕ → Bool) (n : ℕ) → all_to p (suc n) ≡ (p 0 && all_to (λ k. p (suc k)) n)
+unfolding all_to
+all_front p zero = refl
+all_front p (suc n) = let r = all_front p n in split (p (suc n)) (λ e. rw e r) (λ e. rw (e, and_no (p 0)))
+
 pub to_list : {A : Type 0} (f : A → ℕ) (l : List A) (n : ℕ) → length l ≤ n → sum_to (λ k. get_or (map f l) k 0) n ≡ sum_of f l
 unfolding sum_of
 to_list f [] n h = to_none n

@@ -1,6 +1,7 @@
 -- Numbers as octets, the most significant first, for every width; the round trips are proved once, over the width.
 -- Assumes nothing.
 use Rattle.std.specs.Prelude.{ℕ, zero, suc, ◌+◌, ◌*◌, ◌/◌, ◌%◌, ◌^◌, ◌<◌, Bool, List, [], ◌∷◌, ◌++◌, ◌≡◌, refl, length, ltb}
+use Rattle.std.specs.Int.{w32, from_be_bytes}
 use Rattle.std.proofs.Common.{pow-suc, arith, length-append}
 
 -- the number that the octets write, behind what was read before
@@ -23,6 +24,16 @@ pub length_octets : (w n : ℕ) → length (octets_of w n) ≡ w
 unfolding octets_of
 length_octets zero n = refl
 length_octets (suc w) n = let r = length_octets w (n / 256) in simp length-append (omega arith)
+
+-- ---- it is what `from_be_bytes` reads
+pub number_four : (l : List ℕ) → length l ≡ 4 → from_be_bytes w32 l ≡ number_of l
+unfolding number_of number_from
+number_four [] h = absurd (omega arith)
+number_four (a ∷ []) h = absurd (omega arith)
+number_four (a ∷ b ∷ []) h = absurd (omega arith)
+number_four (a ∷ b ∷ c ∷ []) h = absurd (omega arith)
+number_four (a ∷ b ∷ c ∷ d ∷ []) h = omega arith
+number_four (a ∷ b ∷ c ∷ d ∷ e ∷ l) h = absurd (omega arith)
 
 number_last : (n : ℕ) (l : List ℕ) (x : ℕ) → number_from n (l ++ (x ∷ [])) ≡ number_from n l * 256 + x
 unfolding number_from

@@ -8,6 +8,7 @@ use Rattle.std.proofs.Math.Path.{refl}
 use Rattle.std.proofs.Math.Numerals.{add-one}
 use Rattle.std.proofs.Common.{arith, drop_of_length-le}
 use Rattle.std.proofs.Math.Seq.{drop-cons}
+use Rattle.std.specs.List.{list_all}
 use Rattle.base_octets.specs.Choice.{and_left, and_right, and_no}
 
 unfoldable pub every : {A : Type 0} → (A → Bool) → List A → Bool
@@ -43,6 +44,12 @@ module _ {A : Type 0} (l : List A) (i : ℕ) where
   pub rest_end : (p : A → List A → Bool) → length l ≤ i → every_rest p (drop i l) ≡ true
   unfolding every_rest
   rest_end p h = rw (drop_of_length-le l)
+
+-- ---- it is what an iterator's `all` tests
+pub every_all : {A : Type 0} (p : A → Bool) (l : List A) → list_all p l ≡ every p l
+unfolding every
+every_all p [] = refl
+every_all p (x ∷ l) = rw (every_all p l)
 
 module _ {A : Type 0} where
   -- what fails for a rest fails for the whole

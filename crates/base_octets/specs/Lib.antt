@@ -8,3 +8,4 @@ pub mod Places
 pub mod Same
 pub mod Overlay
 pub mod BigEndian
+pub mod Refused

@@ -49,6 +49,18 @@ overlay_full [] b d h = absurd (omega arith)
 overlay_full (x ∷ a) b [] h = refl
 overlay_full (x ∷ a) b (y ∷ d) h = ap (λ (l : List ℕ). x ∷ l) (overlay_full a b d (omega arith))
 
+-- ---- the copy of as many octets as both have
+copied : (m d : List ℕ) → take (min (length m) (length d)) m ++ drop (min (length m) (length d)) d ≡ overlay m d
+unfolding overlay
+copied [] d = let z : min 0 (length d) ≡ 0 = omega arith in rw z
+copied (x ∷ m) [] = let z : min (suc (length m)) 0 ≡ 0 = omega arith in rw z
+copied (x ∷ m) (y ∷ d) =
+    let z : min (suc (length m)) (suc (length d)) ≡ suc (min (length m) (length d)) = omega arith in
+    rw z (ap (λ (l : List ℕ). x ∷ l) (copied m d))
+
+pub overlay_copied : (m d c : List ℕ) (n : ℕ) → n ≡ min (length m) (length d) → c ≡ take n m → c ++ drop n d ≡ overlay m d
+overlay_copied m d c n e f = rw (f, e) (copied m d)
+
 -- ---- the copying loop that has come to place i
 pub overlay_none : (m d : List ℕ) → overlay (take 0 m) d ≡ d
 unfolding overlay

@@ -2,8 +2,9 @@
 -- does nothing where there is none. The laws of a searching loop, and what the search says of counts.
 -- Assumes nothing.
 use Prim.Native.Nat.{ℕ, zero, suc, ◌+◌, ◌<◌, ◌≤◌}
-use Rattle.std.specs.Prelude.{Bool, true, false, not, ◌≡◌, length, drop, get_or, set, ltb}
+use Rattle.std.specs.Prelude.{Bool, true, false, not, ◌≡◌, length, drop, get_or, set, ltb, Some, None, unwrap_or, min, ◌-◌}
 use mathlib.Core.List.{List, [], ◌∷◌}
+use Rattle.std.specs.List.{position, position_or_len}
 use Rattle.std.proofs.Math.Path.{refl}
 use Rattle.std.proofs.Common.{sym, drop_of_length-le, drop-cons, ltb-true, ltb-false}
 use Rattle.std.proofs.Math.Numerals.{add-one}
@@ -16,6 +17,18 @@ use Rattle.base_octets.specs.Sums.{sum_of, count_of, sum_set}
 unfoldable pub first_of : {A : Type 0} → (A → Bool) → List A → ℕ
 first_of p [] = 0
 first_of p (x ∷ l) = pick {A = ℕ} (p x) 0 (suc (first_of p l))
+
+-- ---- it is what an iterator's `position` finds
+pub first_len : {A : Type 0} (p : A → Bool) (l : List A) → position_or_len p l ≡ first_of p l
+unfolding first_of
+first_len p [] = refl
+first_len p (x ∷ l) = split (p x) (λ e. rw e) (λ e. rw (e, first_len p l) (omega arith))
+
+pub first_position : {A : Type 0} (p : A → Bool) (l : List A) → position p l ≡ pick (ltb (first_of p l) (length l)) (Some (first_of p l)) None
+first_position p l = rw (first_len p l)
+
+pub first_or : {A : Type 0} (p : A → Bool) (l : List A) (n : ℕ) → unwrap_or (position p l) n ≡ pick {A = ℕ} (ltb (first_of p l) (length l)) (first_of p l) n
+first_or p l n = rw (first_position p l) (split (ltb (first_of p l) (length l)) (λ e. rw e) (λ e. rw e))
 
 -- ---- a loop that has come to place i: the whole search is i and the search in the rest
 module _ {A : Type 0} (p : A → Bool) (l : List A) (i : ℕ) where
@@ -36,6 +49,20 @@ module _ {A : Type 0} (p : A → Bool) where
   unfolding first_of
   first_most [] = omega arith
   first_most (x ∷ l) = let r = first_most l in split (p x) (λ e. rw e (omega arith)) (λ e. rw e (omega arith))
+
+  pub first_or_last : (l : List A) → unwrap_or (position p l) (length l - 1) ≡ min (first_of p l) (length l - 1)
+  first_or_last l =
+      let m = first_most l in
+      rw (first_or p l (length l - 1))
+      (split (ltb (first_of p l) (length l))
+      (λ e. let h = ltb-true (first_of p l) (length l) e in rw e (omega arith))
+      (λ e. let h = ltb-false (first_of p l) (length l) e in rw e (omega arith)))
+
+  pub first_or_none : (l : List A) → unwrap_or (position p l) (length l) ≡ first_of p l
+  first_or_none l =
+      let m = first_most l in
+      rw (first_or p l (length l))
+      (split (ltb (first_of p l) (length l)) (λ e. rw e) (λ e. let h = ltb-false (first_of p l) (length l) e in rw e (omega arith)))
 
   pub first_passes : (l : List A) (d : A) → first_of p l < length l → p (get_or l (first_of p l) d) ≡ true
   unfolding first_of

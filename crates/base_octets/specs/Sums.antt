@@ -4,6 +4,7 @@
 use Prim.Native.Nat.{ℕ, zero, suc, ◌+◌, ◌*◌, ◌<◌, ◌≤◌}
 use Rattle.std.specs.Prelude.{Bool, true, ◌≡◌, length, drop, get_or, set, replicate}
 use mathlib.Core.List.{List, [], ◌∷◌, map}
+use Rattle.std.specs.List.{fold, sum, sum_by}
 use Rattle.std.proofs.Math.Path.{refl}
 use Rattle.std.proofs.Common.{add-one, drop_of_length-le}
 use native.Mathlib.Omega.{arith}
@@ -19,6 +20,15 @@ sum_of f (x ∷ l) = f x + sum_of f l
 -- how many pass
 abbrev pub count_of : {A : Type 0} → (A → Bool) → List A → ℕ
 count_of p l = sum_of (λ x. bool_byte (p x)) l
+
+-- ---- it is what an iterator's `sum` adds
+sum_fold : {A : Type 0} (f : A → ℕ) (n : ℕ) (l : List A) → fold (λ a x. a + f x) n l ≡ n + sum_of f l
+unfolding sum_of
+sum_fold f n [] = omega arith
+sum_fold f n (x ∷ l) = let r = sum_fold f (n + f x) l in omega arith
+
+pub sum_by_of : {A : Type 0} (f : A → ℕ) (l : List A) → sum_by f l ≡ sum_of f l
+sum_by_of f l = let r = sum_fold f 0 l in omega arith
 
 -- ---- a loop that has come to place i
 module _ {A : Type 0} (f : A → ℕ) (l : List A) (i : ℕ) where

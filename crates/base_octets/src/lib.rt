@@ -2,12 +2,17 @@
 // of a message into a lent buffer. The laws on lists and numbers that every layer cites are in specs/.
 #![tactic(auto)]
 
-ghost use Rattle.std.specs.Prelude.{[], ◌∷◌, ◌≡◌, min};
+ghost use Rattle.std.specs.Prelude.{[], ◌∷◌, ◌≡◌};
 ghost use Rattle.base_octets.specs.BigEndian.{number_of, octets_of};
 ghost use Rattle.base_octets.specs.Overlay.{overlay};
 ghost use Rattle.base_octets.specs.Same.{same_octets};
 
-// The numbers that come back, by name (document 01's table). A cause is a number too: those are named in crate readers.
+mod refused;
+
+pub use refused::Refused;
+
+// The numbers that come back, by name. A cause is a number too: wire_fields has them, as its Refusal.
+// Kept: C sees these as numbers, under the names of include/grugavorn.h.
 #[derive(Clone, Copy)]
 pub struct Number {}
 
@@ -73,76 +78,49 @@ impl Number {
     pub const OUTPUT_SHORT: u8 = 20;
 }
 
-// An octet as a count or a place.
-pub fn wide(b: u8) -> usize
-    ensures { result ≡ b }
-{
-    b as usize
-}
-
 // The number that two, three and four octets write, the most significant first.
+#[tactic(auto, unfolding(crate::specs::BigEndian::number_of, crate::specs::BigEndian::number_from))]
 pub fn be16(a: u8, b: u8) -> u16
     ensures { result ≡ number_of (a ∷ b ∷ []) }
 {
-    a as u16 * 256 + b as u16
+    u16::from_be_bytes([a, b])
 }
 
+#[tactic(auto, unfolding(crate::specs::BigEndian::number_of, crate::specs::BigEndian::number_from))]
 pub fn be24(a: u8, b: u8, c: u8) -> u32
     ensures { result ≡ number_of (a ∷ b ∷ c ∷ []) }
 {
-    (a as u32 * 256 + b as u32) * 256 + c as u32
+    u32::from_be_bytes([0, a, b, c])
 }
 
+#[tactic(auto, unfolding(crate::specs::BigEndian::number_of, crate::specs::BigEndian::number_from))]
 pub fn be32(a: u8, b: u8, c: u8, d: u8) -> u32
     ensures { result ≡ number_of (a ∷ b ∷ c ∷ d ∷ []) }
 {
-    ((a as u32 * 256 + b as u32) * 256 + c as u32) * 256 + d as u32
+    u32::from_be_bytes([a, b, c, d])
 }
 
 // The octets of a number.
+#[tactic(auto, unfolding(crate::specs::BigEndian::octets_of))]
 pub fn octets32(n: u32) -> [u8; 4]
     ensures { result ≡ octets_of 4 n }
 {
-    [
-        (n / 256 / 256 / 256 % 256) as u8,
-        (n / 256 / 256 % 256) as u8,
-        (n / 256 % 256) as u8,
-        (n % 256) as u8,
-    ]
+    n.to_be_bytes()
 }
 
 // Whether two runs of octets are the same.
+#[tactic(auto, using(crate::specs::Same::same_slices))]
 pub fn same_octets(a: &[u8], b: &[u8]) -> bool
     ensures { result ≡ same_octets a.now b.now }
 {
-    if a.len() != b.len() {
-        return false;
-    }
-    let mut i: usize = 0;
-    while i < a.len() {
-        if a[i] != b[i] {
-            return false;
-        }
-        i += 1;
-    }
-    true
-}
-
-// The lesser of two.
-pub fn least(a: usize, b: usize) -> usize
-    ensures { result ≡ min a b }
-{
-    if a < b { a } else { b }
+    a == b
 }
 
 // The message laid over the front of the buffer; the octets past it stay.
+#[tactic(auto, using(crate::specs::Overlay::overlay_copied))]
 pub fn copy_front(message: &[u8], buffer: &mut [u8])
     ensures { buffer.new ≡ overlay message.now buffer.old }
 {
-    let n = least(message.len(), buffer.len());
-    let mut i: usize = 0;
-    while i < n {
-        buffer[i] = message[i];
-        i += 1;
-    }
+    let n = message.len().min(buffer.len());
+    buffer[..n].copy_from_slice(&message[..n]);
 }

@@ -1,37 +1,60 @@
--- The program's buffer of 65,536 octets is emptied wherever there is no room for a line, so that no line's output is ever cut (`run_whole`).
+-- The program's output buffer of 65,536 octets is emptied wherever there is no room for a line, so that no line's output is ever cut (`run_whole`).
 -- Assumes nothing.
 use Rattle.std.specs.Prelude.{ℕ, ◌+◌, ◌-◌, ◌≤◌, Bool, true, false, not, ◌||◌, List, [], ◌++◌, ◌≡◌, refl, length, take, drop, get_or, eqb}
-use Rattle.std.proofs.Common.{ap, ◌∙◌, arith, length-append}
+use Rattle.std.proofs.Common.{ap, ◌∙◌, arith, length-append, length-take, length-drop}
 use Rattle.base_octets.specs.Choice.{pick, split}
 use Rattle.unit_tunnel.specs.Numbering.{places}
 use Rattle.unit_session.specs.declared.Session.{Session}
 use Rattle.call_own.specs.Outcome.{least_reply}
+use Rattle.bench_unit.specs.declared.Phase.{Phase}
+use Rattle.bench_unit.specs.declared.Phase.TheVariants as P
 use Rattle.bench_unit.specs.declared.Bench.{Bench}
-use Rattle.bench_unit.specs.State.{Ran, ran, first_phase, plans, runs, bench_start, with_line, with_made}
+use Rattle.bench_unit.specs.declared.Run.{Run}
+use Rattle.bench_unit.specs.State.{Ran, ran, bench_start, with_line, with_made}
 use Rattle.bench_unit.specs.Ended.{end_of_input}
 use Rattle.bench_unit.specs.Whole.{Adds, adds_on, adds_within, adds_whole, end_prints, place_room, end_adds, end_most}
 use Rattle.bench_run.specs.Taken.{line_taken}
-use Rattle.bench_run.specs.Whole.{line_prints, told_prints, early_prints, line_adds, line_most, first_most, line_room}
+use Rattle.bench_run.specs.Whole.{line_prints, told_prints, told_prints_by, line_adds, line_most, first_most, line_room}
+
+-- the octets of the buffer
+abbrev pub buffer_octets : ℕ
+buffer_octets = 65536
 
 -- what may stand in the buffer where a line is taken
 unfoldable pub most_made : ℕ
-most_made = 65536 - line_room
+most_made = buffer_octets - line_room
 
-room-left : most_made + line_room ≤ 65536
+room-left : most_made + line_room ≤ buffer_octets
 unfolding most_made line_room place_room least_reply places
 room-left = omega arith
+
+-- an output buffer with room for a line
+abbrev pub HasRoom : Run → Type 0
+HasRoom r = (r.bench.made ≤ most_made) × (buffer_octets ≤ length r.out.now)
+
+abbrev pub is_first : Phase → Bool
+is_first P.First = true
+is_first P.Plan = false
+is_first P.Runs = false
+is_first P.Over = false
+
+pub not_first : (p : Phase) → (p ≡ P.First → ⊥) → is_first p ≡ false
+not_first P.First h = absurd (h refl)
+not_first P.Plan h = refl
+not_first P.Runs h = refl
+not_first P.Over h = refl
 
 -- of many runs one after another, N behind the first line ends the run before it
 unfoldable pub goes_on : Bench → Bool → List ℕ → Bool
 goes_on b many line =
-    pick (not many || eqb b.phase first_phase) true (pick (eqb (length line) 0) true (not (eqb (get_or line 0 0) 78)))
+    pick (not many || is_first b.phase) true (pick (eqb (length line) 0) true (not (eqb (get_or line 0 0) 78)))
 
 -- a fresh run, behind what was printed
 unfoldable pub anew_of : Bench → Bench
 anew_of b = with_made b.made bench_start
 
-unfoldable pub start_anew : Bench → List Session → List (List ℕ) → Bool → List ℕ → List ℕ → Ran
-start_anew b t w many line out =
+unfoldable pub start_anew : Bool → List ℕ → Bench → List Session → List (List ℕ) → List ℕ → Ran
+start_anew many line b t w out =
     pick (goes_on b many line) (ran b t w out)
     (ran (anew_of (end_of_input b t w out).bench) (end_of_input b t w out).table (end_of_input b t w out).store (end_of_input b t w out).out)
 
@@ -45,12 +68,12 @@ placed made m out = take made out ++ (m ++ drop (made + length m) out)
 
 -- the first line of a fresh run prints the same whatever was printed before
 fresh_prints : (line : List ℕ) (made : ℕ) (t : List Session) (w : List (List ℕ)) → line_prints line (with_made made bench_start) t w ≡ line_prints line bench_start [] []
-unfolding line_prints told_prints early_prints with_made bench_start with_line first_phase plans runs
+unfolding line_prints told_prints told_prints_by with_made bench_start with_line
 fresh_prints line made t w = refl
 
 module _ (b : Bench) (t : List Session) (w : List (List ℕ)) (many : Bool) (line out : List ℕ) where
   abbrev start : Ran
-  start = start_anew b t w many line out
+  start = start_anew many line b t w out
 
   abbrev after : Ran
   after = line_taken line start.bench start.table start.store start.out
@@ -81,51 +104,50 @@ run_whole b t w many line out h =
     let m = runs_most b t w many line in
     adds_whole _ _ _ _ _ (runs_add b t w many line out (omega arith)) (omega arith)
 
--- ---- laws in the words of the walks
-module _ (b : Bench) (t : List Session) (w : List (List ℕ)) (many : Bool) (line out : List ℕ) where
-  pub anew_on : (on : Bool) → on ≡ goes_on b many line → on ≡ true → ran b t w out ≡ start_anew b t w many line out
-  unfolding start_anew
-  anew_on on e f = rw (← e, f)
+-- ---- the buffer keeps its length, and so its room
+placed-length : (made : ℕ) (m out : List ℕ) → made + length m ≤ length out → length (placed made m out) ≡ length out
+unfolding placed
+placed-length made m out h = simp (length-append, length-take, length-drop) (omega arith)
 
-  pub anew_off : (r x : Bench) (t' : List Session) (w' : List (List ℕ)) (o : List ℕ) (on : Bool) → on ≡ goes_on b many line → on ≡ false
-      → ran x t' w' o ≡ end_of_input b t w out → r ≡ anew_of x → ran r t' w' o ≡ start_anew b t w many line out
-  unfolding start_anew
-  anew_off r x t' w' o on e f g h = rw (← e, f, ← g, h)
+-- text that was printed and went out
+pub room_emitted : (k : ℕ) (o p : List ℕ) → k ≡ 0 → p ≡ o → buffer_octets ≤ length o → (k ≤ most_made) × (buffer_octets ≤ length p)
+room_emitted k o p e f h = rw (e, f) (omega arith, h)
 
-  pub run-placed : (s c r : Bench) (t' t'' : List Session) (w' w'' : List (List ℕ)) (o p : List ℕ) → (b.made ≤ most_made) × (65536 ≤ length out)
-      → ran s t' w' o ≡ start_anew b t w many line out → ran c t'' w'' p ≡ line_taken line s t' w' o → r.made ≤ most_made
-      → (r.made ≤ most_made) × (p ≡ placed b.made (run_prints b t w many line) out)
-  run-placed s c r t' t'' w' w'' o p h e f g =
-      let k = h.0 in
-      let l = h.1 in
-      let n = room-left in
-      let z : p ≡ (after b t w many line out).out
-      = ap (λ (x : Ran). x.out) f ∙ ap (λ (x : Ran). (line_taken line x.bench x.table x.store x.out).out) e in
-      (g, z ∙ (run_whole b t w many line out (omega arith)).1)
+module _ (b : Bench) (t : List Session) (w : List (List ℕ)) (out : List ℕ) (h : b.made ≤ most_made) (l : buffer_octets ≤ length out) where
+  fits : b.made + line_room ≤ length out
+  fits = let n = room-left in omega arith
 
-pub end_placed : (b r : Bench) (t t' : List Session) (w w' : List (List ℕ)) (out o : List ℕ) → (b.made ≤ most_made) × (65536 ≤ length out)
-    → ran r t' w' o ≡ end_of_input b t w out → o ≡ placed b.made (end_prints b t w) out
-unfolding placed line_room place_room least_reply
-end_placed b r t t' w w' out o h e =
-    let k = h.0 in
-    let l = h.1 in
-    let n = room-left in
-    let m = end_most b t w in
-    ap (λ (x : Ran). x.out) e ∙ (adds_whole _ _ _ _ _ (end_adds b t w out (omega arith)) (omega arith)).1
+  -- a line
+  module _ (many : Bool) (line : List ℕ) (s c : Ran) (e : s ≡ start_anew many line b t w out) (f : c ≡ line_taken line s.bench s.table s.store s.out) where
+    pub run-placed : c.out ≡ placed b.made (run_prints b t w many line) out
+    run-placed =
+        ap (λ (x : Ran). x.out) (f ∙ ap (λ (x : Ran). line_taken line x.bench x.table x.store x.out) e) ∙ (run_whole b t w many line out fits).1
 
--- room for a line, carried through the program
-pub room_as : (b c : Bench) (out : List ℕ) → (b.made ≤ most_made) × (65536 ≤ length out) → c ≡ b → (c.made ≤ most_made) × (65536 ≤ length out)
-room_as b c out h e = rw e h
+    pub run-room : buffer_octets ≤ length c.out
+    run-room =
+        let m = runs_most b t w many line in
+        let k = fits in
+        let q = placed-length b.made (run_prints b t w many line) out (omega arith) in
+        rw (run-placed, q) l
 
-pub made_as : (b c : Bench) → c ≡ b → b.made ≤ most_made → c.made ≤ most_made
-made_as b c e h = rw e h
+  -- the end of the input
+  module _ (x : Ran) (e : x ≡ end_of_input b t w out) where
+    pub end-placed : x.out ≡ placed b.made (end_prints b t w) out
+    unfolding placed line_room place_room least_reply
+    end-placed =
+        let m = end_most b t w in
+        let k = fits in
+        ap (λ (x : Ran). x.out) e ∙ (adds_whole _ _ _ _ _ (end_adds b t w out (omega arith)) (omega arith)).1
 
-pub room_of : (b : Bench) (out o : List ℕ) → b.made ≤ most_made → 65536 ≤ length out → length o ≡ length out → (b.made ≤ most_made) × (65536 ≤ length o)
-room_of b out o h k e = (h, rw e k)
+    pub end-room : buffer_octets ≤ length x.out
+    unfolding line_room place_room least_reply
+    end-room =
+        let m = end_most b t w in
+        let k = fits in
+        let q = placed-length b.made (end_prints b t w) out (omega arith) in
+        rw (end-placed, q) l
 
-pub room-first : (b : Bench) (out : List ℕ) → 65536 ≤ length out → b ≡ bench_start → (b.made ≤ most_made) × (65536 ≤ length out)
+-- a fresh run has room
+pub room_first : (b : Bench) → b ≡ bench_start → b.made ≤ most_made
 unfolding bench_start
-room-first b out h e = rw e (omega arith, h)
-
-pub room_whole : (out : List ℕ) → length out ≡ 65536 → 65536 ≤ length out
-room_whole out e = omega arith
+room_first b e = rw e (omega arith)

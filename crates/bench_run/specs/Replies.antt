@@ -1,7 +1,7 @@
 -- How long the replies and the datagrams are that a call of the bench gets back: a reply stands in the buffer that was lent, and a datagram that is
 -- due has at most 17 octets.
 -- Assumes nothing.
-use Rattle.std.specs.Prelude.{ℕ, ◌≤◌, List, [], ◌≡◌, length, take, get_or, eqb, ltb}
+use Rattle.std.specs.Prelude.{ℕ, ◌≤◌, List, [], ◌≡◌, length, take, get_or, eqb, ltb, Option, Some, None}
 use Rattle.std.proofs.Math.Path.{refl}
 use Rattle.std.proofs.Common.{arith, length-take}
 use Rattle.base_octets.specs.Number.{taken}
@@ -12,8 +12,6 @@ use Rattle.unit_session.specs.Session.{is_free, freed}
 use Rattle.unit_session.specs.OwnRequest.{sent_once}
 use Rattle.unit_store.specs.Store.{store_ok}
 use Rattle.unit_table.specs.declared.Node.{Node}
-use Rattle.unit_table.specs.declared.Owner.{Owner}
-use Rattle.unit_table.specs.declared.Owner.TheVariants as F
 use Rattle.unit_table.specs.Rules.{keeps_rules, live}
 use Rattle.unit_table.specs.Change.{nobody, changed_at}
 use Rattle.unit_table.specs.Find.{found_in}
@@ -41,20 +39,20 @@ use Rattle.call_store.specs.Stored.{keeps, close_stored, send_stored, user_store
 
 -- ---- a control datagram
 module _ (c : C.Create) (seq : ℕ) (node₀ : Node) (t₀ : List Session) (reply : List ℕ) where
-  opened-length : (f : Owner) (node : Node) (t : List Session) → length (opened_at f c seq node t node₀ t₀ reply).reply ≡ length reply
+  opened-length : (f : Option ℕ) (node : Node) (t : List Session) → length (opened_at f c seq node t node₀ t₀ reply).reply ≡ length reply
   unfolding opened_at accepted_taken no_reply
-  opened-length F.Nothing node t = refl
-  opened-length (F.At i) node t = length-overlay _ reply
+  opened-length None node t = refl
+  opened-length (Some i) node t = length-overlay _ reply
 
   shared-length : (node : Node) (t : List Session) → length (shared c seq node t node₀ t₀ reply).reply ≡ length reply
   unfolding shared cause_taken
   shared-length node t =
       split (admits node.plan (live t) c.point) (λ e. rw e (opened-length (found_in is_free t) node t)) (λ e. rw e (length-overlay _ reply))
 
-  settled-length : (f : Owner) (node : Node) (t : List Session) → length (settled_at f c seq node t node₀ t₀ reply).reply ≡ length reply
+  settled-length : (f : Option ℕ) (node : Node) (t : List Session) → length (settled_at f c seq node t node₀ t₀ reply).reply ≡ length reply
   unfolding settled_at accepted_taken
-  settled-length F.Nothing node t = shared-length node t
-  settled-length (F.At i) node t =
+  settled-length None node t = shared-length node t
+  settled-length (Some i) node t =
       split (is_repeat c seq (get_or t i nobody)) (λ e. rw e (length-overlay _ reply)) (λ e. rw e (shared-length node (changed_at freed i t)))
 
 module _ (node : Node) (t : List Session) (reply : List ℕ) where
@@ -77,10 +75,10 @@ module _ (node : Node) (t : List Session) (reply : List ℕ) where
       (λ f. rw f)))
 
   -- ---- a user datagram
-  packet-length : (f : Owner) (teid addr start end : ℕ) → length (packet_taken f teid addr start end reply).reply ≡ length reply
+  packet-length : (f : Option ℕ) (teid addr start end : ℕ) → length (packet_taken f teid addr start end reply).reply ≡ length reply
   unfolding packet_taken
-  packet-length (F.At place) teid addr start end = refl
-  packet-length F.Nothing teid addr start end = length-overlay _ reply
+  packet-length (Some place) teid addr start end = refl
+  packet-length None teid addr start end = length-overlay _ reply
 
   header_length : (h : Header) (start end : ℕ) → length (header_taken node t h start end reply).reply ≡ length reply
   unfolding header_taken

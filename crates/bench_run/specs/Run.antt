@@ -1,31 +1,28 @@
--- What the bench prints for a datagram that is due, for a user datagram and for a packet down: a payload is a third field, and so is the peer's
--- address; after T and X all due follow, each a line of D and the datagram.
+-- What each of the unit's calls comes to in a run, and what is printed for it: for a user datagram and a packet down a payload is a third field, and
+-- so is the peer's address; after T and X all due follow, each a line of D and the datagram.
 -- Assumes nothing.
 use Prim.Native.Nat.{ℕ, zero, suc, ◌+◌, ◌<◌, ◌-◌}
-use Rattle.std.specs.Prelude.{Bool, not, ◌&&◌, ◌≡◌, refl, length, take, drop, replicate, eqb}
+use Rattle.std.specs.Prelude.{Bool, ◌&&◌, ◌≡◌, Option, Some, None, refl, take, drop, replicate, eqb}
 use Rattle.std.proofs.Math.Bool.{true, false}
 use mathlib.Core.List.{List, []}
 use Rattle.std.proofs.Math.Path.{sym, ap}
-use Rattle.std.proofs.Common.{◌∙◌}
+use Rattle.std.proofs.Common.{◌∙◌, Bor}
 use native.Mathlib.Omega.{arith}
 use Rattle.base_octets.specs.Choice.{pick}
 use Rattle.base_octets.specs.BigEndian.{octets_of}
 use Rattle.wire_user.specs.Header.{fixed_size}
 use Rattle.unit_session.specs.declared.Session.{Session}
-use Rattle.unit_table.specs.declared.Node.{Node}
 use Rattle.call_own.specs.declared.Answer.{Answer}
-use Rattle.call_own.specs.Outcome.{Outcome, outcome, Back, back, least_reply}
+use Rattle.call_own.specs.Outcome.{Outcome, Back, back, least_reply}
 use Rattle.call_user.specs.User.{Took}
 use Rattle.call_user.specs.declared.Handed.{Handed}
 use Rattle.call_user.specs.Parcel.{Parcel, parcel, parcel_of}
-use Rattle.call_down.specs.declared.Written.{Written}
-use Rattle.call_down.specs.Down.{Output, output}
+use Rattle.call_down.specs.Down.{Output}
 use Rattle.call_store.specs.Stored.{stored, close_stored, send_stored, user_stored, down_stored, tick_stored, control_stored}
 use Rattle.bench_text.specs.Lines.{datagram_most}
 use Rattle.bench_text.specs.Prints.{answer_text, packet_text, due_text}
 use Rattle.bench_unit.specs.declared.Bench.{Bench}
-use Rattle.bench_unit.specs.State.{Shown, shown, Ran, ran, beside, lent_reply, with_made, kept_in, printed, answered_shown, unit_shown, unit_shown_lem}
-use Rattle.bench_run.specs.declared.Sent.{Sent}
+use Rattle.bench_unit.specs.State.{Shown, shown, Ran, ran, beside, lent_reply, with_made, kept_in, printed, answered_shown, unit_shown}
 use Rattle.unit_tunnel.specs.Numbering.{places}
 
 -- ---- all that is due
@@ -58,6 +55,28 @@ all_sent b t w out = sent_times (places + 1) (ran b t w out)
 unfoldable pub then_sent : Ran → Ran
 then_sent x = all_sent x.bench x.table x.store x.out
 
+-- behind what a call without a reply answered
+unfoldable pub answer_sent : Answer → Bench → List Session → List (List ℕ) → List ℕ → Ran
+answer_sent a b t w out = then_sent (beside t w (answered_shown (back a []) b out))
+
+-- ---- a control datagram, the clock, a close order
+unfoldable pub control_run : List ℕ → Bench → List Session → List (List ℕ) → List ℕ → Ran
+control_run d b t w out = unit_shown (control_stored b.node t w d lent_reply) b out
+
+unfoldable pub tick_run : Bench → List Session → List (List ℕ) → List ℕ → Ran
+tick_run b t w out = then_sent (unit_shown (tick_stored b.node t w) b out)
+
+unfoldable pub close_run : ℕ → Bench → List Session → List (List ℕ) → List ℕ → Ran
+close_run place b t w out = then_sent (unit_shown (stored (close_stored b.node t w place) w) b out)
+
+-- ---- number and reply, and a third field where there is one
+unfoldable pub third_text : ℕ → List ℕ → Option (Bor (List ℕ)) → List ℕ
+third_text number reply (Some x) = packet_text number reply x.now
+third_text number reply None = answer_text number reply
+
+unfoldable pub third_shown : ℕ → List ℕ → Option (Bor (List ℕ)) → Bench → List ℕ → Shown
+third_shown number reply third b out = printed (third_text number reply third) (λ made. with_made made b) b.made out
+
 -- ---- a user datagram: only a packet that is handed up has a third field
 unfoldable pub user_text : ℕ → ℕ → List ℕ → List ℕ → List ℕ
 user_text number size reply payload =
@@ -68,11 +87,6 @@ user_shown x d b out = printed (user_text x.number x.size x.reply (drop x.start 
 
 unfoldable pub user_run : List ℕ → Bench → List Session → List (List ℕ) → List ℕ → Ran
 user_run d b t w out = beside t w (user_shown (user_stored b.node t w d lent_reply) d b out)
-
--- the same of what the call answers in numbers
-unfoldable pub handed_shown : Parcel → List ℕ → Bench → List ℕ → Shown
-handed_shown x d b out =
-    printed (user_text x.handed.number x.handed.size x.reply (drop x.handed.start d)) (λ made. with_made made b) b.made out
 
 -- ---- a packet down: only one that is written has a third field, the peer's user address
 unfoldable pub down_text : ℕ → ℕ → List ℕ → ℕ → List ℕ
@@ -93,83 +107,43 @@ lent_output = replicate gpdu_most 0
 unfoldable pub down_run : List ℕ → Bench → List Session → List (List ℕ) → List ℕ → Ran
 down_run packet b t w out = beside t w (down_shown (down_stored b.node t w packet lent_output) b out)
 
--- ---- laws of a send
-pub send_tried : (b : Bench) (t t' : List Session) (w : List (List ℕ)) (out o reply : List ℕ) (node : Node) (a : Answer) (s : Sent) → node ≡ b.node
-    → outcome a t' reply ≡ send_stored node t w (replicate least_reply 0) → (s.go ≡ eqb a.number 0) × (shown s.bench o ≡ sent_shown (back a reply) b out)
-    → (s.go ≡ has_due b t w) × (ran s.bench t' w o ≡ one_sent b t w out)
-unfolding has_due one_sent send_try lent_reply
-send_tried b t t' w out o reply node a s e f g = rw (← rw e at f) (g.0, ap (beside t' w) g.1)
+-- ---- a user datagram by what the call answers in numbers
+parcel_text : Parcel → List ℕ → List ℕ
+parcel_text x d = user_text x.handed.number x.handed.size x.reply (drop x.handed.start d)
+
+parcel_is : (n : ℕ) (x : Took) (d : List ℕ) → parcel_text (parcel_of n x) d ≡ user_text x.number x.size x.reply (drop x.start d)
+unfolding parcel_text parcel_of
+parcel_is n x d = refl
+
+pub handed_run : (x : Handed) (n : ℕ) (reply d : List ℕ) (b : Bench) (t : List Session) (w : List (List ℕ)) (out : List ℕ)
+    → parcel x reply ≡ parcel_of n (user_stored b.node t w d (replicate least_reply 0))
+    → beside t w (printed (user_text x.number x.size reply (drop x.start d)) (λ made. with_made made b) b.made out) ≡ user_run d b t w out
+unfolding user_run user_shown lent_reply parcel_text
+handed_run x n reply d b t w out e =
+    let p = ap (λ (z : Parcel). parcel_text z d) e ∙ parcel_is n _ d in
+    ap (λ (text : List ℕ). beside t w (printed text (λ made. with_made made b) b.made out)) p
 
 -- ---- laws of the sending loop, after i tries
 pub sent_none : (b : Bench) (t : List Session) (w : List (List ℕ)) (out : List ℕ) → all_sent b t w out ≡ sent_times (places + 1 - 0) (ran b t w out)
 unfolding all_sent places
 sent_none b t w out = refl
 
-not_on : (a : Bool) → not a ≡ true → a ≡ false
-not_on true e = sym e
-not_on false e = refl
-
-not_off : (a : Bool) → not a ≡ false → a ≡ true
-not_off true e = refl
-not_off false e = sym e
-
-module _ (x : Ran) (i : ℕ) (b c : Bench) (t t' : List Session) (w : List (List ℕ)) (out o : List ℕ) (s : Sent) (v : Bool) (h : i < places + 1)
-    (e : x ≡ sent_times (places + 1 - i) (ran b t w out)) (f : (s.go ≡ has_due b t w) × (ran s.bench t' w o ≡ one_sent b t w out)) (g : c ≡ s.bench)
-    (k : v ≡ not s.go) where
-  pub sent_stop : v ≡ true → ran c t' w o ≡ x
+module _ (x y z : Ran) (i : ℕ) (v : Bool) (h : i < places + 1) (e : x ≡ sent_times (places + 1 - i) y)
+    (f : v ≡ has_due y.bench y.table y.store) (g : z ≡ one_sent y.bench y.table y.store y.out) where
+  pub sent_stop : v ≡ false → z ≡ x
   unfolding sent_times
   sent_stop u =
-      let z : places + 1 - i ≡ suc (places + 1 - (i + 1)) = omega arith in
-      let q : has_due b t w ≡ false = not_on (has_due b t w) (rw (k, f.0) at u) in
-      rw g (f.1 ∙ sym (e ∙ rw (z, q)))
+      let k : places + 1 - i ≡ suc (places + 1 - (i + 1)) = omega arith in
+      let q : has_due y.bench y.table y.store ≡ false = rw f at u in
+      g ∙ sym (e ∙ rw (k, q))
 
-  pub sent_on : v ≡ false → x ≡ sent_times (places + 1 - (i + 1)) (ran c t' w o)
+  pub sent_on : v ≡ true → x ≡ sent_times (places + 1 - (i + 1)) z
   unfolding sent_times
   sent_on u =
-      let z : places + 1 - i ≡ suc (places + 1 - (i + 1)) = omega arith in
-      let q : has_due b t w ≡ true = not_off (has_due b t w) (rw (k, f.0) at u) in
-      e ∙ rw (z, q, g, f.1)
+      let k : places + 1 - i ≡ suc (places + 1 - (i + 1)) = omega arith in
+      let q : has_due y.bench y.table y.store ≡ true = rw f at u in
+      e ∙ rw (k, q, g)
 
 pub sent_end : (x y : Ran) (i : ℕ) → x ≡ sent_times (places + 1 - i) y → i ≡ places + 1 → y ≡ x
 unfolding sent_times places
 sent_end x y i e f = sym (e ∙ rw f)
-
--- ---- the calls
-module _ (b r : Bench) (t t' : List Session) (w w' : List (List ℕ)) (out o : List ℕ) (node : Node) (e : node ≡ b.node) (a : Answer) where
-  pub control_run : (d p reply : List ℕ) → p ≡ d → stored (outcome a t' reply) w' ≡ control_stored node t w p (replicate least_reply 0)
-      → shown r o ≡ answered_shown (back a reply) b out → ran r t' w' o ≡ unit_shown (control_stored b.node t w d lent_reply) b out
-  unfolding lent_reply
-  control_run d p reply f g h = unit_shown_lem _ a t' w' reply b r out o (rw (e, f) at g) h
-
-  pub tick_run : (t'' : List Session) (c : Bench) (p : List ℕ) → stored (outcome a t'' []) w' ≡ tick_stored node t w → shown c p ≡ answered_shown (back a []) b out
-      → ran r t' w' o ≡ all_sent c t'' w' p → ran r t' w' o ≡ then_sent (unit_shown (tick_stored b.node t w) b out)
-  unfolding then_sent
-  tick_run t'' c p f g h = rw (← unit_shown_lem _ a t'' w' [] b c out p (rw e at f) g) h
-
-  pub close_run : (t'' : List Session) (place : ℕ) (c : Bench) (p : List ℕ) → outcome a t'' [] ≡ close_stored node t w place
-      → shown c p ≡ answered_shown (back a []) b out → ran r t' w o ≡ all_sent c t'' w p
-      → ran r t' w o ≡ then_sent (unit_shown (stored (close_stored b.node t w place) w) b out)
-  unfolding then_sent
-  close_run t'' place c p f g h =
-      rw (← unit_shown_lem _ a t'' w [] b c out p (ap (λ (x : Outcome). stored x w) (rw e at f)) g) h
-
-handed_is : (n : ℕ) (x : Took) (d : List ℕ) (b : Bench) (out : List ℕ) → handed_shown (parcel_of n x) d b out ≡ user_shown x d b out
-unfolding handed_shown user_shown parcel_of
-handed_is n x d b out = refl
-
-module _ (b r : Bench) (t : List Session) (w : List (List ℕ)) (out o : List ℕ) (node : Node) where
-  pub user_run_lem : (x : Handed) (d p reply : List ℕ) → node ≡ b.node → p ≡ d
-      → parcel x reply ≡ parcel_of (length p) (user_stored node t w p (replicate least_reply 0)) → shown r o ≡ handed_shown (parcel x reply) p b out
-      → ran r t w o ≡ user_run d b t w out
-  unfolding user_run lent_reply
-  user_run_lem x d p reply e f g h =
-      let g' : parcel x reply ≡ parcel_of (length d) (user_stored b.node t w d (replicate least_reply 0)) = rw (e, f) at g in
-      let h' : shown r o ≡ handed_shown (parcel x reply) d b out = rw f at h in
-      ap (beside t w) (h' ∙ ap (λ (z : Parcel). handed_shown z d b out) g' ∙ handed_is (length d) _ d b out)
-
-  pub down_run_lem : (x : Written) (packet p buffer : List ℕ) → node ≡ b.node → p ≡ packet
-      → output x buffer ≡ down_stored node t w p (replicate gpdu_most 0) → shown r o ≡ down_shown (output x buffer) b out → ran r t w o ≡ down_run packet b t w out
-  unfolding down_run lent_output
-  down_run_lem x packet p buffer e f g h =
-      let g' : output x buffer ≡ down_stored b.node t w packet (replicate gpdu_most 0) = rw (e, f) at g in
-      ap (beside t w) (h ∙ ap (λ (z : Output). down_shown z b out) g')

@@ -2,9 +2,9 @@
 -- text behind what was printed before (`line_adds`), and it is laid whole wherever there is room for a line (`line_room`, `line_whole`). The same of the
 -- lines at the end (`end_whole`). The program `bench` keeps that room.
 -- Assumes nothing.
-use Rattle.std.specs.Prelude.{ℕ, zero, suc, ◌+◌, ◌*◌, ◌≤◌, true, false, not, ◌&&◌, List, [], ◌++◌, ◌≡◌, length, take, drop, replicate, eqb, leb}
+use Rattle.std.specs.Prelude.{ℕ, zero, suc, ◌+◌, ◌*◌, ◌≤◌, true, false, ◌&&◌, List, [], ◌++◌, ◌≡◌, length, take, drop, replicate, eqb, leb}
 use Rattle.std.proofs.Math.Path.{refl}
-use Rattle.std.proofs.Common.{◌∙◌, arith, length-append, length-take, length-drop}
+use Rattle.std.proofs.Common.{ap, ◌∙◌, arith, length-append, length-take, length-drop}
 use Rattle.std.proofs.lemmas.List.{length-replicate}
 use Rattle.base_octets.specs.Choice.{pick, split}
 use Rattle.base_octets.specs.BigEndian.{octets_of, length_octets}
@@ -19,14 +19,15 @@ use Rattle.bench_text.specs.declared.Line.TheVariants as L
 use Rattle.bench_text.specs.Lines.{Told, line_read, datagram_most}
 use Rattle.bench_text.specs.Prints.{answer_text, due_text, bad_text}
 use Rattle.bench_text.specs.Sizes.{answer_most, packet_most, due_most, bad_most, line_read_length}
+use Rattle.bench_unit.specs.declared.Phase.{Phase}
+use Rattle.bench_unit.specs.declared.Phase.TheVariants as P
 use Rattle.bench_unit.specs.declared.Bench.{Bench}
-use Rattle.bench_unit.specs.State.{Ran, first_phase, plans, runs, over, lent_reply, with_line, with_made, kept_in, printed, answered_shown, unit_shown}
+use Rattle.bench_unit.specs.State.{Ran, is_over, lent_reply, with_line, with_made, kept_in, printed, answered_shown, unit_shown}
 use Rattle.bench_unit.specs.Plans.{first_line, one_more, plan_taken, start_line}
 use Rattle.bench_unit.specs.Ended.{end_of_input}
 use Rattle.bench_unit.specs.Whole.{Adds, adds_none, adds_on, adds_printed, adds_within, adds_whole, plan_prints, end_prints, bad_adds, plan_adds, plan_phase, plan_node, plan_table, plan_store, plan_lines, plan_most, place_room, end_adds, end_most}
-use Rattle.bench_run.specs.declared.Call.{Call}
-use Rattle.bench_run.specs.Run.{send_try, has_due, sent_shown, one_sent, sent_times, all_sent, then_sent, user_text, user_shown, user_run, down_text, down_shown, gpdu_most, lent_output, down_run}
-use Rattle.bench_run.specs.Taken.{control_call, user_call, down_call, tick_call, close_call, call_of, call_run, run_line, is_point, point_line, leave_plan, early_line, lent_octets, told_taken, line_taken}
+use Rattle.bench_run.specs.Run.{send_try, has_due, sent_shown, one_sent, sent_times, all_sent, then_sent, control_run, tick_run, close_run, user_text, user_shown, user_run, down_text, down_shown, gpdu_most, lent_output, down_run}
+use Rattle.bench_run.specs.Taken.{run_line, is_point, point_line, left, leave_plan, plan_line, lent_octets, taken_by, told_taken, line_taken}
 use Rattle.bench_run.specs.Replies.{control_length, user_length, output-length, tick_length, close_length, sent_most}
 use Rattle.unit_tunnel.specs.Numbering.{places}
 
@@ -54,19 +55,22 @@ unfoldable pub output_prints : Output → List ℕ
 output_prints x = down_text x.written.number x.written.size x.buffer x.written.peer
 
 -- once the plan is taken, of a line of this number
-unfoldable pub call_prints : Call → List ℕ → ℕ → Node → List Session → List (List ℕ) → List ℕ
-call_prints a octets lines node t w =
-    pick (eqb a.kind control_call) (unit_prints (control_stored node t w (take a.size octets) lent_reply).call)
-    (pick (eqb a.kind user_call) (took_prints (user_stored node t w (take a.size octets) lent_reply) (take a.size octets))
-    (pick (eqb a.kind down_call) (output_prints (down_stored node t w (take a.size octets) lent_output))
-    (pick (eqb a.kind tick_call) (then_prints (tick_stored node t w))
-    (pick (eqb a.kind close_call) (then_prints (stored (close_stored node t w a.place) w)) (bad_text lines)))))
+unfoldable pub call_prints : Line → List ℕ → ℕ → Node → List Session → List (List ℕ) → List ℕ
+call_prints (L.Control size) octets lines node t w = unit_prints (control_stored node t w (take size octets) lent_reply).call
+call_prints (L.User size) octets lines node t w = took_prints (user_stored node t w (take size octets) lent_reply) (take size octets)
+call_prints (L.Down size) octets lines node t w = output_prints (down_stored node t w (take size octets) lent_output)
+call_prints L.Tick octets lines node t w = then_prints (tick_stored node t w)
+call_prints (L.Close place) octets lines node t w = then_prints (stored (close_stored node t w place) w)
+call_prints (L.Node control user pool recovery resend sends interval) octets lines node t w = bad_text lines
+call_prints (L.Point guarantee ceiling size) octets lines node t w = bad_text lines
+call_prints L.BadPoint octets lines node t w = bad_text lines
+call_prints L.Bad octets lines node t w = bad_text lines
 
 -- the plan is taken first
 unfoldable pub leave_prints : Line → List ℕ → Bench → List Session → List (List ℕ) → List ℕ
 leave_prints line octets b t w =
-    pick (eqb (plan_taken b t w []).bench.phase over) (plan_prints (fresh_stored b.node.plan t w).call.answer)
-    (plan_prints (fresh_stored b.node.plan t w).call.answer ++ call_prints (call_of line) octets b.lines (plan_taken b t w []).bench.node (plan_taken b t w []).table (plan_taken b t w []).store)
+    pick (is_over (plan_taken b t w []).bench.phase) (plan_prints (fresh_stored b.node.plan t w).call.answer)
+    (plan_prints (fresh_stored b.node.plan t w).call.answer ++ call_prints line octets b.lines (plan_taken b t w []).bench.node (plan_taken b t w []).table (plan_taken b t w []).store)
 
 -- the first line
 unfoldable pub start_prints : Line → ℕ → List ℕ
@@ -92,15 +96,17 @@ point_prints (L.Close place) count lines = bad_text lines
 point_prints L.BadPoint count lines = bad_text lines
 point_prints L.Bad count lines = bad_text lines
 
-unfoldable pub early_prints : Line → Bench → List ℕ
-early_prints line b =
-    pick (eqb b.phase first_phase) (start_prints line (with_line b).lines)
-    (pick (eqb b.phase plans) (point_prints line b.node.plan.count (with_line b).lines) [])
+unfoldable pub plan_line_prints : Line → List ℕ → Bench → List Session → List (List ℕ) → List ℕ
+plan_line_prints line octets b t w = pick (is_point line) (point_prints line b.node.plan.count b.lines) (leave_prints line octets b t w)
+
+unfoldable pub told_prints_by : Phase → Told → Bench → List Session → List (List ℕ) → List ℕ
+told_prints_by P.First x b t w = start_prints x.line (with_line b).lines
+told_prints_by P.Plan x b t w = plan_line_prints x.line x.octets (with_line b) t w
+told_prints_by P.Runs x b t w = call_prints x.line x.octets (with_line b).lines b.node t w
+told_prints_by P.Over x b t w = []
 
 unfoldable pub told_prints : Told → Bench → List Session → List (List ℕ) → List ℕ
-told_prints x b t w =
-    pick (eqb b.phase runs) (call_prints (call_of x.line) x.octets (with_line b).lines b.node t w)
-    (pick (eqb b.phase plans && not (is_point x.line)) (leave_prints x.line x.octets (with_line b) t w) (early_prints x.line b))
+told_prints x b t w = told_prints_by b.phase x b t w
 
 unfoldable pub line_prints : List ℕ → Bench → List Session → List (List ℕ) → List ℕ
 line_prints text b t w = told_prints (line_read text lent_octets) b t w
@@ -160,29 +166,32 @@ down_adds : (packet : List ℕ) (b : Bench) (t : List Session) (w : List (List �
 unfolding output_prints down_run down_shown with_made
 down_adds packet b t w out = adds_printed _ _ b.made out (λ k. refl)
 
-call_adds : (a : Call) (octets : List ℕ) (b : Bench) (t : List Session) (w : List (List ℕ)) (out : List ℕ)
-    → Adds (call_prints a octets b.lines b.node t w) b.made out (call_run a octets b t w out).bench.made (call_run a octets b t w out).out
-unfolding call_prints call_run
-call_adds a octets b t w out =
-    split (eqb a.kind control_call) (λ e. rw e (unit_adds _ b out))
-    (λ e. rw e (split (eqb a.kind user_call) (λ f. rw f (user_adds (take a.size octets) b t w out))
-    (λ f. rw f (split (eqb a.kind down_call) (λ g. rw g (down_adds (take a.size octets) b t w out))
-    (λ g. rw g (split (eqb a.kind tick_call) (λ i. rw i (then_adds _ b out))
-    (λ i. rw i (split (eqb a.kind close_call) (λ j. rw j (then_adds _ b out)) (λ j. rw j (bad_adds b out))))))))))
+call_adds : (line : Line) (octets : List ℕ) (b : Bench) (t : List Session) (w : List (List ℕ)) (out : List ℕ)
+    → Adds (call_prints line octets b.lines b.node t w) b.made out (run_line line octets b t w out).bench.made (run_line line octets b t w out).out
+unfolding call_prints run_line control_run tick_run close_run
+call_adds (L.Control size) octets b t w out = unit_adds _ b out
+call_adds (L.User size) octets b t w out = user_adds (take size octets) b t w out
+call_adds (L.Down size) octets b t w out = down_adds (take size octets) b t w out
+call_adds L.Tick octets b t w out = then_adds _ b out
+call_adds (L.Close place) octets b t w out = then_adds _ b out
+call_adds (L.Node control user pool recovery resend sends interval) octets b t w out = bad_adds b out
+call_adds (L.Point guarantee ceiling size) octets b t w out = bad_adds b out
+call_adds L.BadPoint octets b t w out = bad_adds b out
+call_adds L.Bad octets b t w out = bad_adds b out
 
-call_lines : (a : Call) (octets : List ℕ) (lines : ℕ) (b : Bench) (t : List Session) (w : List (List ℕ)) (out : List ℕ) → b.lines ≡ lines
-    → Adds (call_prints a octets lines b.node t w) b.made out (call_run a octets b t w out).bench.made (call_run a octets b t w out).out
-call_lines a octets lines b t w out e = rw (← e) (call_adds a octets b t w out)
+call_lines : (line : Line) (octets : List ℕ) (lines : ℕ) (b : Bench) (t : List Session) (w : List (List ℕ)) (out : List ℕ) → b.lines ≡ lines
+    → Adds (call_prints line octets lines b.node t w) b.made out (run_line line octets b t w out).bench.made (run_line line octets b t w out).out
+call_lines line octets lines b t w out e = rw (← e) (call_adds line octets b t w out)
 
 leave_adds : (line : Line) (octets : List ℕ) (b : Bench) (t : List Session) (w : List (List ℕ)) (out : List ℕ) → b.made ≤ length out
     → Adds (leave_prints line octets b t w) b.made out (leave_plan line octets b t w out).bench.made (leave_plan line octets b t w out).out
-unfolding leave_prints leave_plan run_line
+unfolding leave_prints leave_plan left
 leave_adds line octets b t w out h =
-    rw (plan_phase b t w out h) (split (eqb (plan_taken b t w []).bench.phase over)
+    rw (plan_phase b t w out h) (split (is_over (plan_taken b t w []).bench.phase)
     (λ e. rw e (plan_adds b t w out h))
     (λ e. rw (e, ← plan_node b t w out h, ← plan_table b t w out h, ← plan_store b t w out h)
     (adds_on _ _ _ _ _ _ _ _ (plan_adds b t w out h)
-    (call_lines (call_of line) octets b.lines (plan_taken b t w out).bench (plan_taken b t w out).table (plan_taken b t w out).store (plan_taken b t w out).out (plan_lines b t w out h)))))
+    (call_lines line octets b.lines (plan_taken b t w out).bench (plan_taken b t w out).table (plan_taken b t w out).store (plan_taken b t w out).out (plan_lines b t w out h)))))
 
 start_adds : (line : Line) (b : Bench) (out : List ℕ) → b.made ≤ length out
     → Adds (start_prints line b.lines) b.made out (start_line line b out).bench.made (start_line line b out).out
@@ -211,22 +220,24 @@ point_adds (L.Close place) octets b out h = bad_adds b out
 point_adds L.BadPoint octets b out h = bad_adds b out
 point_adds L.Bad octets b out h = bad_adds b out
 
-early_adds : (line : Line) (octets : List ℕ) (b : Bench) (out : List ℕ) → b.made ≤ length out
-    → Adds (early_prints line b) b.made out (early_line line octets b out).bench.made (early_line line octets b out).out
-unfolding early_prints early_line with_line
-early_adds line octets b out h =
-    split (eqb b.phase first_phase) (λ e. rw e (start_adds line (with_line b) out h))
-    (λ e. rw e (split (eqb b.phase plans) (λ f. rw f (point_adds line octets (with_line b) out h)) (λ f. rw f (adds_none b.made out h))))
+plan_line_adds : (line : Line) (octets : List ℕ) (b : Bench) (t : List Session) (w : List (List ℕ)) (out : List ℕ) → b.made ≤ length out
+    → Adds (plan_line_prints line octets b t w) b.made out (plan_line line octets b t w out).bench.made (plan_line line octets b t w out).out
+unfolding plan_line_prints plan_line
+plan_line_adds line octets b t w out h =
+    split (is_point line) (λ e. rw e (point_adds line octets b out h)) (λ e. rw e (leave_adds line octets b t w out h))
+
+told_adds : (p : Phase) (x : Told) (b : Bench) (t : List Session) (w : List (List ℕ)) (out : List ℕ) → b.made ≤ length out
+    → Adds (told_prints_by p x b t w) b.made out (taken_by p x b t w out).bench.made (taken_by p x b t w out).out
+unfolding told_prints_by taken_by with_line
+told_adds P.First x b t w out h = start_adds x.line (with_line b) out h
+told_adds P.Plan x b t w out h = plan_line_adds x.line x.octets (with_line b) t w out h
+told_adds P.Runs x b t w out h = call_adds x.line x.octets (with_line b) t w out
+told_adds P.Over x b t w out h = adds_none b.made out h
 
 pub line_adds : (text : List ℕ) (b : Bench) (t : List Session) (w : List (List ℕ)) (out : List ℕ) → b.made ≤ length out
     → Adds (line_prints text b t w) b.made out (line_taken text b t w out).bench.made (line_taken text b t w out).out
-unfolding line_prints line_taken told_prints told_taken run_line with_line
-line_adds text b t w out h =
-    let line = (line_read text lent_octets).line in
-    let octets = (line_read text lent_octets).octets in
-    split (eqb b.phase runs) (λ e. rw e (call_adds (call_of line) octets (with_line b) t w out))
-    (λ e. rw e (split (eqb b.phase plans && not (is_point line)) (λ f. rw f (leave_adds line octets (with_line b) t w out h))
-    (λ f. rw f (early_adds line octets b out h))))
+unfolding line_prints line_taken told_prints told_taken
+line_adds text b t w out h = told_adds b.phase (line_read text lent_octets) b t w out h
 
 -- ---- how long the texts are
 part_most : (n : ℕ) (l : List ℕ) → length (take n l) ≤ length l
@@ -286,32 +297,36 @@ output_most x h =
     let q = length_octets 4 x.written.peer in
     split (eqb x.written.number 0) (λ e. rw e (omega arith)) (λ e. rw e (omega arith))
 
-call_most : (a : Call) (octets : List ℕ) (lines : ℕ) (node : Node) (t : List Session) (w : List (List ℕ)) → length octets ≡ 2048
-    → length (call_prints a octets lines node t w) ≤ 4377 + 38 * places
+call_most : (line : Line) (octets : List ℕ) (lines : ℕ) (node : Node) (t : List Session) (w : List (List ℕ)) → length octets ≡ 2048
+    → length (call_prints line octets lines node t w) ≤ 4377 + 38 * places
 unfolding call_prints least_reply
-call_most a octets lines node t w h =
-    let d = take a.size octets in
+call_most (L.Control size) octets lines node t w h =
     let l = lent_most in
-    let p = part_most a.size octets in
-    let c = unit_most (control_stored node t w d lent_reply).call least_reply (control_length node t lent_reply w d ∙ lent_most) in
-    let u = took_most (user_stored node t w d lent_reply) d (user_length node t lent_reply w d ∙ lent_most) (omega arith) in
-    let o = output_most (down_stored node t w d lent_output) (output-length node t w d lent_output ∙ lent_output_lem) in
-    let k = then_most (tick_stored node t w) (tick_length node t w) in
-    let x = then_most (stored (close_stored node t w a.place) w) (close_length node t w a.place) in
-    let b = bad_most lines in
-    split (eqb a.kind control_call) (λ e. rw e (omega arith))
-    (λ e. rw e (split (eqb a.kind user_call) (λ f. rw f (omega arith))
-    (λ f. rw f (split (eqb a.kind down_call) (λ g. rw g (omega arith))
-    (λ g. rw g (split (eqb a.kind tick_call) (λ i. rw i (omega arith))
-    (λ i. rw i (split (eqb a.kind close_call) (λ j. rw j (omega arith)) (λ j. rw j (omega arith))))))))))
+    let c = unit_most (control_stored node t w (take size octets) lent_reply).call least_reply (control_length node t lent_reply w (take size octets) ∙ lent_most) in
+    omega arith
+call_most (L.User size) octets lines node t w h =
+    let l = lent_most in
+    let p = part_most size octets in
+    let u = took_most (user_stored node t w (take size octets) lent_reply) (take size octets) (user_length node t lent_reply w (take size octets) ∙ lent_most) (omega arith) in
+    omega arith
+call_most (L.Down size) octets lines node t w h =
+    let o = output_most (down_stored node t w (take size octets) lent_output) (output-length node t w (take size octets) lent_output ∙ lent_output_lem) in
+    omega arith
+call_most L.Tick octets lines node t w h = let k = then_most (tick_stored node t w) (tick_length node t w) in omega arith
+call_most (L.Close place) octets lines node t w h =
+    let x = then_most (stored (close_stored node t w place) w) (close_length node t w place) in omega arith
+call_most (L.Node control user pool recovery resend sends interval) octets lines node t w h = let b = bad_most lines in omega arith
+call_most (L.Point guarantee ceiling size) octets lines node t w h = let b = bad_most lines in omega arith
+call_most L.BadPoint octets lines node t w h = let b = bad_most lines in omega arith
+call_most L.Bad octets lines node t w h = let b = bad_most lines in omega arith
 
 leave_most : (line : Line) (octets : List ℕ) (b : Bench) (t : List Session) (w : List (List ℕ)) → length octets ≡ 2048
     → length (leave_prints line octets b t w) ≤ 4400 + 38 * places
 unfolding leave_prints
 leave_most line octets b t w h =
     let p = plan_most (fresh_stored b.node.plan t w).call.answer in
-    let a = call_most (call_of line) octets b.lines (plan_taken b t w []).bench.node (plan_taken b t w []).table (plan_taken b t w []).store h in
-    split (eqb (plan_taken b t w []).bench.phase over) (λ e. rw e (omega arith)) (λ e. rw e (simp length-append (omega arith)))
+    let a = call_most line octets b.lines (plan_taken b t w []).bench.node (plan_taken b t w []).table (plan_taken b t w []).store h in
+    split (is_over (plan_taken b t w []).bench.phase) (λ e. rw e (omega arith)) (λ e. rw e (simp length-append (omega arith)))
 
 start_most : (line : Line) (lines : ℕ) → length (start_prints line lines) ≤ 23
 unfolding start_prints
@@ -339,38 +354,32 @@ point_most (L.Close place) count lines = bad_most lines
 point_most L.BadPoint count lines = bad_most lines
 point_most L.Bad count lines = bad_most lines
 
-early_most : (line : Line) (b : Bench) → length (early_prints line b) ≤ 23
-unfolding early_prints
-early_most line b =
-    let s = start_most line (with_line b).lines in
-    let p = point_most line b.node.plan.count (with_line b).lines in
-    split (eqb b.phase first_phase) (λ e. rw e (omega arith))
-    (λ e. rw e (split (eqb b.phase plans) (λ f. rw f (omega arith)) (λ f. rw f (omega arith))))
-
 octets_length : (text : List ℕ) → length (line_read text lent_octets).octets ≡ 2048
 unfolding lent_octets
 octets_length text = line_read_length text (replicate 2048 0) ∙ length-replicate {A = ℕ} 2048 0
 
+told_most : (p : Phase) (x : Told) (b : Bench) (t : List Session) (w : List (List ℕ)) → length x.octets ≡ 2048
+    → length (told_prints_by p x b t w) ≤ 4400 + 38 * places
+unfolding told_prints_by plan_line_prints
+told_most P.First x b t w o = let s = start_most x.line (with_line b).lines in omega arith
+told_most P.Plan x b t w o =
+    let l = leave_most x.line x.octets (with_line b) t w o in
+    let k = point_most x.line (with_line b).node.plan.count (with_line b).lines in
+    split (is_point x.line) (λ g. rw g (omega arith)) (λ g. rw g (omega arith))
+told_most P.Runs x b t w o = let a = call_most x.line x.octets (with_line b).lines b.node t w o in omega arith
+told_most P.Over x b t w o = omega arith
+
 pub line_most : (text : List ℕ) (b : Bench) (t : List Session) (w : List (List ℕ)) → length (line_prints text b t w) ≤ 4400 + 38 * places
 unfolding line_prints told_prints
-line_most text b t w =
-    let line = (line_read text lent_octets).line in
-    let octets = (line_read text lent_octets).octets in
-    let o = octets_length text in
-    let a = call_most (call_of line) octets (with_line b).lines b.node t w o in
-    let l = leave_most line octets (with_line b) t w o in
-    let e = early_most line b in
-    split (eqb b.phase runs) (λ f. rw f (omega arith))
-    (λ f. rw f (split (eqb b.phase plans && not (is_point line)) (λ g. rw g (omega arith)) (λ g. rw g (omega arith))))
+line_most text b t w = told_most b.phase (line_read text lent_octets) b t w (octets_length text)
 
 -- the first line of a run
-pub first_most : (text : List ℕ) (b : Bench) (t : List Session) (w : List (List ℕ)) → b.phase ≡ first_phase → length (line_prints text b t w) ≤ 23
-unfolding line_prints told_prints first_phase plans runs
+pub first_most : (text : List ℕ) (b : Bench) (t : List Session) (w : List (List ℕ)) → b.phase ≡ P.First → length (line_prints text b t w) ≤ 23
+unfolding line_prints told_prints told_prints_by
 first_most text b t w h =
-    let e = early_most (line_read text lent_octets).line b in
-    let r : eqb b.phase 2 ≡ false = rw h in
-    let p : eqb b.phase 1 ≡ false = rw h in
-    rw (r, p) e
+    let s = start_most (line_read text lent_octets).line (with_line b).lines in
+    let e = ap (λ (q : Phase). length (told_prints_by q (line_read text lent_octets) b t w)) h in
+    omega arith
 
 -- ---- with room for a line nothing is cut: the text stands whole behind what was printed before, and the rest of the buffer is as it was
 -- for what one line prints, and for the places at the end of a run before it

@@ -2,21 +2,14 @@
 -- hex, g, c. C or U with a datagram in hex, D with a packet in hex. T. X and a place. Any other line is a bad one; one whose first field is A is a bad line
 -- of an access point.
 -- Assumes nothing.
-use Rattle.std.specs.Prelude.{ℕ, ◌/◌, ◌&&◌, List, length, get_or, eqb, ltb}
+use Rattle.std.specs.Prelude.{ℕ, ◌/◌, ◌&&◌, List, [], ◌∷◌, Option, Some, None, unwrap_or, length, eqb, ltb}
+use Rattle.std.specs.Option.{option_map}
 use Rattle.base_octets.specs.Choice.{pick}
-use Rattle.base_octets.specs.Search.{first_of}
-use Rattle.base_octets.specs.Sums.{count_of}
-use Rattle.base_numerals.specs.declared.Numeral.{Numeral}
-use Rattle.base_numerals.specs.declared.Numeral.TheVariants as N
-use Rattle.base_numerals.specs.declared.Word.{Word}
-use Rattle.base_numerals.specs.declared.Word.TheVariants as W
-use Rattle.base_numerals.specs.declared.Size.{Size}
-use Rattle.base_numerals.specs.declared.Size.TheVariants as S
 use Rattle.base_numerals.specs.Decimal.{number_in}
 use Rattle.base_numerals.specs.Hex.{word_in, octets_read, Filled, filled}
 use Rattle.bench_text.specs.declared.Line.{Line}
 use Rattle.bench_text.specs.declared.Line.TheVariants.{Node, Point, Control, User, Down, Tick, Close, BadPoint, Bad}
-use Rattle.bench_text.specs.Fields.{is_tab, field_at}
+use Rattle.bench_text.specs.Fields.{tabs_in, field_at}
 use Rattle.unit_plan.specs.Limits.{longest_name}
 
 -- a packet too
@@ -35,84 +28,84 @@ pub record Told : Type 0 where
 abbrev pub told : Line → List ℕ → Told
 told line octets = record { line = line; octets = octets }
 
--- the letter that is the first field, 0 where that is no letter alone
-unfoldable pub letter_of : List ℕ → ℕ
-letter_of l = pick {A = ℕ} (eqb (first_of is_tab l) 1) (get_or l 0 0) 0
+-- what a good line says, or nothing, and the buffer
+pub record Heard : Type 0 where
+  pub line : Option Line
+  pub octets : List ℕ
 
-unfoldable pub bad_read : ℕ → Line
-bad_read letter = pick (eqb letter 65) BadPoint Bad
+abbrev pub heard : Option Line → List ℕ → Heard
+heard line octets = record { line = line; octets = octets }
 
--- ---- the value of a field, or the line that its absence makes
-unfoldable pub with_number : Numeral → Line → (ℕ → Line) → Line
-with_number (N.Is n) bad f = f n
-with_number N.Not bad f = bad
+-- the value of a field, or nothing where one before it is none
+abbrev pub given : {A B : Type 0} → Option A → (A → Option B) → Option B
+given (Some a) f = f a
+given None f = None
 
-unfoldable pub with_word : Word → (ℕ → Line) → Line
-with_word (W.Is n) f = f n
-with_word W.Not f = Bad
+abbrev pub sole : List ℕ → Option ℕ
+sole [] = None
+sole (c ∷ []) = Some c
+sole (c ∷ d ∷ l) = None
 
+-- the letter that is the first field
+unfoldable pub letter_of : List ℕ → Option ℕ
+letter_of l = sole (field_at 0 l)
+
+-- ---- octets in hex, at most so many
 unfoldable pub octets_up_to : ℕ → List ℕ → List ℕ → Filled
-octets_up_to most l out = pick (ltb most (length l / 2)) (filled S.Not out) (octets_read l out)
+octets_up_to most l out = pick (ltb most (length l / 2)) (filled None out) (octets_read l out)
 
-unfoldable pub sized : Size → Line → (ℕ → Line) → Line
-sized (S.Is n) bad f = f n
-sized S.Not bad f = bad
+unfoldable pub datagram_read : List ℕ → List ℕ → Filled
+datagram_read l out = octets_up_to datagram_most (field_at 1 l) out
 
-unfoldable pub with_octets : Filled → Line → (ℕ → Line) → Told
-with_octets x bad f = told (sized x.size bad f) x.out
+-- a line that brings them
+abbrev pub with_octets : (ℕ → Line) → Filled → Heard
+with_octets f x = heard (option_map f x.size) x.out
 
 -- ---- line by line
-unfoldable pub times_read : List ℕ → ℕ → ℕ → ℕ → Line
-times_read l control user pool =
-    with_number (number_in (field_at 4 l)) Bad λ recovery.
-    with_number (number_in (field_at 5 l)) Bad λ resend.
-    with_number (number_in (field_at 6 l)) Bad λ sends.
-    with_number (number_in (field_at 7 l)) Bad λ interval.
-    Node control user pool recovery resend sends interval
-
-unfoldable pub node_read : List ℕ → Line
+unfoldable pub node_read : List ℕ → Option Line
 node_read l =
-    with_word (word_in (field_at 1 l)) λ control.
-    with_word (word_in (field_at 2 l)) λ user.
-    with_word (word_in (field_at 3 l)) λ pool.
-    times_read l control user pool
+    given (word_in (field_at 1 l)) λ control.
+    given (word_in (field_at 2 l)) λ user.
+    given (word_in (field_at 3 l)) λ pool.
+    given (number_in (field_at 4 l)) λ recovery.
+    given (number_in (field_at 5 l)) λ resend.
+    given (number_in (field_at 6 l)) λ sends.
+    given (number_in (field_at 7 l)) λ interval.
+    Some (Node control user pool recovery resend sends interval)
 
-unfoldable pub numbers_read : Numeral → Numeral → (ℕ → ℕ → Told) → Told → Told
-numbers_read (N.Is g) (N.Is c) f bad = f g c
-numbers_read (N.Is g) N.Not f bad = bad
-numbers_read N.Not c f bad = bad
+-- the numbers first: where one is none, the name is not read
+abbrev pub named : Option (ℕ → Line) → List ℕ → List ℕ → Heard
+named (Some f) text out = with_octets f (octets_up_to longest_name text out)
+named None text out = heard None out
 
-unfoldable pub point_read : List ℕ → List ℕ → Told
+unfoldable pub point_read : List ℕ → List ℕ → Heard
 point_read l out =
-    numbers_read (number_in (field_at 2 l)) (number_in (field_at 3 l))
-    (λ g c. with_octets (octets_up_to longest_name (field_at 1 l) out) BadPoint (Point g c))
-    (told BadPoint out)
+    named (given (number_in (field_at 2 l)) λ guarantee. given (number_in (field_at 3 l)) λ ceiling. Some (Point guarantee ceiling)) (field_at 1 l) out
 
-unfoldable pub control_read : List ℕ → List ℕ → Told
-control_read l out = with_octets (octets_up_to datagram_most (field_at 1 l) out) Bad Control
+abbrev pub close_read : List ℕ → Option Line
+close_read l = option_map Close (number_in (field_at 1 l))
 
-unfoldable pub user_read : List ℕ → List ℕ → Told
-user_read l out = with_octets (octets_up_to datagram_most (field_at 1 l) out) Bad User
+-- a good line, by its letter and its number of tabs
+abbrev pub lettered : ℕ → ℕ → List ℕ → List ℕ → Heard
+lettered letter tabs l out =
+    pick (eqb letter 78 && eqb tabs 7) (heard (node_read l) out)
+    (pick (eqb letter 65 && eqb tabs 3) (point_read l out)
+    (pick (eqb letter 67 && eqb tabs 1) (with_octets Control (datagram_read l out))
+    (pick (eqb letter 85 && eqb tabs 1) (with_octets User (datagram_read l out))
+    (pick (eqb letter 68 && eqb tabs 1) (with_octets Down (datagram_read l out))
+    (pick (eqb letter 84 && eqb tabs 0) (heard (Some Tick) out)
+    (pick (eqb letter 88 && eqb tabs 1) (heard (close_read l) out) (heard None out)))))))
 
-unfoldable pub down_read : List ℕ → List ℕ → Told
-down_read l out = with_octets (octets_up_to datagram_most (field_at 1 l) out) Bad Down
+abbrev pub begun : Option ℕ → List ℕ → List ℕ → Heard
+begun (Some letter) l out = lettered letter (tabs_in l) l out
+begun None l out = heard None out
 
-unfoldable pub close_read : List ℕ → Line
-close_read l = with_number (number_in (field_at 1 l)) Bad Close
+unfoldable pub good_read : List ℕ → List ℕ → Heard
+good_read l out = pick (ltb longest (length l)) (heard None out) (begun (letter_of l) l out)
 
--- the lines that bring no octets, by their letter and their number of tabs
-unfoldable pub short_read : ℕ → ℕ → List ℕ → Line
-short_read letter tabs l =
-    pick (eqb letter 78 && eqb tabs 7) (node_read l)
-    (pick (eqb letter 84 && eqb tabs 0) Tick
-    (pick (eqb letter 88 && eqb tabs 1) (close_read l) (bad_read letter)))
-
-unfoldable pub short_line : ℕ → ℕ → List ℕ → List ℕ → Told
-short_line letter tabs l out =
-    pick (eqb letter 67 && eqb tabs 1) (control_read l out)
-    (pick (eqb letter 85 && eqb tabs 1) (user_read l out)
-    (pick (eqb letter 68 && eqb tabs 1) (down_read l out)
-    (pick (eqb letter 65 && eqb tabs 3) (point_read l out) (told (short_read letter tabs l) out))))
+abbrev pub bad_read : Option ℕ → Line
+bad_read (Some letter) = pick (eqb letter 65) BadPoint Bad
+bad_read None = Bad
 
 unfoldable pub line_read : List ℕ → List ℕ → Told
-line_read l out = pick (ltb longest (length l)) (told (bad_read (letter_of l)) out) (short_line (letter_of l) (count_of is_tab l) l out)
+line_read l out = told (unwrap_or (good_read l out).line (bad_read (letter_of l))) (good_read l out).octets

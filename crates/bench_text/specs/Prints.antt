@@ -22,11 +22,11 @@ packet_text number reply payload = reply_text number reply ++ (9 ∷ []) ++ octe
 
 -- D and the datagram
 unfoldable pub due_text : List ℕ → List ℕ
-due_text datagram = (68 ∷ []) ++ (9 ∷ []) ++ octets_text datagram ++ (10 ∷ [])
+due_text datagram = (68 ∷ 9 ∷ []) ++ octets_text datagram ++ (10 ∷ [])
 
 -- a letter and a number
 unfoldable pub counted_text : ℕ → ℕ → List ℕ
-counted_text letter n = (letter ∷ []) ++ (9 ∷ []) ++ decimal 1 n ++ (10 ∷ [])
+counted_text letter n = (letter ∷ 9 ∷ []) ++ decimal 1 n ++ (10 ∷ [])
 
 -- E and the number of the line; L and the live count
 unfoldable pub bad_text : ℕ → List ℕ

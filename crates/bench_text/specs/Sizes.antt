@@ -1,17 +1,16 @@
 -- How long the lines are that the bench prints, whatever the numbers: a decimal has at most 20 digits.
 -- Assumes nothing.
-use Rattle.std.specs.Prelude.{ℕ, zero, suc, ◌+◌, ◌*◌, ◌-◌, ◌/◌, ◌%◌, ◌≤◌, not, ◌&&◌, ◌||◌, List, ◌≡◌, refl, length, eqb, leb, ltb}
+use Rattle.std.specs.Prelude.{ℕ, zero, suc, ◌+◌, ◌*◌, ◌-◌, ◌/◌, ◌%◌, ◌≤◌, not, ◌&&◌, ◌||◌, List, Option, Some, None, ◌≡◌, refl, length, eqb, leb, ltb}
 use Rattle.std.proofs.Common.{arith, length-append}
 use Rattle.base_octets.specs.Choice.{split}
-use Rattle.base_octets.specs.Sums.{count_of}
 use Rattle.base_octets.specs.Every.{every}
 use Rattle.base_octets.specs.Overlay.{length-overlay}
-use Rattle.base_numerals.specs.declared.Numeral.{Numeral}
-use Rattle.base_numerals.specs.declared.Numeral.TheVariants as N
 use Rattle.base_numerals.specs.Decimal.{digits, decimal}
 use Rattle.base_numerals.specs.Hex.{length_hex, octets_in, octets_read, is_hex}
-use Rattle.bench_text.specs.Fields.{is_tab}
-use Rattle.bench_text.specs.Lines.{Told, octets_up_to, with_octets, numbers_read, point_read, control_read, user_read, down_read, short_line, letter_of, longest, line_read}
+use Rattle.bench_text.specs.Fields.{tabs_in}
+use Rattle.bench_text.specs.declared.Line.{Line}
+use Rattle.bench_text.specs.Lines.{octets_up_to, datagram_read, named, point_read, lettered, begun, good_read, letter_of, longest, line_read}
+use Rattle.unit_plan.specs.Limits.{longest_name}
 use Rattle.bench_text.specs.Prints.{octets_text, reply_text, answer_text, packet_text, due_text, counted_text, bad_text, live_text}
 
 digits_most : (k w n : ℕ) → length (digits k w n) ≤ k
@@ -75,21 +74,25 @@ up_to_length : (most : ℕ) (l out : List ℕ) → length (octets_up_to most l o
 unfolding octets_up_to
 up_to_length most l out = split (ltb most (length l / 2)) (λ e. rw e) (λ e. rw e (read_length l out))
 
-numbers-length : (n : ℕ) (x y : Numeral) (f : ℕ → ℕ → Told) (bad : Told) → ((g c : ℕ) → length (f g c).octets ≡ n) → length bad.octets ≡ n
-    → length (numbers_read x y f bad).octets ≡ n
-unfolding numbers_read
-numbers-length n (N.Is g) (N.Is c) f bad h k = h g c
-numbers-length n (N.Is g) N.Not f bad h k = k
-numbers-length n N.Not y f bad h k = k
+named-length : (f : Option (ℕ → Line)) (text out : List ℕ) → length (named f text out).octets ≡ length out
+named-length (Some f) text out = up_to_length longest_name text out
+named-length None text out = refl
 
-short-length : (letter tabs : ℕ) (l out : List ℕ) → length (short_line letter tabs l out).octets ≡ length out
-unfolding short_line control_read user_read down_read point_read with_octets
-short-length letter tabs l out =
-    split (eqb letter 67 && eqb tabs 1) (λ e. rw e (up_to_length _ _ out))
-    (λ e. rw e (split (eqb letter 85 && eqb tabs 1) (λ f. rw f (up_to_length _ _ out))
-    (λ f. rw f (split (eqb letter 68 && eqb tabs 1) (λ g. rw g (up_to_length _ _ out))
-    (λ g. rw g (split (eqb letter 65 && eqb tabs 3) (λ h. rw h (numbers-length (length out) _ _ _ _ (λ a c. up_to_length _ _ out) refl)) (λ h. rw h)))))))
+lettered-length : (letter tabs : ℕ) (l out : List ℕ) → length (lettered letter tabs l out).octets ≡ length out
+unfolding datagram_read point_read
+lettered-length letter tabs l out =
+    split (eqb letter 78 && eqb tabs 7) (λ e. rw e)
+    (λ e. rw e (split (eqb letter 65 && eqb tabs 3) (λ f. rw f (named-length _ _ out))
+    (λ f. rw f (split (eqb letter 67 && eqb tabs 1) (λ g. rw g (up_to_length _ _ out))
+    (λ g. rw g (split (eqb letter 85 && eqb tabs 1) (λ h. rw h (up_to_length _ _ out))
+    (λ h. rw h (split (eqb letter 68 && eqb tabs 1) (λ i. rw i (up_to_length _ _ out))
+    (λ i. rw i (split (eqb letter 84 && eqb tabs 0) (λ j. rw j)
+    (λ j. rw j (split (eqb letter 88 && eqb tabs 1) (λ k. rw k) (λ k. rw k)))))))))))))
+
+begun-length : (letter : Option ℕ) (l out : List ℕ) → length (begun letter l out).octets ≡ length out
+begun-length (Some letter) l out = lettered-length letter (tabs_in l) l out
+begun-length None l out = refl
 
 pub line_read_length : (l out : List ℕ) → length (line_read l out).octets ≡ length out
-unfolding line_read
-line_read_length l out = split (ltb longest (length l)) (λ e. rw e) (λ e. rw e (short-length (letter_of l) (count_of is_tab l) l out))
+unfolding line_read good_read
+line_read_length l out = split (ltb longest (length l)) (λ e. rw e) (λ e. rw e (begun-length (letter_of l) l out))

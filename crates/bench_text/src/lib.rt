@@ -3,18 +3,16 @@
 
 ghost use Rattle.std.specs.Prelude.{◌≡◌};
 ghost use Rattle.base_numerals.specs.Laid.{laid, written};
-ghost use mir.Val.{bool_byte};
 ghost use Rattle.base_numerals.specs.Hex.{filled};
-ghost use Rattle.base_octets.specs.Search.{first_of};
-ghost use Rattle.base_octets.specs.Sums.{count_of};
-ghost use Rattle.bench_text.specs.Fields.{is_tab, field_at};
-ghost use Rattle.bench_text.specs.Lines.{letter_of, bad_read, told, octets_up_to, node_read, times_read, point_read, close_read, control_read, user_read, down_read, short_read, line_read};
+ghost use Rattle.bench_text.specs.Fields.{tabs_in, field_at};
+ghost use Rattle.bench_text.specs.Lines.{letter_of, told, heard, octets_up_to, datagram_read, node_read, point_read, good_read, line_read};
 ghost use Rattle.bench_text.specs.Prints.{octets_text, reply_text, counted_text, answer_text, packet_text, due_text, bad_text, live_text};
 
-use base_numerals::{Numeral, Size, Word};
+use base_numerals::{number_in, put, put_decimal, put_hex, put_text, word_in};
 use unit_plan::AccessPoint;
 
 // A line of input. The octets of a name, a datagram or a packet are in the buffer that was lent, `size` of them.
+// Kept: a size and no slice, since the clause of `read_line` tells the line and the whole buffer apart (`told`).
 #[derive(Clone, Copy)]
 pub enum Line {
     Node {
@@ -56,292 +54,194 @@ impl Line {
     pub const LONGEST: usize = 65535;
 }
 
-// The place of the first tab, or the length.
-fn tab_in(line: &[u8]) -> usize
-    ensures { result ≡ first_of is_tab line.now }
-{
-    let mut i: usize = 0;
-    while i < line.len() {
-        if line[i] == 9 {
-            return i;
-        }
-        i += 1;
-    }
-    i
-}
-
-fn one_if_tab(c: u8) -> usize
-    ensures { result ≡ bool_byte (is_tab c) }
-{
-    if c == 9 {
-        return 1;
-    }
-    0
-}
-
+#[tactic(auto, unfolding(crate::specs::Fields::is_tab))]
 fn tabs_in(line: &[u8]) -> usize
-    ensures { result ≡ count_of is_tab line.now }
+    ensures { result ≡ tabs_in line.now }
 {
-    let mut n: usize = 0;
-    let mut i: usize = 0;
-    while i < line.len() {
-        let k = one_if_tab(line[i]);
-        n += k;
-        i += 1;
-    }
-    n
+    line.iter().filter(|c| **c == b'\t').count()
 }
 
 // The field of a number, from 0; past the last there is nothing.
-fn field<'a>(line: &'a [u8], k: usize) -> &'a [u8]
+fn field(line: &[u8], k: usize) -> &[u8]
     ensures { result.now ≡ field_at k line.now }
 {
-    let t = tab_in(line);
-    if k == 0 {
-        return &line[0..t];
-    }
-    if line.len() <= t {
-        return &line[0..0];
-    }
-    field(&line[t + 1..], k - 1)
+    line.split(|c| *c == b'\t').nth(k).unwrap_or(&[])
 }
 
-// The letter that is the first field, 0 where that is no letter alone.
-fn letter_of(line: &[u8]) -> u8
+// The letter that is the first field.
+#[tactic(auto, unfolding(crate::specs::Lines::letter_of))]
+fn letter_of(line: &[u8]) -> Option<u8>
     ensures { result ≡ letter_of line.now }
 {
-    let t = tab_in(line);
-    if t != 1 {
-        return 0;
+    match field(line, 0) {
+        [letter] => Some(*letter),
+        _ => None,
     }
-    line[0]
-}
-
-fn bad_read(letter: u8) -> Line
-    ensures { result ≡ bad_read letter }
-{
-    if letter == 65 {
-        return Line::BadPoint;
-    }
-    Line::Bad
 }
 
 // Octets in hex, at most so many.
-fn octets_up_to(text: &[u8], most: usize, out: &mut [u8]) -> Size
+#[tactic(auto, unfolding(crate::specs::Lines::octets_up_to))]
+fn octets_up_to(text: &[u8], most: usize, out: &mut [u8]) -> Option<usize>
     ensures { filled result out.new ≡ octets_up_to most text.now out.old }
 {
     if most < text.len() / 2 {
-        return Size::Not;
+        return None;
     }
     base_numerals::read_octets(text, out)
 }
 
-// N: behind the addresses, Recovery, T, N and E.
-fn read_times(line: &[u8], control: u32, user: u32, pool: u32) -> Line
-    ensures { result ≡ times_read line.now control user pool }
+// C, U and D: a datagram or a packet.
+#[tactic(auto, unfolding(crate::specs::Lines::datagram_read, crate::specs::Lines::datagram_most))]
+fn read_datagram(line: &[u8], octets: &mut [u8]) -> Option<usize>
+    ensures { filled result octets.new ≡ datagram_read line.now octets.old }
 {
-    let Numeral::Is(recovery) = base_numerals::number_in(field(line, 4)) else {
-        return Line::Bad;
-    };
-    let Numeral::Is(resend) = base_numerals::number_in(field(line, 5)) else {
-        return Line::Bad;
-    };
-    let Numeral::Is(sends) = base_numerals::number_in(field(line, 6)) else {
-        return Line::Bad;
-    };
-    let Numeral::Is(interval) = base_numerals::number_in(field(line, 7)) else {
-        return Line::Bad;
-    };
-    Line::Node {
-        control,
-        user,
-        pool,
-        recovery,
-        resend,
-        sends,
-        interval,
-    }
+    octets_up_to(field(line, 1), Line::DATAGRAM, octets)
 }
 
-// N: control address, user address, pool base.
-fn read_node(line: &[u8]) -> Line
+// N: control address, user address, pool base, Recovery, T, N and E.
+#[tactic(auto, unfolding(crate::specs::Lines::node_read))]
+fn read_node(line: &[u8]) -> Option<Line>
     ensures { result ≡ node_read line.now }
 {
-    let Word::Is(control) = base_numerals::word_in(field(line, 1)) else {
-        return Line::Bad;
-    };
-    let Word::Is(user) = base_numerals::word_in(field(line, 2)) else {
-        return Line::Bad;
-    };
-    let Word::Is(pool) = base_numerals::word_in(field(line, 3)) else {
-        return Line::Bad;
-    };
-    read_times(line, control, user, pool)
+    Some(Line::Node {
+        control: word_in(field(line, 1))?,
+        user: word_in(field(line, 2))?,
+        pool: word_in(field(line, 3))?,
+        recovery: number_in(field(line, 4))?,
+        resend: number_in(field(line, 5))?,
+        sends: number_in(field(line, 6))?,
+        interval: number_in(field(line, 7))?,
+    })
 }
 
 // A: name, guarantee, ceiling.
-fn read_point(line: &[u8], octets: &mut [u8]) -> Line
-    ensures { told result octets.new ≡ point_read line.now octets.old }
+#[tactic(auto, unfolding(crate::specs::Lines::point_read, unit_plan::specs::Limits::longest_name))]
+fn read_point(line: &[u8], octets: &mut [u8]) -> Option<Line>
+    ensures { heard result octets.new ≡ point_read line.now octets.old }
 {
-    let Numeral::Is(guarantee) = base_numerals::number_in(field(line, 2)) else {
-        return Line::BadPoint;
-    };
-    let Numeral::Is(ceiling) = base_numerals::number_in(field(line, 3)) else {
-        return Line::BadPoint;
-    };
-    let Size::Is(size) = octets_up_to(field(line, 1), AccessPoint::LONGEST_NAME, octets) else {
-        return Line::BadPoint;
-    };
-    Line::Point {
+    let guarantee = number_in(field(line, 2))?;
+    let ceiling = number_in(field(line, 3))?;
+    let size = octets_up_to(field(line, 1), AccessPoint::LONGEST_NAME, octets)?;
+    Some(Line::Point {
         guarantee,
         ceiling,
         size,
+    })
+}
+
+// A good line, by its letter and its number of tabs.
+#[tactic(auto, unfolding(crate::specs::Lines::good_read, crate::specs::Lines::longest))]
+fn read_good(line: &[u8], octets: &mut [u8]) -> Option<Line>
+    ensures { heard result octets.new ≡ good_read line.now octets.old }
+{
+    if Line::LONGEST < line.len() {
+        return None;
     }
-}
-
-fn read_close(line: &[u8]) -> Line
-    ensures { result ≡ close_read line.now }
-{
-    let Numeral::Is(place) = base_numerals::number_in(field(line, 1)) else {
-        return Line::Bad;
-    };
-    Line::Close { place }
-}
-
-fn read_control(line: &[u8], octets: &mut [u8]) -> Line
-    ensures { told result octets.new ≡ control_read line.now octets.old }
-{
-    let Size::Is(size) = octets_up_to(field(line, 1), Line::DATAGRAM, octets) else {
-        return Line::Bad;
-    };
-    Line::Control { size }
-}
-
-fn read_user(line: &[u8], octets: &mut [u8]) -> Line
-    ensures { told result octets.new ≡ user_read line.now octets.old }
-{
-    let Size::Is(size) = octets_up_to(field(line, 1), Line::DATAGRAM, octets) else {
-        return Line::Bad;
-    };
-    Line::User { size }
-}
-
-fn read_down(line: &[u8], octets: &mut [u8]) -> Line
-    ensures { told result octets.new ≡ down_read line.now octets.old }
-{
-    let Size::Is(size) = octets_up_to(field(line, 1), Line::DATAGRAM, octets) else {
-        return Line::Bad;
-    };
-    Line::Down { size }
-}
-
-// By the letter and the number of tabs: the lines that bring no octets.
-fn read_short(letter: u8, tabs: usize, line: &[u8]) -> Line
-    ensures { result ≡ short_read letter tabs line.now }
-{
-    if (letter == 78) & (tabs == 7) {
-        return read_node(line);
+    match (letter_of(line)?, tabs_in(line)) {
+        (b'N', 7) => read_node(line),
+        (b'A', 3) => read_point(line, octets),
+        (b'C', 1) => Some(Line::Control {
+            size: read_datagram(line, octets)?,
+        }),
+        (b'U', 1) => Some(Line::User {
+            size: read_datagram(line, octets)?,
+        }),
+        (b'D', 1) => Some(Line::Down {
+            size: read_datagram(line, octets)?,
+        }),
+        (b'T', 0) => Some(Line::Tick),
+        (b'X', 1) => Some(Line::Close {
+            place: number_in(field(line, 1))?,
+        }),
+        _ => None,
     }
-    if (letter == 84) & (tabs == 0) {
-        return Line::Tick;
-    }
-    if (letter == 88) & (tabs == 1) {
-        return read_close(line);
-    }
-    bad_read(letter)
 }
 
 // A line without its line end; the octets that it brings are laid over the front of the buffer, which a bad line leaves as lent.
+#[tactic(auto, unfolding(crate::specs::Lines::line_read))]
 pub fn read_line(line: &[u8], octets: &mut [u8]) -> Line
     ensures { told result octets.new ≡ line_read line.now octets.old }
 {
-    let letter = letter_of(line);
-    if Line::LONGEST < line.len() {
-        return bad_read(letter);
+    if let Some(good) = read_good(line, octets) {
+        return good;
     }
-    let tabs = tabs_in(line);
-    if (letter == 67) & (tabs == 1) {
-        return read_control(line, octets);
+    match letter_of(line) {
+        Some(b'A') => Line::BadPoint,
+        _ => Line::Bad,
     }
-    if (letter == 85) & (tabs == 1) {
-        return read_user(line, octets);
-    }
-    if (letter == 68) & (tabs == 1) {
-        return read_down(line, octets);
-    }
-    if (letter == 65) & (tabs == 3) {
-        return read_point(line, octets);
-    }
-    read_short(letter, tabs, line)
 }
 
 // Octets in hex, a dash where there are none.
+#[tactic(auto, unfolding(crate::specs::Prints::octets_text))]
 fn put_octets(out: &mut [u8], at: usize, octets: &[u8]) -> usize
     ensures { written result out.new ≡ laid at (octets_text octets.now) out.old }
 {
-    if octets.len() == 0 {
-        return base_numerals::put(out, at, 45);
+    if octets.is_empty() {
+        return put(out, at, b'-');
     }
-    base_numerals::put_hex(out, at, octets)
+    put_hex(out, at, octets)
 }
 
-// Numeral and reply.
+// Number and reply.
+#[tactic(auto, using(base_numerals::specs::Laid::laid_on), unfolding(crate::specs::Prints::reply_text))]
 fn put_reply(out: &mut [u8], at: usize, number: u8, reply: &[u8]) -> usize
     ensures { written result out.new ≡ laid at (reply_text number reply.now) out.old }
 {
-    let a = base_numerals::put_decimal(out, at, number as u64, 1);
-    let b = base_numerals::put(out, a, 9);
+    let a = put_decimal(out, at, u64::from(number), 1);
+    let b = put(out, a, b'\t');
     put_octets(out, b, reply)
 }
 
 // What a call answered: number and reply.
+#[tactic(auto, using(base_numerals::specs::Laid::laid_on), unfolding(crate::specs::Prints::answer_text))]
 pub fn put_answer(out: &mut [u8], at: usize, number: u8, reply: &[u8]) -> usize
     ensures { written result out.new ≡ laid at (answer_text number reply.now) out.old }
 {
     let a = put_reply(out, at, number, reply);
-    base_numerals::put(out, a, 10)
+    put(out, a, b'\n')
 }
 
 // A packet that went through: number, reply, and a third field, the payload or the peer's address.
+#[tactic(auto, using(base_numerals::specs::Laid::laid_on), unfolding(crate::specs::Prints::packet_text))]
 pub fn put_packet(out: &mut [u8], at: usize, number: u8, reply: &[u8], payload: &[u8]) -> usize
     ensures { written result out.new ≡ laid at (packet_text number reply.now payload.now) out.old }
 {
     let a = put_reply(out, at, number, reply);
-    let b = base_numerals::put(out, a, 9);
+    let b = put(out, a, b'\t');
     let c = put_octets(out, b, payload);
-    base_numerals::put(out, c, 10)
+    put(out, c, b'\n')
 }
 
 // A datagram that was due.
 pub fn put_due(out: &mut [u8], at: usize, datagram: &[u8]) -> usize
     ensures { written result out.new ≡ laid at (due_text datagram.now) out.old }
 {
-    let a = base_numerals::put(out, at, 68);
-    let b = base_numerals::put(out, a, 9);
-    let c = put_octets(out, b, datagram);
-    base_numerals::put(out, c, 10)
+    let a = put_text(out, at, b"D\t");
+    let b = put_octets(out, a, datagram);
+    put(out, b, b'\n')
 }
 
 // A letter, a tab, a number.
 fn put_counted(out: &mut [u8], at: usize, letter: u8, n: u64) -> usize
     ensures { written result out.new ≡ laid at (counted_text letter n) out.old }
 {
-    let a = base_numerals::put(out, at, letter);
-    let b = base_numerals::put(out, a, 9);
-    let c = base_numerals::put_decimal(out, b, n, 1);
-    base_numerals::put(out, c, 10)
+    let a = put_text(out, at, &[letter, b'\t']);
+    let b = put_decimal(out, a, n, 1);
+    put(out, b, b'\n')
 }
 
 // A bad line, by its number.
+#[tactic(auto, unfolding(crate::specs::Prints::bad_text))]
 pub fn put_bad(out: &mut [u8], at: usize, n: u64) -> usize
     ensures { written result out.new ≡ laid at (bad_text n) out.old }
 {
-    put_counted(out, at, 69, n)
+    put_counted(out, at, b'E', n)
 }
 
 // The head of the lines at the end: the live count.
+#[tactic(auto, unfolding(crate::specs::Prints::live_text))]
 pub fn put_live(out: &mut [u8], at: usize, n: u64) -> usize
     ensures { written result out.new ≡ laid at (live_text n) out.old }
 {
-    put_counted(out, at, 76, n)
+    put_counted(out, at, b'L', n)
 }

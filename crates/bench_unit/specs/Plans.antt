@@ -1,7 +1,6 @@
 -- The lines of the plan: N, up to four A, and the plan taken; what is no N line is no first line.
 -- Assumes nothing.
-use Rattle.std.specs.Prelude.{ℕ, ◌+◌, ◌%◌, List, [], ◌≡◌, length, set, replicate, eqb, ltb, leb}
-use Rattle.std.proofs.Common.{ap}
+use Rattle.std.specs.Prelude.{ℕ, ◌+◌, ◌%◌, List, [], length, set, replicate, eqb, ltb, leb}
 use Rattle.base_octets.specs.Choice.{pick}
 use Rattle.base_octets.specs.Overlay.{overlay}
 use Rattle.unit_plan.specs.declared.AccessPoint.{AccessPoint}
@@ -11,17 +10,18 @@ use Rattle.unit_session.specs.declared.Session.{Session}
 use Rattle.unit_table.specs.declared.Node.{Node}
 use Rattle.unit_table.specs.Own.{fresh_node}
 use Rattle.call_own.specs.declared.Answer.{Answer}
-use Rattle.call_own.specs.Outcome.{outcome, back}
-use Rattle.call_store.specs.Stored.{stored, fresh_stored}
+use Rattle.call_own.specs.Outcome.{back}
+use Rattle.call_store.specs.Stored.{fresh_stored}
 use Rattle.bench_text.specs.declared.Line.{Line}
 use Rattle.bench_text.specs.declared.Line.TheVariants as L
+use Rattle.bench_unit.specs.declared.Phase.TheVariants as P
 use Rattle.bench_unit.specs.declared.Bench.{Bench}
-use Rattle.bench_unit.specs.State.{Shown, shown, Ran, ran, beside, plans, runs, over, kept_in, phased, end_bad, answered_shown}
+use Rattle.bench_unit.specs.State.{Shown, shown, Ran, beside, kept_in, phased, end_bad, answered_shown}
 
 -- N: the plan without access points
 unfoldable pub first_line : Bench → ℕ → ℕ → ℕ → ℕ → ℕ → ℕ → ℕ → Bench
 first_line b control user pool recovery resend sends interval = record {
-  phase = plans;
+  phase = P.Plan;
   lines = b.lines;
   made = b.made;
   node = fresh_node (record {
@@ -63,8 +63,8 @@ unfoldable pub with_plan : Plan → Node → Node
 with_plan p node = record { plan = p; echo = node.echo; next = node.next; heard = node.heard; recovery = node.recovery }
 
 -- a fifth is a bad line
-unfoldable pub one_more : Bench → ℕ → ℕ → List ℕ → List ℕ → Shown
-one_more b guarantee ceiling octets out =
+unfoldable pub one_more : ℕ → ℕ → List ℕ → Bench → List ℕ → Shown
+one_more guarantee ceiling octets b out =
     pick (leb 4 b.node.plan.count) (end_bad b out)
     (shown
     (record {
@@ -78,17 +78,12 @@ one_more b guarantee ceiling octets out =
 -- the plan taken; a refused one prints its number and -, and ends
 unfoldable pub plan_shown : Answer → Bench → List ℕ → Shown
 plan_shown a b out =
-    pick (eqb a.number 0) (shown (kept_in a.node b.made (phased runs b)) out) (answered_shown (back a []) (phased over b) out)
+    pick (eqb a.number 0) (shown (kept_in a.node b.made (phased P.Runs b)) out) (answered_shown (back a []) (phased P.Over b) out)
 
 unfoldable pub plan_taken : Bench → List Session → List (List ℕ) → List ℕ → Ran
 plan_taken b t w out =
     beside (fresh_stored b.node.plan t w).call.table (fresh_stored b.node.plan t w).store
     (plan_shown (fresh_stored b.node.plan t w).call.answer b out)
-
-pub plan_taken_lem : (b r : Bench) (t t' : List Session) (w w' : List (List ℕ)) (out o : List ℕ) (p : Plan) (a : Answer) → p ≡ b.node.plan
-    → stored (outcome a t' []) w' ≡ fresh_stored p t w → shown r o ≡ plan_shown a b out → ran r t' w' o ≡ plan_taken b t w out
-unfolding plan_taken
-plan_taken_lem b r t t' w w' out o p a e f g = rw (← rw e at f) (ap (beside t' w') g)
 
 -- the first line has to be N
 unfoldable pub start_line : Line → Bench → List ℕ → Shown

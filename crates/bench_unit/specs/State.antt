@@ -1,19 +1,20 @@
 -- Where the bench's run stands, and what is printed for what the unit answers: number and reply in hex, or -. A bad line prints E and ends.
 -- The unit's records and its store of kept replies stand beside the run.
 -- Assumes nothing.
-use Rattle.std.specs.Prelude.{ℕ, ◌+◌, List, ◌≡◌, take, replicate, ltb}
-use Rattle.std.proofs.Common.{ap}
-use Rattle.base_octets.specs.Choice.{pick}
+use Rattle.std.specs.Prelude.{ℕ, ◌+◌, Bool, true, false, List, ◌≡◌, min, take, replicate}
+use Rattle.std.proofs.Common.{ap, ◌∙◌}
 use Rattle.base_numerals.specs.Laid.{laid, written, Written}
 use Rattle.unit_plan.specs.Limits.{no_plan}
 use Rattle.unit_session.specs.declared.Session.{Session}
 use Rattle.unit_table.specs.declared.Node.{Node}
 use Rattle.unit_table.specs.Own.{fresh_node}
-use Rattle.call_own.specs.Outcome.{outcome, Back, back, least_reply}
-use Rattle.call_own.specs.declared.Answer.{Answer}
-use Rattle.call_store.specs.Stored.{Stored, stored}
+use Rattle.call_own.specs.Outcome.{Back, back, least_reply}
+use Rattle.call_store.specs.Stored.{Stored}
 use Rattle.bench_text.specs.Prints.{answer_text, bad_text}
+use Rattle.bench_unit.specs.declared.Phase.{Phase}
+use Rattle.bench_unit.specs.declared.Phase.TheVariants as P
 use Rattle.bench_unit.specs.declared.Bench.{Bench}
+use Rattle.bench_unit.specs.declared.Run.{Run}
 
 -- the run, and the output buffer
 pub record Shown : Type 0 where
@@ -36,21 +37,34 @@ ran b t w out = record { bench = b; table = t; store = w; out = out }
 abbrev pub beside : List Session → List (List ℕ) → Shown → Ran
 beside t w x = ran x.bench t w x.out
 
--- phases: nothing read, the lines of the plan, the plan taken, ended
-unfoldable pub first_phase : ℕ
-first_phase = 0
+-- ---- of a run: where it stands and what is behind its references
+abbrev pub ran_of : Run → Ran
+ran_of r = ran r.bench r.recs.now r.store.now r.out.now
 
-unfoldable pub plans : ℕ
-plans = 1
+-- what a definition makes of it
+abbrev pub on : (Bench → List Session → List (List ℕ) → List ℕ → Ran) → Run → Ran
+on f r = f r.bench r.recs.now r.store.now r.out.now
 
-unfoldable pub runs : ℕ
-runs = 2
+-- the same of one that prints: the records and the store stay
+abbrev pub printing : (Bench → List ℕ → Shown) → Run → Ran
+printing f r = beside r.recs.now r.store.now (f r.bench r.out.now)
 
-unfoldable pub over : ℕ
-over = 3
+-- the records, the store and the buffer are those that were lent
+abbrev pub SameLent : Run → Run → Type 0
+SameLent a b = (b.recs.ghost_name ≡ a.recs.ghost_name) × (b.store.ghost_name ≡ a.store.ghost_name) × (b.out.ghost_name ≡ a.out.ghost_name)
+
+pub lent_on : (a b c : Run) → SameLent a b → SameLent b c → SameLent a c
+lent_on a b c p q = (q.0 ∙ p.0, q.1 ∙ p.1, q.2 ∙ p.2)
+
+-- ---- phases
+abbrev pub is_over : Phase → Bool
+is_over P.First = false
+is_over P.Plan = false
+is_over P.Runs = false
+is_over P.Over = true
 
 unfoldable pub bench_start : Bench
-bench_start = record { phase = first_phase; lines = 0; made = 0; node = fresh_node no_plan }
+bench_start = record { phase = P.First; lines = 0; made = 0; node = fresh_node no_plan }
 
 -- what a call gets as its reply buffer
 unfoldable pub lent_reply : List ℕ
@@ -58,7 +72,7 @@ lent_reply = replicate least_reply 0
 
 -- ---- parts of it changed
 unfoldable pub counted : ℕ → ℕ
-counted n = pick {A = ℕ} (ltb n 18446744073709551615) (n + 1) n
+counted n = min (n + 1) 18446744073709551615
 
 unfoldable pub with_line : Bench → Bench
 with_line b = record { phase = b.phase; lines = counted b.lines; made = b.made; node = b.node }
@@ -69,7 +83,7 @@ with_made made b = record { phase = b.phase; lines = b.lines; made = made; node 
 unfoldable pub kept_in : Node → ℕ → Bench → Bench
 kept_in node made b = record { phase = b.phase; lines = b.lines; made = made; node = node }
 
-unfoldable pub phased : ℕ → Bench → Bench
+unfoldable pub phased : Phase → Bench → Bench
 phased phase b = record { phase = phase; lines = b.lines; made = b.made; node = b.node }
 
 -- ---- printing
@@ -79,7 +93,7 @@ printed text next made out = shown (next (laid made text out).at) (laid made tex
 
 -- a bad line prints E and its number, and ends
 unfoldable pub bad_at : Bench → ℕ → Bench
-bad_at b made = record { phase = over; lines = b.lines; made = made; node = b.node }
+bad_at b made = record { phase = P.Over; lines = b.lines; made = made; node = b.node }
 
 unfoldable pub end_bad : Bench → List ℕ → Shown
 end_bad b out = printed (bad_text b.lines) (bad_at b) b.made out
@@ -92,11 +106,6 @@ answered_shown x b out =
 -- what a call came to: that printed, the records and the store as it left them
 unfoldable pub unit_shown : Stored → Bench → List ℕ → Ran
 unit_shown x b out = beside x.call.table x.store (answered_shown (back x.call.answer x.call.reply) b out)
-
-pub unit_shown_lem : (x : Stored) (a : Answer) (t : List Session) (w : List (List ℕ)) (reply : List ℕ) (b r : Bench) (out o : List ℕ)
-    → stored (outcome a t reply) w ≡ x → shown r o ≡ answered_shown (back a reply) b out → ran r t w o ≡ unit_shown x b out
-unfolding unit_shown
-unit_shown_lem x a t w reply b r out o e f = rw (← e) (ap (beside t w) f)
 
 -- ---- laws of the printing
 pub printed_by : (text : List ℕ) (next : ℕ → Bench) (made r : ℕ) (out o : List ℕ) → written r o ≡ laid made text out → shown (next r) o ≡ printed text next made out

@@ -24,10 +24,12 @@ use Rattle.call_line.specs.Line.{line_by, line_of}
 use Rattle.call_store.specs.Stored.{fresh_stored, line_stored}
 use Rattle.bench_text.specs.Prints.{answer_text, bad_text, live_text}
 use Rattle.bench_text.specs.Sizes.{answer_most, bad_most, live_most}
+use Rattle.bench_unit.specs.declared.Phase.{Phase}
+use Rattle.bench_unit.specs.declared.Phase.TheVariants as P
 use Rattle.bench_unit.specs.declared.Bench.{Bench}
-use Rattle.bench_unit.specs.State.{Shown, plans, runs, over, lent_reply, with_line, with_made, kept_in, phased, bad_at, printed, end_bad, answered_shown}
+use Rattle.bench_unit.specs.State.{Shown, is_over, lent_reply, with_line, with_made, kept_in, phased, bad_at, printed, end_bad, answered_shown}
 use Rattle.bench_unit.specs.Plans.{plan_shown, plan_taken}
-use Rattle.bench_unit.specs.Ended.{live_shown, line_shown, line_printed, place_printed, places_to, places_printed, end_plan, end_first, end_of_input}
+use Rattle.bench_unit.specs.Ended.{live_shown, line_shown, line_printed, place_printed, places_to, places_printed, end_taken, end_plan, end_first, end_by, end_of_input}
 
 -- ---- text that fits is laid whole, and what stands beside it stays
 lay_whole : (k : ℕ) (m d : List ℕ) → k + length m ≤ length d → lay_at k m d ≡ take k d ++ (m ++ drop (k + length m) d)
@@ -90,14 +92,17 @@ all_print node t w = live_text (sessions (take places t)) ++ places_print node t
 
 unfoldable pub plan_end_prints : Bench → List Session → List (List ℕ) → List ℕ
 plan_end_prints b t w =
-    pick (eqb (plan_taken b t w []).bench.phase over) (plan_prints (fresh_stored b.node.plan t w).call.answer)
+    pick (is_over (plan_taken b t w []).bench.phase) (plan_prints (fresh_stored b.node.plan t w).call.answer)
     (plan_prints (fresh_stored b.node.plan t w).call.answer ++ all_print (plan_taken b t w []).bench.node (plan_taken b t w []).table (plan_taken b t w []).store)
 
+unfoldable pub end_prints_by : Phase → Bench → List Session → List (List ℕ) → List ℕ
+end_prints_by P.First b t w = bad_text (with_line b).lines
+end_prints_by P.Plan b t w = plan_end_prints b t w
+end_prints_by P.Runs b t w = all_print b.node t w
+end_prints_by P.Over b t w = []
+
 unfoldable pub end_prints : Bench → List Session → List (List ℕ) → List ℕ
-end_prints b t w =
-    pick (eqb b.phase over) []
-    (pick (eqb b.phase runs) (all_print b.node t w)
-    (pick (eqb b.phase plans) (plan_end_prints b t w) (bad_text (with_line b).lines)))
+end_prints b t w = end_prints_by b.phase b t w
 
 -- ---- each step prints its text
 pub bad_adds : (b : Bench) (out : List ℕ) → Adds (bad_text b.lines) b.made out (end_bad b out).bench.made (end_bad b out).out
@@ -174,17 +179,21 @@ all_add t w b out =
     adds_on _ _ _ _ _ _ _ _ l p
 
 -- the end of the input prints its text
+end_by_adds : (p : Phase) (b : Bench) (t : List Session) (w : List (List ℕ)) (out : List ℕ) → b.made ≤ length out
+    → Adds (end_prints_by p b t w) b.made out (end_by p b t w out).bench.made (end_by p b t w out).out
+unfolding end_prints_by end_by plan_end_prints end_plan end_taken end_first with_line
+end_by_adds P.First b t w out h = bad_adds (with_line b) out
+end_by_adds P.Plan b t w out h =
+    rw (plan_phase b t w out h) (split (is_over (plan_taken b t w []).bench.phase)
+    (λ i. rw i (plan_adds b t w out h))
+    (λ i. rw (i, ← plan_node b t w out h, ← plan_table b t w out h, ← plan_store b t w out h) (adds_on _ _ _ _ _ _ _ _ (plan_adds b t w out h) (all_add (plan_taken b t w out).table (plan_taken b t w out).store (plan_taken b t w out).bench (plan_taken b t w out).out))))
+end_by_adds P.Runs b t w out h = all_add t w b out
+end_by_adds P.Over b t w out h = adds_none b.made out h
+
 pub end_adds : (b : Bench) (t : List Session) (w : List (List ℕ)) (out : List ℕ) → b.made ≤ length out
     → Adds (end_prints b t w) b.made out (end_of_input b t w out).bench.made (end_of_input b t w out).out
-unfolding end_prints end_of_input plan_end_prints end_plan end_first with_line
-end_adds b t w out h =
-    split (eqb b.phase over) (λ e. rw e (adds_none b.made out h))
-    (λ e. rw e (split (eqb b.phase runs) (λ f. rw f (all_add t w b out))
-    (λ f. rw f (split (eqb b.phase plans)
-    (λ g. rw (g, plan_phase b t w out h) (split (eqb (plan_taken b t w []).bench.phase over)
-    (λ i. rw i (plan_adds b t w out h))
-    (λ i. rw (i, ← plan_node b t w out h, ← plan_table b t w out h, ← plan_store b t w out h) (adds_on _ _ _ _ _ _ _ _ (plan_adds b t w out h) (all_add (plan_taken b t w out).table (plan_taken b t w out).store (plan_taken b t w out).bench (plan_taken b t w out).out)))))
-    (λ g. rw g (bad_adds (with_line b) out))))))
+unfolding end_prints end_of_input
+end_adds b t w out h = end_by_adds b.phase b t w out h
 
 -- ---- how long the texts are
 -- a place prints at most a reply buffer of text, and a line end
@@ -226,15 +235,16 @@ plan_most a =
     let z : length (take {A = ℕ} a.size []) ≡ 0 = simp length-take (omega arith) in
     split (eqb a.number 0) (λ e. rw e (omega arith)) (λ e. rw e (omega arith))
 
-pub end_most : (b : Bench) (t : List Session) (w : List (List ℕ)) → length (end_prints b t w) ≤ 46 + place_room * places
-unfolding end_prints plan_end_prints place_room least_reply
-end_most b t w =
-    let a = all_most b.node t w in
+end_by_most : (p : Phase) (b : Bench) (t : List Session) (w : List (List ℕ)) → length (end_prints_by p b t w) ≤ 46 + place_room * places
+unfolding end_prints_by plan_end_prints place_room least_reply
+end_by_most P.First b t w = let e = bad_most (with_line b).lines in omega arith
+end_by_most P.Plan b t w =
     let c = plan_most (fresh_stored b.node.plan t w).call.answer in
     let d = all_most (plan_taken b t w []).bench.node (plan_taken b t w []).table (plan_taken b t w []).store in
-    let e = bad_most (with_line b).lines in
-    split (eqb b.phase over) (λ f. rw f (omega arith))
-    (λ f. rw f (split (eqb b.phase runs) (λ g. rw g (omega arith))
-    (λ g. rw g (split (eqb b.phase plans)
-    (λ h. rw h (split (eqb (plan_taken b t w []).bench.phase over) (λ i. rw i (omega arith)) (λ i. rw i (simp length-append (omega arith)))))
-    (λ h. rw h (omega arith))))))
+    split (is_over (plan_taken b t w []).bench.phase) (λ i. rw i (omega arith)) (λ i. rw i (simp length-append (omega arith)))
+end_by_most P.Runs b t w = let a = all_most b.node t w in omega arith
+end_by_most P.Over b t w = omega arith
+
+pub end_most : (b : Bench) (t : List Session) (w : List (List ℕ)) → length (end_prints b t w) ≤ 46 + place_room * places
+unfolding end_prints
+end_most b t w = end_by_most b.phase b t w

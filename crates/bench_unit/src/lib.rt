@@ -3,13 +3,12 @@
 // them where they lie. Output goes into a lent buffer from a place on; the programs write it out.
 #![tactic(auto)]
 
-ghost use Rattle.std.specs.Prelude.{[], ◌≡◌, eqb, take};
-ghost use Rattle.unit_tunnel.specs.Numbering.{places};
-ghost use Rattle.unit_table.specs.Room.{sessions};
+ghost use Rattle.std.specs.Prelude.{[], ◌≡◌, not, take, count_by};
+ghost use Rattle.unit_session.specs.Session.{is_free};
 ghost use Rattle.call_own.specs.Outcome.{back};
-ghost use Rattle.bench_unit.specs.State.{shown, ran, bench_start, counted, with_line, with_made, end_bad, kept_in, answered_shown};
-ghost use Rattle.bench_unit.specs.Ended.{one_more_of, live_shown, line_shown, line_printed, place_printed, places_printed, end_plan, end_first, end_of_input};
-ghost use Rattle.bench_unit.specs.Plans.{first_line, point_from, with_point, one_more, plan_shown, plan_taken, start_line};
+ghost use Rattle.bench_unit.specs.State.{is_over, on, ran_of, printing, SameLent, bench_start, with_line, end_bad, answered_shown};
+ghost use Rattle.bench_unit.specs.Ended.{place_printed, places_printed, end_plan, end_of_input};
+ghost use Rattle.bench_unit.specs.Plans.{point_from, one_more, plan_taken, start_line};
 
 use bench_text::Line;
 use call_own::Answer;
@@ -19,116 +18,59 @@ use unit_store::Kept;
 use unit_table::Node;
 use unit_tunnel::Unit;
 
+// How far a run is: nothing read, the lines of the plan, the plan taken, ended.
+#[derive(Clone, Copy)]
+pub enum Phase {
+    First,
+    Plan,
+    Runs,
+    Over,
+}
+
+impl Phase {
+    pub fn is_over(self) -> bool
+        ensures { result ≡ is_over self }
+    {
+        matches!(self, Phase::Over)
+    }
+}
+
 // How far the run is, how many lines were taken, how much of the output buffer is in use, and what goes with the unit's records. Before the
 // plan is taken, the unit's plan is the one that is being read.
 #[derive(Clone, Copy)]
 pub struct Bench {
-    pub phase: u8,
+    pub phase: Phase,
     pub lines: u64,
     pub made: usize,
     pub node: Node,
 }
 
 impl Bench {
-    // Nothing read; the lines of the plan; the plan taken; ended.
-    pub const FIRST: u8 = 0;
-
-    pub const PLAN: u8 = 1;
-
-    pub const RUNS: u8 = 2;
-
-    pub const OVER: u8 = 3;
-
     pub fn start() -> Self
         ensures { result ≡ bench_start }
     {
-        let plan = Plan::none();
-        let node = Node::fresh(plan);
         Bench {
-            phase: Self::FIRST,
+            phase: Phase::First,
             lines: 0,
             made: 0,
-            node,
+            node: Node::fresh(Plan::none()),
         }
     }
+
+    // A line more; the count stays where it can go no further.
+    pub fn with_line(mut self) -> Self
+        ensures { result ≡ with_line self }
+    {
+        self.lines = self.lines.saturating_add(1);
+        self
+    }
 }
 
-pub fn phase_of(b: Bench) -> u8
-    ensures { result ≡ b.phase }
-{
-    b.phase
-}
-
-pub fn node_of(b: Bench) -> Node
-    ensures { result ≡ b.node }
-{
-    b.node
-}
-
-fn plan_of(b: Bench) -> Plan
-    ensures { result ≡ b.node.plan }
-{
-    let node = b.node;
-    node.plan
-}
-
-// The part of a buffer that is in use.
-pub fn front<'a>(s: &'a [u8], n: usize) -> &'a [u8]
+// The first so many of a slice, or all where there are fewer.
+pub fn front<T>(s: &[T], n: usize) -> &[T]
     ensures { result.now ≡ take n s.now }
 {
-    if n <= s.len() {
-        return &s[0..n];
-    }
-    &s[0..]
-}
-
-// A line more; the count stays where it can go no further.
-fn counted(n: u64) -> u64
-    ensures { result ≡ counted n }
-{
-    if n < u64::MAX {
-        return n + 1;
-    }
-    n
-}
-
-// A bad line ends the run.
-pub fn end_bad(mut b: Bench, out: &mut [u8]) -> Bench
-    ensures { shown result out.new ≡ end_bad b out.old }
-{
-    b.made = bench_text::put_bad(out, b.made, b.lines);
-    b.phase = Bench::OVER;
-    b
-}
-
-// N: the plan without access points.
-fn first_line(
-    mut b: Bench,
-    control: u32,
-    user: u32,
-    pool: u32,
-    recovery: u8,
-    resend: u8,
-    sends: u8,
-    interval: u8,
-) -> Bench
-    ensures { result ≡ first_line b control user pool recovery resend sends interval }
-{
-    let none = AccessPoint::none();
-    let plan = Plan {
-        control,
-        user,
-        pool,
-        recovery,
-        resend,
-        sends,
-        interval,
-        count: 0,
-        points: [none; 4],
-    };
-    b.phase = Bench::PLAN;
-    b.node = Node::fresh(plan);
-    b
+    &s[..n.min(s.len())]
 }
 
 fn point_from(guarantee: u8, ceiling: u8, octets: &[u8]) -> AccessPoint
@@ -139,261 +81,173 @@ fn point_from(guarantee: u8, ceiling: u8, octets: &[u8]) -> AccessPoint
     AccessPoint {
         name,
         size: (octets.len() % 256) as u8,
-        guarantee: guarantee as u16,
-        ceiling: ceiling as u16,
+        guarantee: u16::from(guarantee),
+        ceiling: u16::from(ceiling),
     }
 }
 
-fn with_point(mut plan: Plan, point: AccessPoint) -> Plan
-    ensures { result ≡ with_point plan point }
+// How many of them are sessions.
+fn sessions(recs: &[Session]) -> usize
+    ensures { result ≡ count_by (λ s. not (is_free s)) recs.now }
 {
-    let n = plan.count as usize;
-    if n < 4 {
-        plan.points[n] = point;
-        plan.count = plan.count + 1;
+    recs.iter().filter(|s| !s.is_free()).count()
+}
+
+// A run: where it stands, the unit's records and its store of kept replies, and the buffer that the output goes into. Each is lent on as
+// `&mut *`, also to a call that only reads it, so that two can be lent at once.
+// Kept: a buffer and, in `bench`, the place in it, as base_numerals and bench_text write at a place of a lent buffer (`laid`, `line_whole`).
+// Kept: `SameLent` in each method's contract, as no invariant speaks of a run before and after a call.
+#[derive(Drop)]
+pub struct Run<'a> {
+    pub bench: Bench,
+    pub recs: &'a mut [Session],
+    pub store: &'a mut [[u8; Kept::OCTETS]],
+    pub out: &'a mut [u8],
+}
+
+impl Run<'_> {
+    // A bad line ends the run.
+    pub fn end_bad(&mut self)
+        ensures bad { ran_of self.new ≡ printing end_bad self.old }
+        ensures lent { SameLent self.old self.new }
+    {
+        self.bench.made = bench_text::put_bad(self.out, self.bench.made, self.bench.lines);
+        self.bench.phase = Phase::Over;
     }
-    plan
-}
 
-// A: a further access point. The fifth is a bad line.
-pub fn one_more(mut b: Bench, guarantee: u8, ceiling: u8, octets: &[u8], out: &mut [u8]) -> Bench
-    ensures { shown result out.new ≡ one_more b guarantee ceiling octets.now out.old }
-{
-    let mut node = b.node;
-    let plan = node.plan;
-    if 4 <= plan.count {
-        return end_bad(b, out);
+    // What a call answered: number and reply printed, the node kept.
+    pub fn show_answered(&mut self, a: Answer, reply: &[u8])
+        ensures answered { ran_of self.new ≡ printing (answered_shown (back a reply.now)) self.old }
+        ensures lent { SameLent self.old self.new }
+    {
+        self.bench.made = bench_text::put_answer(
+            self.out,
+            self.bench.made,
+            a.number,
+            front(reply, a.size),
+        );
+        self.bench.node = a.node;
     }
-    let point = point_from(guarantee, ceiling, octets);
-    let more = with_point(plan, point);
-    node.plan = more;
-    b.node = node;
-    b
-}
 
-// What a call answered goes with the records, and so much is printed.
-pub fn kept_in(mut b: Bench, a: Answer, made: usize) -> Bench
-    ensures { result ≡ kept_in a.node made b }
-{
-    let node = a.node;
-    b.made = made;
-    b.node = node;
-    b
-}
-
-// What a call answered: number and reply printed, the node kept.
-pub fn show_answered(b: Bench, a: Answer, reply: &[u8], out: &mut [u8]) -> Bench
-    ensures { shown result out.new ≡ answered_shown (back a reply.now) b out.old }
-{
-    let part = front(reply, a.size);
-    let made = bench_text::put_answer(out, b.made, a.number, part);
-    kept_in(b, a, made)
-}
-
-// The same of a call that has no reply buffer.
-pub fn answered_bare(b: Bench, a: Answer, out: &mut [u8]) -> Bench
-    ensures { shown result out.new ≡ answered_shown (back a []) b out.old }
-{
-    let none = [0; 0];
-    show_answered(b, a, &none, out)
-}
-
-pub fn with_made(mut b: Bench, made: usize) -> Bench
-    ensures { result ≡ with_made made b }
-{
-    b.made = made;
-    b
-}
-
-pub fn with_line(mut b: Bench) -> Bench
-    ensures { result ≡ with_line b }
-{
-    b.lines = counted(b.lines);
-    b
-}
-
-// What became of the plan. A refused one is printed and ends the run.
-fn plan_shown(mut b: Bench, a: Answer, out: &mut [u8]) -> Bench
-    ensures { shown result out.new ≡ plan_shown a b out.old }
-{
-    if a.number == 0 {
-        b.phase = Bench::RUNS;
-        return kept_in(b, a, b.made);
+    // The first line has to be N, the plan without access points.
+    pub fn start_line(&mut self, line: Line)
+        ensures first { ran_of self.new ≡ printing (start_line line) self.old }
+        ensures lent { SameLent self.old self.new }
+    {
+        match line {
+            Line::Node {
+                control,
+                user,
+                pool,
+                recovery,
+                resend,
+                sends,
+                interval,
+            } => {
+                let plan = Plan {
+                    control,
+                    user,
+                    pool,
+                    recovery,
+                    resend,
+                    sends,
+                    interval,
+                    count: 0,
+                    points: [AccessPoint::none(); Plan::MOST_POINTS],
+                };
+                self.bench.phase = Phase::Plan;
+                self.bench.node = Node::fresh(plan);
+            },
+            _ => self.end_bad(),
+        }
     }
-    b.phase = Bench::OVER;
-    answered_bare(b, a, out)
-}
 
-// The plan is taken.
-pub fn take_plan(
-    b: Bench,
-    recs: &mut [Session],
-    store: &mut [[u8; Kept::OCTETS]],
-    out: &mut [u8],
-) -> Bench
-    ensures { ran result recs.new store.new out.new ≡ plan_taken b recs.old store.old out.old }
-{
-    let plan = plan_of(b);
-    let a = lent_fresh::grugavorn_fresh(plan, recs, store);
-    plan_shown(b, a, out)
-}
-
-// The first line has to be N.
-pub fn start_line(b: Bench, line: Line, out: &mut [u8]) -> Bench
-    ensures { shown result out.new ≡ start_line line b out.old }
-{
-    match line {
-        Line::Node {
-            control,
-            user,
-            pool,
-            recovery,
-            resend,
-            sends,
-            interval,
-        } => first_line(b, control, user, pool, recovery, resend, sends, interval),
-        _ => end_bad(b, out),
+    // A: a further access point. The fifth is a bad line.
+    pub fn one_more(&mut self, guarantee: u8, ceiling: u8, octets: &[u8])
+        ensures point { ran_of self.new ≡ printing (one_more guarantee ceiling octets.now) self.old }
+        ensures lent { SameLent self.old self.new }
+    {
+        let mut plan = self.bench.node.plan;
+        let n = usize::from(plan.count);
+        if Plan::MOST_POINTS <= n {
+            return self.end_bad();
+        }
+        plan.points[n] = point_from(guarantee, ceiling, octets);
+        plan.count += 1;
+        self.bench.node.plan = plan;
     }
-}
 
-// A session more, if the record is one.
-fn one_more_of(n: u64, s: Session) -> u64
-    ensures { result ≡ one_more_of n s }
-{
-    let free = s.is_free();
-    if free {
-        return n;
+    // The plan is taken. A refused one is printed and ends the run.
+    pub fn take_plan(&mut self)
+        ensures taken { ran_of self.new ≡ on plan_taken self.old }
+        ensures lent { SameLent self.old self.new }
+    {
+        let a = lent_fresh::grugavorn_fresh(self.bench.node.plan, self.recs, self.store);
+        if a.number != 0 {
+            self.bench.phase = Phase::Over;
+            return self.show_answered(a, &[]);
+        }
+        self.bench.phase = Phase::Runs;
+        self.bench.node = a.node;
     }
-    counted(n)
-}
 
-// How many sessions there are at the places.
-fn sessions(recs: &[Session]) -> u64
-    ensures { result ≡ sessions (take places recs.now) }
-{
-    let mut n: u64 = 0;
-    let mut i: usize = 0;
-    while i < Unit::PLACES {
-        let s = lent_records::read(recs, i);
-        n = one_more_of(n, s);
-        i += 1;
+    // The line of a place that was ever used.
+    fn print_place(&mut self, place: usize)
+        ensures printed { ran_of self.new ≡ printing (place_printed self.old.recs.now self.old.store.now place) self.old }
+        ensures lent { SameLent self.old self.new }
+    {
+        if lent_records::read(&mut *self.recs, place).usage == 0 {
+            return;
+        }
+        let mut text = [0; Answer::LEAST_REPLY];
+        let a = lent_line::grugavorn_line(
+            self.bench.node,
+            &mut *self.recs,
+            &mut *self.store,
+            place,
+            &mut text,
+        );
+        let end = base_numerals::put_text(self.out, self.bench.made, front(&text, a.size));
+        self.bench.made = base_numerals::put(self.out, end, b'\n');
     }
-    n
-}
 
-fn put_live(b: Bench, n: u64, out: &mut [u8]) -> Bench
-    ensures { shown result out.new ≡ live_shown n b out.old }
-{
-    let made = bench_text::put_live(out, b.made, n);
-    with_made(b, made)
-}
-
-fn never_used(s: Session) -> bool
-    ensures { result ≡ eqb s.usage 0 }
-{
-    s.usage == 0
-}
-
-fn put_line(b: Bench, a: Answer, text: &[u8], out: &mut [u8]) -> Bench
-    ensures { shown result out.new ≡ line_shown (back a text.now) b out.old }
-{
-    let part = front(text, a.size);
-    let p = base_numerals::put_text(out, b.made, part);
-    let made = base_numerals::put(out, p, 10);
-    with_made(b, made)
-}
-
-// The line of a place.
-fn print_line(
-    b: Bench,
-    recs: &[Session],
-    store: &[[u8; Kept::OCTETS]],
-    place: usize,
-    out: &mut [u8],
-) -> Bench
-    ensures { shown result out.new ≡ line_printed recs.now store.now place b out.old }
-{
-    let mut text = [0; Answer::LEAST_REPLY];
-    let node = node_of(b);
-    let a = lent_line::grugavorn_line(node, recs, store, place, &mut text);
-    put_line(b, a, &text, out)
-}
-
-// The same of a place that was ever used.
-fn print_place(
-    b: Bench,
-    recs: &[Session],
-    store: &[[u8; Kept::OCTETS]],
-    place: usize,
-    out: &mut [u8],
-) -> Bench
-    ensures { shown result out.new ≡ place_printed recs.now store.now place b out.old }
-{
-    let s = lent_records::read(recs, place);
-    let never = never_used(s);
-    if never {
-        return b;
+    // The live count, then a line for each place that was ever used.
+    fn print_places(&mut self)
+        ensures printed { ran_of self.new ≡ printing (places_printed self.old.recs.now self.old.store.now) self.old }
+        ensures lent { SameLent self.old self.new }
+    {
+        let n = sessions(front(&mut *self.recs, Unit::PLACES));
+        self.bench.made = bench_text::put_live(self.out, self.bench.made, n as u64);
+        for place in 0..Unit::PLACES {
+            self.print_place(place);
+        }
     }
-    print_line(b, recs, store, place, out)
-}
 
-// The live count, then a line for each place that was ever used.
-fn print_places(b: Bench, recs: &[Session], store: &[[u8; Kept::OCTETS]], out: &mut [u8]) -> Bench
-    ensures { shown result out.new ≡ places_printed recs.now store.now b out.old }
-{
-    let n = sessions(recs);
-    let mut y = put_live(b, n, out);
-    let mut i: usize = 0;
-    while i < Unit::PLACES {
-        y = print_place(y, recs, store, i, out);
-        i += 1;
+    // At the end of a plan that is not taken yet it is taken.
+    fn end_plan(&mut self)
+        ensures taken { ran_of self.new ≡ on end_plan self.old }
+        ensures lent { SameLent self.old self.new }
+    {
+        self.take_plan();
+        if self.bench.phase.is_over() {
+            return;
+        }
+        self.print_places();
     }
-    y
-}
 
-// At the end of a plan that is not taken yet it is taken.
-fn end_plan(
-    b: Bench,
-    recs: &mut [Session],
-    store: &mut [[u8; Kept::OCTETS]],
-    out: &mut [u8],
-) -> Bench
-    ensures { ran result recs.new store.new out.new ≡ end_plan b recs.old store.old out.old }
-{
-    let next = take_plan(b, recs, store, out);
-    let phase = phase_of(next);
-    if phase == Bench::OVER {
-        return next;
+    // The end of the input. Without any line it is a bad first line.
+    pub fn end_of_input(&mut self)
+        ensures ended { ran_of self.new ≡ on end_of_input self.old }
+        ensures lent { SameLent self.old self.new }
+    {
+        match self.bench.phase {
+            Phase::First => {
+                self.bench = self.bench.with_line();
+                self.end_bad();
+            },
+            Phase::Plan => self.end_plan(),
+            Phase::Runs => self.print_places(),
+            Phase::Over => (),
+        }
     }
-    print_places(next, recs, store, out)
-}
-
-// Without any line it is a bad first line.
-fn end_first(b: Bench, out: &mut [u8]) -> Bench
-    ensures { shown result out.new ≡ end_first b out.old }
-{
-    let first = with_line(b);
-    end_bad(first, out)
-}
-
-// The end of the input.
-pub fn end_of_input(
-    b: Bench,
-    recs: &mut [Session],
-    store: &mut [[u8; Kept::OCTETS]],
-    out: &mut [u8],
-) -> Bench
-    ensures { ran result recs.new store.new out.new ≡ end_of_input b recs.old store.old out.old }
-{
-    let phase = phase_of(b);
-    if phase == Bench::OVER {
-        return b;
-    }
-    if phase == Bench::RUNS {
-        return print_places(b, recs, store, out);
-    }
-    if phase == Bench::PLAN {
-        return end_plan(b, recs, store, out);
-    }
-    end_first(b, out)
 }

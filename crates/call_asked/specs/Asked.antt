@@ -1,7 +1,7 @@
 -- What a control datagram asks for: the first refusal of its header, or what it carries, read by its kind. The order of the header's refusals is
 -- 3, 5, 4, 7, 8, 6, 8; number 5 is answered, the others are silent.
 -- Assumes nothing.
-use Rattle.std.specs.Prelude.{ℕ, List, drop, eqb}
+use Rattle.std.specs.Prelude.{ℕ, List, drop, eqb, Option, Result, Ok, Err}
 use Rattle.base_octets.specs.Number.{taken, other_version, not_awaited}
 use Rattle.base_octets.specs.Choice.{pick}
 use Rattle.unit_session.specs.OwnRequest.{awaits}
@@ -15,10 +15,6 @@ use Rattle.wire_messages.specs.Types.{modify_reply_type, delete_reply_type}
 use Rattle.wire_header.specs.Header.{header_of}
 use Rattle.wire_header.specs.Gate.{gate_of}
 use Rattle.wire_requests.specs.Carried as carried
-use Rattle.wire_requests.specs.declared.EchoReply.{EchoReply}
-use Rattle.wire_requests.specs.declared.EchoReply.TheVariants as E
-use Rattle.wire_requests.specs.declared.Decoded.{Decoded}
-use Rattle.wire_requests.specs.declared.Decoded.TheVariants as D
 use Rattle.wire_requests.specs.declared.Request.{Request}
 use Rattle.wire_requests.specs.declared.Request.TheVariants as Q
 use Rattle.wire_requests.specs.Create.{create_of, reply_to}
@@ -27,11 +23,13 @@ use Rattle.call_asked.specs.declared.Concern.{Concern}
 use Rattle.call_asked.specs.declared.Concern.TheVariants as S
 use Rattle.call_asked.specs.declared.Asked.{Asked}
 use Rattle.call_asked.specs.declared.Asked.TheVariants as A
+use Rattle.wire_requests.specs.declared.Unreadable.{Unreadable}
+use Rattle.wire_requests.specs.Chain.{Decoded}
 
 -- the reply to the unit's own echo: awaited and readable, or 9
-unfoldable pub end_asked : EchoReply → ℕ → Node → Asked
-end_asked E.Unreadable seq node = A.Silent not_awaited
-end_asked (E.Carries recovery) seq node = pick (awaits seq node.echo) (A.EchoReply recovery) (A.Silent not_awaited)
+unfoldable pub end_asked : Result (Option ℕ) Unreadable → ℕ → Node → Asked
+end_asked (Err u) seq node = A.Silent not_awaited
+end_asked (Ok recovery) seq node = pick (awaits seq node.echo) (A.EchoReply recovery) (A.Silent not_awaited)
 
 -- what concerns the session whose control TEID the header has
 unfoldable pub session_asked : HeaderCursor → Concern → Asked
@@ -50,8 +48,8 @@ sound_asked h (Q.Modify m) = session_asked h (S.Modify m)
 sound_asked h (Q.Delete x) = session_asked h (S.Delete x)
 
 unfoldable pub request_asked : HeaderCursor → Decoded → (Refusal → Asked) → Asked
-request_asked h (D.Refused w) refused = refused w
-request_asked h (D.Sound q) refused = sound_asked h q
+request_asked h (Err w) refused = refused w
+request_asked h (Ok q) refused = sound_asked h q
 
 -- by kind: what is behind the header is read as the kind has it
 unfoldable pub kind_asked : Kind → HeaderCursor → List ℕ → Node → Asked

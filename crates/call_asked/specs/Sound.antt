@@ -1,7 +1,7 @@
 -- What a control datagram asks for is as it was read: a Create's values are in range, no tunnel end that moves has the TEID 0, and the creating
 -- number has three octets.
 -- Assumes nothing.
-use Rattle.std.specs.Prelude.{ℕ, ◌≤◌, true, List, [], ◌∷◌, ◌≡◌, drop, get_or, eqb}
+use Rattle.std.specs.Prelude.{ℕ, ◌≤◌, true, List, [], ◌∷◌, ◌≡◌, drop, get_or, eqb, Option, Result, Ok, Err}
 use Rattle.std.proofs.Math.Path.{refl}
 use Rattle.std.proofs.Common.{arith, ltb-true}
 use Rattle.base_octets.specs.Number.{taken, other_version}
@@ -22,10 +22,6 @@ use Rattle.wire_messages.specs.Types.{modify_reply_type, delete_reply_type}
 use Rattle.wire_header.specs.Header.{with_teid, sequence_of, sequence_behind, sequence_bare, header_of}
 use Rattle.wire_header.specs.Gate.{gate_of}
 use Rattle.wire_requests.specs.Carried as carried
-use Rattle.wire_requests.specs.declared.EchoReply.{EchoReply}
-use Rattle.wire_requests.specs.declared.EchoReply.TheVariants as E
-use Rattle.wire_requests.specs.declared.Decoded.{Decoded}
-use Rattle.wire_requests.specs.declared.Decoded.TheVariants as D
 use Rattle.wire_requests.specs.declared.Request.{Request}
 use Rattle.wire_requests.specs.declared.Request.TheVariants as Q
 use Rattle.wire_requests.specs.Create.{create_of, CreateSound}
@@ -36,6 +32,8 @@ use Rattle.call_asked.specs.declared.Concern.TheVariants as S
 use Rattle.call_asked.specs.declared.Asked.{Asked}
 use Rattle.call_asked.specs.declared.Asked.TheVariants as A
 use Rattle.call_asked.specs.Asked.{end_asked, session_asked, create_refused, change_refused, sound_asked, request_asked, kind_asked, asked_of}
+use Rattle.wire_requests.specs.declared.Unreadable.{Unreadable}
+use Rattle.wire_requests.specs.Chain.{Decoded}
 
 unfoldable pub ConcernSound : Concern → Type 0
 ConcernSound (S.Modify m) = ModifySound m
@@ -53,18 +51,18 @@ AskedSound p (A.Refused w to seq) = Unit {0}
 AskedSound p (A.Session teid seq x) = ConcernSound x
 
 module _ (node : Node) where
-  end_sound : (a : EchoReply) (seq : ℕ) → AskedSound node.plan (end_asked a seq node)
+  end_sound : (a : Result (Option ℕ) Unreadable) (seq : ℕ) → AskedSound node.plan (end_asked a seq node)
   unfolding AskedSound end_asked
-  end_sound E.Unreadable seq = tt
-  end_sound (E.Carries recovery) seq = split (awaits seq node.echo) (λ e. rw e tt) (λ e. rw e tt)
+  end_sound (Err u) seq = tt
+  end_sound (Ok recovery) seq = split (awaits seq node.echo) (λ e. rw e tt) (λ e. rw e tt)
 
   -- by what was decoded
   decoded_sound : (h : HeaderCursor) (d : Decoded) (refused : Refusal → Asked)
-      → ((w : Refusal) → AskedSound node.plan (refused w)) → ((q : Request) → d ≡ D.Sound q → AskedSound node.plan (sound_asked h q))
+      → ((w : Refusal) → AskedSound node.plan (refused w)) → ((q : Request) → d ≡ Ok q → AskedSound node.plan (sound_asked h q))
       → AskedSound node.plan (request_asked h d refused)
   unfolding request_asked
-  decoded_sound h (D.Refused w) refused r k = r w
-  decoded_sound h (D.Sound q) refused r k = k q refl
+  decoded_sound h (Err w) refused r k = r w
+  decoded_sound h (Ok q) refused r k = k q refl
 
   kind_sound : (k : Kind) (h : HeaderCursor) (rest : List ℕ) → AskedSound node.plan (kind_asked k h rest node)
   unfolding AskedSound ConcernSound kind_asked create_refused change_refused sound_asked session_asked
@@ -114,15 +112,15 @@ AskedSmall (A.Session teid seq x) = Unit {0}
 module _ (node : Node) (h : HeaderCursor) (small : h.sequence ≤ last_created) (rest : List ℕ) where
   request_small : (d : Decoded) (refused : Refusal → Asked) → ((w : Refusal) → AskedSmall (refused w)) → AskedSmall (request_asked h d refused)
   unfolding AskedSmall request_asked sound_asked session_asked
-  request_small (D.Refused w) refused r = r w
-  request_small (D.Sound (Q.Create c)) refused r = small
-  request_small (D.Sound (Q.Modify m)) refused r = tt
-  request_small (D.Sound (Q.Delete x)) refused r = tt
+  request_small (Err w) refused r = r w
+  request_small (Ok (Q.Create c)) refused r = small
+  request_small (Ok (Q.Modify m)) refused r = tt
+  request_small (Ok (Q.Delete x)) refused r = tt
 
-  end_small : (a : EchoReply) → AskedSmall (end_asked a h.sequence node)
+  end_small : (a : Result (Option ℕ) Unreadable) → AskedSmall (end_asked a h.sequence node)
   unfolding AskedSmall end_asked
-  end_small E.Unreadable = tt
-  end_small (E.Carries recovery) = split (awaits h.sequence node.echo) (λ e. rw e tt) (λ e. rw e tt)
+  end_small (Err u) = tt
+  end_small (Ok recovery) = split (awaits h.sequence node.echo) (λ e. rw e tt) (λ e. rw e tt)
 
   kind_small : (k : Kind) → AskedSmall (kind_asked k h rest node)
   unfolding AskedSmall kind_asked create_refused change_refused session_asked

@@ -4,13 +4,13 @@
 ghost use Rattle.std.specs.Prelude.{◌≡◌};
 ghost use Rattle.call_asked.specs.Asked.{end_asked, session_asked, create_refused, change_refused, sound_asked, request_asked, kind_asked, asked_of};
 
-use base_octets::Number;
+use base_octets::{Number, Refused};
 use unit_table::Node;
 use unit_tunnel::ControlTeid;
-use wire_fields::{Recovery, Refusal};
+use wire_fields::Refusal;
 use wire_header::{HeaderCursor, Kind};
 use wire_messages::MessageType;
-use wire_requests::{BearerReply, Create, Decoded, Delete, EchoReply, Modify, Request};
+use wire_requests::{Create, Delete, Modify, Request, Unreadable};
 
 // What is asked of one session.
 #[derive(Clone, Copy)]
@@ -20,7 +20,7 @@ pub enum Concern {
     // a Modify or a Delete that is refused, by the type of its reply
     Refused { reply: u8, why: Refusal },
     // the reply to the unit's own Delete Bearer
-    Bearer(BearerReply),
+    Bearer(Result<u8, Unreadable>),
 }
 
 #[derive(Clone, Copy)]
@@ -30,12 +30,12 @@ pub enum Asked {
     // another version, which is answered
     Version,
     Echo {
-        recovery: Recovery,
+        recovery: Option<u8>,
         sequence: u32,
     },
     // the reply to the unit's own echo, awaited and readable
     EchoReply {
-        recovery: Recovery,
+        recovery: Option<u8>,
     },
     Create {
         create: Create,
@@ -56,20 +56,18 @@ pub enum Asked {
 }
 
 // The reply to the unit's own echo: awaited and readable, or 9.
-fn end_asked(answer: EchoReply, sequence: u32, node: Node) -> Asked
+#[tactic(auto, unfolding(crate::specs::Asked::end_asked))]
+fn end_asked(answer: Result<Option<u8>, Unreadable>, sequence: u32, node: Node) -> Asked
     ensures { result ≡ end_asked answer sequence node }
 {
-    let EchoReply::Carries(recovery) = answer else {
-        return Asked::Silent(Number::NOT_AWAITED);
-    };
     let echo = node.echo;
-    let awaited = echo.awaits(sequence);
-    if awaited {
-        return Asked::EchoReply { recovery };
+    match answer {
+        Ok(recovery) if echo.awaits(sequence) => Asked::EchoReply { recovery },
+        _ => Asked::Silent(Number::NOT_AWAITED),
     }
-    Asked::Silent(Number::NOT_AWAITED)
 }
 
+#[tactic(auto, unfolding(crate::specs::Asked::session_asked))]
 fn session_asked(h: HeaderCursor, concern: Concern) -> Asked
     ensures { result ≡ session_asked h concern }
 {
@@ -81,6 +79,7 @@ fn session_asked(h: HeaderCursor, concern: Concern) -> Asked
 }
 
 // What a sound request asks for.
+#[tactic(auto, unfolding(crate::specs::Asked::sound_asked))]
 fn sound_asked(h: HeaderCursor, q: Request) -> Asked
     ensures { result ≡ sound_asked h q }
 {
@@ -95,82 +94,71 @@ fn sound_asked(h: HeaderCursor, q: Request) -> Asked
 }
 
 // A decoded Modify or Delete: a refused one is answered by the session that it is for.
-fn change_asked(reply: u8, h: HeaderCursor, d: Decoded) -> Asked
+#[tactic(auto, unfolding(crate::specs::Asked::request_asked, crate::specs::Asked::change_refused))]
+fn change_asked(reply: u8, h: HeaderCursor, d: Result<Request, Refusal>) -> Asked
     ensures { result ≡ request_asked h d (change_refused h reply) }
 {
     match d {
-        Decoded::Refused(why) => session_asked(h, Concern::Refused { reply, why }),
-        Decoded::Sound(q) => sound_asked(h, q),
+        Ok(q) => sound_asked(h, q),
+        Err(why) => session_asked(h, Concern::Refused { reply, why }),
     }
 }
 
 // A decoded Create: a refused one is answered as it stands.
-fn create_asked(h: HeaderCursor, d: Decoded, rest: &[u8]) -> Asked
+#[tactic(auto, unfolding(crate::specs::Asked::request_asked, crate::specs::Asked::create_refused))]
+fn create_asked(h: HeaderCursor, d: Result<Request, Refusal>, rest: &[u8]) -> Asked
     ensures { result ≡ request_asked h d (create_refused h rest.now) }
 {
     match d {
-        Decoded::Refused(why) => {
-            let to = wire_requests::reply_to(rest);
-            Asked::Refused {
-                why,
-                to,
-                sequence: h.sequence,
-            }
-        }
-        Decoded::Sound(q) => sound_asked(h, q),
+        Ok(q) => sound_asked(h, q),
+        Err(why) => Asked::Refused {
+            why,
+            to: wire_requests::reply_to(rest),
+            sequence: h.sequence,
+        },
     }
 }
 
 // By kind, with what is behind the header.
+#[tactic(auto, unfolding(crate::specs::Asked::kind_asked))]
 fn kind_asked(kind: Kind, h: HeaderCursor, rest: &[u8], node: Node) -> Asked
     ensures { result ≡ kind_asked kind h rest.now node }
 {
     match kind {
-        Kind::Modify => {
-            let d = wire_requests::read_modify(rest);
-            change_asked(MessageType::MODIFY_REPLY, h, d)
-        }
-        Kind::Delete => {
-            let d = wire_requests::read_delete(rest);
-            change_asked(MessageType::DELETE_REPLY, h, d)
-        }
-        Kind::Create => {
-            let plan = node.plan;
-            let d = wire_requests::read_create(plan, rest);
-            create_asked(h, d, rest)
-        }
+        Kind::Modify => change_asked(
+            MessageType::MODIFY_REPLY,
+            h,
+            wire_requests::read_modify(rest),
+        ),
+        Kind::Delete => change_asked(
+            MessageType::DELETE_REPLY,
+            h,
+            wire_requests::read_delete(rest),
+        ),
+        Kind::Create => create_asked(h, wire_requests::read_create(node.plan, rest), rest),
         Kind::BearerReply => {
-            let answer = wire_requests::read_bearer_reply(rest);
-            session_asked(h, Concern::Bearer(answer))
+            session_asked(h, Concern::Bearer(wire_requests::read_bearer_reply(rest)))
         }
-        Kind::Echo => {
-            let recovery = wire_requests::read_echo(rest);
-            Asked::Echo {
-                recovery,
-                sequence: h.sequence,
-            }
-        }
-        Kind::EchoReply => {
-            let answer = wire_requests::read_echo_reply(rest);
-            end_asked(answer, h.sequence, node)
-        }
+        Kind::Echo => Asked::Echo {
+            recovery: wire_requests::read_echo(rest),
+            sequence: h.sequence,
+        },
+        Kind::EchoReply => end_asked(wire_requests::read_echo_reply(rest), h.sequence, node),
         Kind::Other => Asked::Silent(Number::TAKEN),
     }
 }
 
 // The header's refusal, or on by kind.
+#[tactic(auto, using(base_octets::specs::Refused::refused_some), unfolding(crate::specs::Asked::asked_of))]
 pub fn asked_of(node: Node, d: &[u8]) -> Asked
     ensures { result ≡ asked_of node d.now }
 {
-    let number = wire_header::gate(d);
-    if number == Number::TAKEN {
-        let h = HeaderCursor::of(d);
-        let rest = h.rest(d);
-        let kind = Kind::by(h.kind);
-        return kind_asked(kind, h, rest, node);
+    match wire_header::gate(d) {
+        Ok(h) => {
+            let rest = h.rest(d);
+            kind_asked(Kind::from(h.kind), h, rest, node)
+        }
+        Err(Refused::OtherVersion) => Asked::Version,
+        Err(why) => Asked::Silent(why.into()),
     }
-    if number == Number::OTHER_VERSION {
-        return Asked::Version;
-    }
-    Asked::Silent(number)
 }

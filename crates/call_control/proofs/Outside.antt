@@ -1,6 +1,6 @@
 -- Take control datagram changes no record outside the places that it answers, whatever came and whatever table was lent.
 -- Assumes nothing.
-use Rattle.std.specs.Prelude.{ℕ, ◌<◌, true, List, map, ◌≡◌, get_or, ltb}
+use Rattle.std.specs.Prelude.{ℕ, ◌<◌, true, List, map, ◌≡◌, get_or, ltb, Option, Some, None}
 use Rattle.std.proofs.Math.Bool.{false}
 use Rattle.std.proofs.Math.Path.{refl}
 use Rattle.std.proofs.Common.{◌∙◌, arith, ltb-true, ltb-false}
@@ -12,12 +12,9 @@ use Rattle.unit_sharing.specs.Sharing.{admits}
 use Rattle.unit_session.specs.declared.Session.{Session}
 use Rattle.unit_session.specs.Session.{is_free, has_id, freed, opened}
 use Rattle.unit_table.specs.declared.Node.{Node}
-use Rattle.unit_table.specs.declared.Owner.{Owner}
-use Rattle.unit_table.specs.declared.Owner.TheVariants as F
 use Rattle.unit_table.specs.Rules.{keeps_rules, rules_of, live}
 use Rattle.unit_table.specs.Change.{nobody, changed_at, length_changed, changed_out, changed_other}
 use Rattle.unit_table.specs.Find.{place_found, found_in, found_is, owner_of}
-use Rattle.wire_fields.specs.declared.Recovery.{Recovery}
 use Rattle.wire_requests.specs.declared.Create as C
 use Rattle.call_asked.specs.declared.Concern.{Concern}
 use Rattle.call_asked.specs.declared.Concern.TheVariants as S
@@ -44,14 +41,14 @@ unfolding session_on
 session_same x seq s e = rw e (none_same x seq s)
 
 -- the rule goes by the plan, which no Recovery changes
-pub places-heard : (r : Recovery) (c : C.Create) (seq : ℕ) (node : Node) (t : List Session) (i : ℕ)
+pub places-heard : (r : Option ℕ) (c : C.Create) (seq : ℕ) (node : Node) (t : List Session) (i : ℕ)
     → opened_places c seq (heard_node r node) t i ≡ opened_places c seq node t i
 unfolding opened_places
 places-heard r c seq node t i = rw (stored_plan r node)
 
 -- ---- a table that keeps its rules has as many records as there are places
 module _ (node : Node) (t : List Session) (size : length t ≡ places) (k : ℕ) where
-  heard_others : (r : Recovery) → is_within k (heard_places r node) ≡ false → get_or (heard_by r node t).table k nobody ≡ get_or t k nobody
+  heard_others : (r : Option ℕ) → is_within k (heard_places r node) ≡ false → get_or (heard_by r node t).table k nobody ≡ get_or t k nobody
   unfolding heard_places
   heard_others r n = split (restarts_by r node)
       (λ e. let h = out_all k (rw e at n) in
@@ -65,14 +62,14 @@ module _ (node : Node) (t : List Session) (size : length t ≡ places) (k : ℕ)
     unfolding shared opened_at accepted_taken cause_taken no_reply
     shared_long n m z = split (admits n.plan (live m) c.point) (λ a. rw a (place (found_in is_free m))) (λ a. rw a z)
       where
-        place : (f : Owner) → length (opened_at f c seq n m node t reply).table ≡ places
-        place F.Nothing = size
-        place (F.At j) = length_changed (opened (opening_of c seq)) j m ∙ z
+        place : (f : Option ℕ) → length (opened_at f c seq n m node t reply).table ≡ places
+        place None = size
+        place (Some j) = length_changed (opened (opening_of c seq)) j m ∙ z
 
-    settled_long : (n : Node) (m : List Session) → length m ≡ places → (f : Owner) → length (settled_at f c seq n m node t reply).table ≡ places
+    settled_long : (n : Node) (m : List Session) → length m ≡ places → (f : Option ℕ) → length (settled_at f c seq n m node t reply).table ≡ places
     unfolding settled_at accepted_taken
-    settled_long n m z F.Nothing = shared_long n m z
-    settled_long n m z (F.At i) =
+    settled_long n m z None = shared_long n m z
+    settled_long n m z (Some i) =
         split (is_repeat c seq (get_or m i nobody)) (λ x. rw x z) (λ x. rw x (shared_long n (changed_at freed i m) (length_changed freed i m ∙ z)))
 
     -- a restart changes all, and nothing past the last place
@@ -96,11 +93,11 @@ module _ (node : Node) (t : List Session) (size : length t ≡ places) (k : ℕ)
           (λ a. changed_other freed i t k nobody (p (ltb-true i places a)))
           (λ a. let h = ltb-false i places a in rw (changed_out freed i t (omega arith)))
 
-      opened_others : (f : Owner) → found_in is_free then' ≡ f → (first_of is_free then' < places → k ≡ first_of is_free then' → ⊥)
+      opened_others : (f : Option ℕ) → found_in is_free then' ≡ f → (first_of is_free then' < places → k ≡ first_of is_free then' → ⊥)
           → get_or (opened_at f c seq n then' node t reply).table k nobody ≡ get_or t k nobody
       unfolding opened_at accepted_taken no_reply
-      opened_others F.Nothing e q = refl
-      opened_others (F.At j) e q =
+      opened_others None e q = refl
+      opened_others (Some j) e q =
           let w = found_is is_free then' j e in
           let m = length_changed freed i t in
           let h = w.0 in

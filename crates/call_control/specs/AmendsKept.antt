@@ -1,6 +1,6 @@
 -- What concerns one session leaves a record that may stand where it stood, whatever came: so it keeps the table rules.
 -- Assumes nothing.
-use Rattle.std.specs.Prelude.{ℕ, Bool, true, false, not, ◌≡◌, eqb}
+use Rattle.std.specs.Prelude.{ℕ, true, false, not, ◌≡◌, eqb, Option, Some, None, Result, Ok, Err, unwrap_or}
 use Rattle.std.proofs.Math.Path.{refl}
 use Rattle.std.proofs.Common.{arith}
 use Rattle.std.proofs.lemmas.Bool.{not-true}
@@ -9,21 +9,19 @@ use Rattle.unit_session.specs.declared.Session.{Session}
 use Rattle.unit_session.specs.declared.Bounds.{Bounds}
 use Rattle.unit_session.specs.Session.{is_free, waits_for, record_ok, held_ok, read_ok, moved}
 use Rattle.unit_session.specs.Keep.{live_of, ok_moved, lighter_moved}
-use Rattle.wire_requests.specs.declared.BearerReply.{BearerReply}
-use Rattle.wire_requests.specs.declared.BearerReply.TheVariants as B
-use Rattle.wire_requests.specs.declared.Peer.{Peer}
-use Rattle.wire_requests.specs.declared.Peer.TheVariants as P
 use Rattle.wire_requests.specs.declared.Modify as M
 use Rattle.wire_requests.specs.declared.Delete as D
-use Rattle.wire_requests.specs.declared.Moves.{Moves}
-use Rattle.wire_requests.specs.declared.Moves.TheVariants as N
 use Rattle.wire_requests.specs.Change.{moves_of, means_of, PeerSound, ModifySound, MovesSound, moves_sound, new_live}
 use Rattle.call_asked.specs.declared.Concern.{Concern}
 use Rattle.call_asked.specs.declared.Concern.TheVariants as S
 use Rattle.call_asked.specs.Sound.{ConcernSound}
 use Rattle.call_own.specs.Outcome.{bare_on}
 use Rattle.call_own.specs.OnSession.{Fits, fits_same, fits-freed}
-use Rattle.call_control.specs.Amends.{cause_on, peer_teid, peers_of, moved_on, modify_by, modify_on, freed_on, delete_on, bearer_on, concern_on, none_on, session_on}
+use Rattle.call_control.specs.Amends.{cause_on, control_end, user_end, peers_of, moved_on, modify_by, modify_on, freed_on, delete_on, bearer_on, concern_on, none_on, session_on}
+use Rattle.wire_requests.specs.declared.Moves.{Moves}
+use Rattle.wire_fields.specs.declared.Refusal.{Refusal}
+use Rattle.wire_fields.specs.declared.Tunnel.{Tunnel}
+use Rattle.wire_requests.specs.declared.Unreadable.{Unreadable}
 
 -- ---- the peers after a Modify are never 0
 peers_known : (b : Bounds) (s : Session) → record_ok b s ≡ true → is_free s ≡ false → (s.control ≡ 0 → ⊥) × (s.user ≡ 0 → ⊥)
@@ -34,37 +32,36 @@ peers_known b s e n =
     let u : not (eqb s.user 0) ≡ true = search (and_left, and_right) depth 9 in
     (differs s.control 0 (not-true (eqb s.control 0) c), differs s.user 0 (not-true (eqb s.user 0) u))
 
-peer_some : (p : Peer) (old : ℕ) → PeerSound p → (old ≡ 0 → ⊥) → peer_teid p old ≡ 0 → ⊥
-unfolding peer_teid
-peer_some P.Same old h o e = o e
-peer_some (P.New teid addr) old h o e = let k = new_live teid addr h in omega arith
+peer_some : (p : Option Tunnel) (old : Tunnel) → PeerSound p → (old.teid ≡ 0 → ⊥) → (unwrap_or p old).teid ≡ 0 → ⊥
+peer_some None old h o e = o e
+peer_some (Some end) old h o e = let k = new_live end h in omega arith
 
 module _ (b : Bounds) (s : Session) (ok : record_ok b s ≡ true) where
-  moved-fits : (c u : Peer) → is_free s ≡ false → MovesSound c u → Fits b s (moved (peers_of c u s) s)
+  moved-fits : (x : Moves) → is_free s ≡ false → MovesSound x → Fits b s (moved (peers_of x.control x.user s) s)
   unfolding peers_of
-  moved-fits c u n q =
+  moved-fits x n q =
       let k = peers_known b s ok n in
       record {
-        ok = ok_moved b s ok (peers_of c u s) n (peer_some c s.control q.control k.0) (peer_some u s.user q.user k.1);
-        lighter = lighter_moved s (peers_of c u s);
+        ok = ok_moved b s ok (peers_of x.control x.user s) n (peer_some x.control (control_end s) q.control k.0) (peer_some x.user (user_end s) q.user k.1);
+        lighter = lighter_moved s (peers_of x.control x.user s);
       }
 
   modify_fits : (m : M.Modify) (seq : ℕ) → is_free s ≡ false → ModifySound m → Fits b s (modify_on m seq s).session
   unfolding modify_on modify_by moved_on cause_on
   modify_fits m seq n h = by (moves_of m s.ebi) refl
     where
-      by : (x : Moves) → moves_of m s.ebi ≡ x → Fits b s (modify_by x m.context seq s).session
-      by (N.Refused w) e = fits_same b s ok
-      by (N.To c u) e = moved-fits c u n (moves_sound m s.ebi c u h e)
+      by : (x : Result Moves Refusal) → moves_of m s.ebi ≡ x → Fits b s (modify_by x m.context seq s).session
+      by (Err w) e = fits_same b s ok
+      by (Ok moves) e = moved-fits moves n (moves_sound m s.ebi moves h e)
 
   delete_fits : (d : D.Delete) (seq : ℕ) → Fits b s (delete_on d seq s).session
   unfolding delete_on freed_on cause_on
   delete_fits d seq = split (means_of d s.ebi) (λ e. rw e (fits-freed b s ok)) (λ e. rw e (fits_same b s ok))
 
-  bearer_fits : (x : BearerReply) (seq : ℕ) → Fits b s (bearer_on x seq s).session
+  bearer_fits : (x : Result ℕ Unreadable) (seq : ℕ) → Fits b s (bearer_on x seq s).session
   unfolding bearer_on bare_on
-  bearer_fits B.Unreadable seq = fits_same b s ok
-  bearer_fits (B.Cause cause) seq = split (waits_for seq s) (λ e. rw e (fits-freed b s ok)) (λ e. rw e (fits_same b s ok))
+  bearer_fits (Err u) seq = fits_same b s ok
+  bearer_fits (Ok cause) seq = split (waits_for seq s) (λ e. rw e (fits-freed b s ok)) (λ e. rw e (fits_same b s ok))
 
   live-fits : (x : Concern) (seq : ℕ) → is_free s ≡ false → ConcernSound x → Fits b s (concern_on x seq s).session
   unfolding concern_on cause_on ConcernSound

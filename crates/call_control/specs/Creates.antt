@@ -1,7 +1,7 @@
 -- Create (32), decoded and sound: Recovery; a repeat; the replaced session; the sharing rule;
 -- the place that is taken; and the reply from the record.
 -- Assumes nothing.
-use Rattle.std.specs.Prelude.{ℕ, ◌%◌, Bool, ◌&&◌, List, length, get_or, eqb, ltb}
+use Rattle.std.specs.Prelude.{ℕ, ◌%◌, Bool, ◌&&◌, List, length, get_or, eqb, ltb, Option, Some, None}
 use Rattle.base_octets.specs.Number.{taken, no_free_place}
 use Rattle.base_octets.specs.Choice.{pick}
 use Rattle.base_octets.specs.Search.{first_of}
@@ -14,8 +14,6 @@ use Rattle.unit_session.specs.declared.Session.{Session}
 use Rattle.unit_session.specs.declared.Opening.{Opening}
 use Rattle.unit_session.specs.Session.{is_free, has_id, opened, freed}
 use Rattle.unit_table.specs.declared.Node.{Node}
-use Rattle.unit_table.specs.declared.Owner.{Owner}
-use Rattle.unit_table.specs.declared.Owner.TheVariants as F
 use Rattle.unit_table.specs.Rules.{live}
 use Rattle.unit_table.specs.Change.{nobody, changed_at}
 use Rattle.unit_table.specs.Find.{found_in}
@@ -56,9 +54,9 @@ unfoldable pub no_room : Refusal
 no_room = bare_refusal no_room_cause
 
 -- a place taken: where none is free, 11 and the table as it was lent
-unfoldable pub opened_at : Owner → C.Create → ℕ → Node → List Session → Node → List Session → List ℕ → Outcome
-opened_at F.Nothing c seq node t node₀ t₀ reply = no_reply no_free_place node₀ t₀ reply
-opened_at (F.At i) c seq node t node₀ t₀ reply =
+unfoldable pub opened_at : Option ℕ → C.Create → ℕ → Node → List Session → Node → List Session → List ℕ → Outcome
+opened_at None c seq node t node₀ t₀ reply = no_reply no_free_place node₀ t₀ reply
+opened_at (Some i) c seq node t node₀ t₀ reply =
     accepted_taken seq i (opened (opening_of c seq) (get_or t i nobody)) node (changed_at (opened (opening_of c seq)) i t) reply
 
 -- the sharing rule, on the table without the replaced session
@@ -72,9 +70,9 @@ shared c seq node t node₀ t₀ reply =
 unfoldable pub is_repeat : C.Create → ℕ → Session → Bool
 is_repeat c seq s = eqb s.point c.point && eqb s.created seq
 
-unfoldable pub settled_at : Owner → C.Create → ℕ → Node → List Session → Node → List Session → List ℕ → Outcome
-settled_at F.Nothing c seq node t node₀ t₀ reply = shared c seq node t node₀ t₀ reply
-settled_at (F.At i) c seq node t node₀ t₀ reply =
+unfoldable pub settled_at : Option ℕ → C.Create → ℕ → Node → List Session → Node → List Session → List ℕ → Outcome
+settled_at None c seq node t node₀ t₀ reply = shared c seq node t node₀ t₀ reply
+settled_at (Some i) c seq node t node₀ t₀ reply =
     pick (is_repeat c seq (get_or t i nobody))
     (accepted_taken seq i (get_or t i nobody) node t reply)
     (shared c seq node (changed_at freed i t) node₀ t₀ reply)

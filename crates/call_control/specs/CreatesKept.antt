@@ -1,6 +1,6 @@
 -- Create keeps the table rules: a table that kept them before keeps them after, whatever came and whatever it was answered.
 -- Assumes nothing.
-use Rattle.std.specs.Prelude.{ℕ, ◌%◌, ◌≤◌, Bool, true, List, ◌≡◌, length, get_or, ltb}
+use Rattle.std.specs.Prelude.{ℕ, ◌%◌, ◌≤◌, Bool, true, List, ◌≡◌, length, get_or, ltb, Option, Some, None}
 use Rattle.std.proofs.Math.Path.{refl}
 use Rattle.std.proofs.Common.{arith, lt-ltb, le-leb, ne_eqb, ltb-false}
 use Rattle.base_octets.specs.Choice.{split}
@@ -14,8 +14,6 @@ use Rattle.unit_session.specs.declared.Session.{Session}
 use Rattle.unit_session.specs.Session.{is_free, has_id, freed, opened, read_ok, imsis, last_created}
 use Rattle.unit_session.specs.Keep.{opening_ok}
 use Rattle.unit_table.specs.declared.Node.{Node}
-use Rattle.unit_table.specs.declared.Owner.{Owner}
-use Rattle.unit_table.specs.declared.Owner.TheVariants as F
 use Rattle.unit_table.specs.Rules.{keeps_rules, Rules, rules_of, rules_to, bounds_of, live}
 use Rattle.unit_table.specs.Change.{nobody, changed_at, rules-freed}
 use Rattle.unit_table.specs.Find.{found_in, found_is}
@@ -53,11 +51,11 @@ unfolding opening_of
 opening_point p c seq a s = let f = parties_four p a in let q = s.point in omega arith
 
 -- none found: none has it
-found_none_count : (p : Session → Bool) (l : List Session) → found_in p l ≡ F.Nothing → count_of p l ≡ 0
+found_none_count : (p : Session → Bool) (l : List Session) → found_in p l ≡ None → count_of p l ≡ 0
 unfolding found_in
 found_none_count p l e =
     split (ltb (first_of p l) (length l))
-    (λ t. let f : F.At (first_of p l) ≡ F.Nothing = rw t at e in let z : ◌≡◌ {A = ℕ} 0 1 = cc in absurd (omega arith))
+    (λ t. let f : Some (first_of p l) ≡ None = rw t at e in let z : ◌≡◌ {A = ℕ} 0 1 = cc in absurd (omega arith))
     (λ t. first_none p l (ltb-false (first_of p l) (length l) t))
 
 -- ---- the sharing rule and the place, on any table that keeps its rules and has nobody with the IMSI and EBI
@@ -71,7 +69,7 @@ module _ (c : C.Create) (seq : ℕ) (small : seq ≤ last_created) (node₀ : No
       r : Rules node.plan node.echo node.next t
       r = rules_of node t e
 
-      opens : (i : ℕ) → found_in is_free t ≡ F.At i → admits node.plan (live t) c.point ≡ true
+      opens : (i : ℕ) → found_in is_free t ≡ Some i → admits node.plan (live t) c.point ≡ true
           → keeps_rules node (changed_at (opened (opening_of c seq)) i t) ≡ true
       opens i f q =
           let g = found_is is_free t i f in
@@ -79,16 +77,16 @@ module _ (c : C.Create) (seq : ℕ) (small : seq ≤ last_created) (node₀ : No
           rules_to node (changed_at (opened (opening_of c seq)) i t)
           (rules-opened node.plan node.echo node.next t r (opening_of c seq) i g.0 g.1.1 (opening_ok_lem node.plan c seq r.planned s small) none w)
 
-      place : (f : Owner) → found_in is_free t ≡ f → admits node.plan (live t) c.point ≡ true
+      place : (f : Option ℕ) → found_in is_free t ≡ f → admits node.plan (live t) c.point ≡ true
           → keeps_rules (opened_at f c seq node t node₀ t₀ reply).answer.node (opened_at f c seq node t node₀ t₀ reply).table ≡ true
-      place F.Nothing f q = e₀
-      place (F.At i) f q = opens i f q
+      place None f q = e₀
+      place (Some i) f q = opens i f q
 
-  settled-keeps : (node : Node) (t : List Session) → keeps_rules node t ≡ true → CreateSound (parties node.plan) c → (f : Owner) → found_in (has_id c.imsi c.ebi) t ≡ f
+  settled-keeps : (node : Node) (t : List Session) → keeps_rules node t ≡ true → CreateSound (parties node.plan) c → (f : Option ℕ) → found_in (has_id c.imsi c.ebi) t ≡ f
       → keeps_rules (settled_at f c seq node t node₀ t₀ reply).answer.node (settled_at f c seq node t node₀ t₀ reply).table ≡ true
   unfolding settled_at accepted_taken replaced
-  settled-keeps node t e s F.Nothing q = shared_keeps node t e s (found_none_count (has_id c.imsi c.ebi) t q)
-  settled-keeps node t e s (F.At i) q =
+  settled-keeps node t e s None q = shared_keeps node t e s (found_none_count (has_id c.imsi c.ebi) t q)
+  settled-keeps node t e s (Some i) q =
       split (is_repeat c seq (get_or t i nobody)) (λ x. rw x e) (λ x. rw x (shared_keeps node (changed_at freed i t) kept s gone))
     where
       r : Rules node.plan node.echo node.next t

@@ -1,7 +1,7 @@
 -- What is done with an Echo Request (1) and the reply to the unit's own echo (2), once their headers and what they carry are read; and what
 -- a Recovery value does.
 -- Assumes nothing.
-use Rattle.std.specs.Prelude.{ℕ, Bool, false, List, map, ◌≡◌}
+use Rattle.std.specs.Prelude.{ℕ, Bool, false, List, map, ◌≡◌, Option, Some, None}
 use Rattle.std.proofs.Math.Bool.{true}
 use Rattle.std.proofs.Math.Path.{refl}
 use Rattle.unit_session.specs.declared.Session.{Session}
@@ -17,8 +17,6 @@ use Rattle.unit_table.specs.Own.{rested, rules-rested}
 use Rattle.unit_table.specs.Recovery.{judged_by, hearing, is_restarted, same_again}
 use Rattle.wire_messages.specs.Types.{echo_reply_type}
 use Rattle.wire_messages.specs.Messages.{echo_of}
-use Rattle.wire_fields.specs.declared.Recovery.{Recovery}
-use Rattle.wire_fields.specs.declared.Recovery.TheVariants as R
 use Rattle.call_own.specs.declared.Span.{Span}
 use Rattle.call_own.specs.Outcome.{Held, Outcome, no_places, all_places, changing, no_reply, replied}
 use Rattle.call_own.specs.Calls.{timed}
@@ -31,21 +29,21 @@ done_for J.Restarted value node t = record { node = hearing value node; table = 
 done_for J.Late value node t = record { node = node; table = t }
 
 -- where none came nothing is done
-unfoldable pub heard_by : Recovery → Node → List Session → Held
-heard_by R.None node t = record { node = node; table = t }
-heard_by (R.Value value) node t = done_for (judged_by node value) value node t
+unfoldable pub heard_by : Option ℕ → Node → List Session → Held
+heard_by None node t = record { node = node; table = t }
+heard_by (Some value) node t = done_for (judged_by node value) value node t
 
 -- whether it says that the exchange restarted
-unfoldable pub restarts_by : Recovery → Node → Bool
-restarts_by R.None node = false
-restarts_by (R.Value value) node = is_restarted (judged_by node value)
+unfoldable pub restarts_by : Option ℕ → Node → Bool
+restarts_by None node = false
+restarts_by (Some value) node = is_restarted (judged_by node value)
 
 -- the places that this may change
-unfoldable pub heard_places : Recovery → Node → Span
+unfoldable pub heard_places : Option ℕ → Node → Span
 heard_places r node = pick (restarts_by r node) all_places no_places
 
 -- Echo Request (1): Recovery, and the answer
-unfoldable pub echo_taken : Node → List Session → ℕ → Recovery → List ℕ → Outcome
+unfoldable pub echo_taken : Node → List Session → ℕ → Option ℕ → List ℕ → Outcome
 echo_taken node t seq recovery reply =
     changing (heard_places recovery node)
     (replied taken (heard_by recovery node t).node (heard_by recovery node t).table (echo_of echo_reply_type seq node.plan.recovery) reply)
@@ -57,7 +55,7 @@ echo_ended s = record {
   table = s.table;
 }
 
-unfoldable pub echo_reply_taken : Node → List Session → Recovery → List ℕ → Outcome
+unfoldable pub echo_reply_taken : Node → List Session → Option ℕ → List ℕ → Outcome
 echo_reply_taken node t recovery reply =
     changing (heard_places recovery node)
     (no_reply taken (echo_ended (heard_by recovery node t)).node (echo_ended (heard_by recovery node t)).table reply)
@@ -69,63 +67,63 @@ stored_for J.Same value node = hearing value node
 stored_for J.Restarted value node = hearing value node
 stored_for J.Late value node = node
 
-unfoldable pub heard_node : Recovery → Node → Node
-heard_node R.None node = node
-heard_node (R.Value value) node = stored_for (judged_by node value) value node
+unfoldable pub heard_node : Option ℕ → Node → Node
+heard_node None node = node
+heard_node (Some value) node = stored_for (judged_by node value) value node
 
 -- and all are freed, or the table stays
-pub heard_either : (r : Recovery) (node : Node) (t : List Session)
+pub heard_either : (r : Option ℕ) (node : Node) (t : List Session)
     → heard_by r node t ≡ record { node = heard_node r node; table = pick (restarts_by r node) (map freed t) t }
 unfolding heard_by heard_node restarts_by done_for stored_for is_restarted
-heard_either R.None node t = refl
-heard_either (R.Value value) node t = by (judged_by node value)
+heard_either None node t = refl
+heard_either (Some value) node t = by (judged_by node value)
   where
     by : (j : Judged) → done_for j value node t ≡ record { node = stored_for j value node; table = pick (is_restarted j) (map freed t) t }
     by J.Same = refl
     by J.Restarted = refl
     by J.Late = refl
 
-pub heard-freed : (r : Recovery) (node : Node) (t : List Session) → restarts_by r node ≡ true
+pub heard-freed : (r : Option ℕ) (node : Node) (t : List Session) → restarts_by r node ≡ true
     → heard_by r node t ≡ record { node = heard_node r node; table = map freed t }
 heard-freed r node t e = rw (heard_either r node t, e)
 
-pub heard_same : (r : Recovery) (node : Node) (t : List Session) → restarts_by r node ≡ false
+pub heard_same : (r : Option ℕ) (node : Node) (t : List Session) → restarts_by r node ≡ false
     → heard_by r node t ≡ record { node = heard_node r node; table = t }
 heard_same r node t e = rw (heard_either r node t, e)
 
 -- a late value leaves node and records as they were, as if none had come
-pub heard_late : (value : ℕ) (node : Node) (t : List Session) → judged_by node value ≡ J.Late → heard_by (R.Value value) node t ≡ heard_by R.None node t
+pub heard_late : (value : ℕ) (node : Node) (t : List Session) → judged_by node value ≡ J.Late → heard_by (Some value) node t ≡ heard_by None node t
 unfolding heard_by done_for
 heard_late value node t e = rw e
 
 -- Recovery is stored, and the rest of the node stays
 module _ {B : Type 0} (f : Node → B) (rest : (value : ℕ) (node : Node) → f (hearing value node) ≡ f node) where
-  pub stored_rest : (r : Recovery) (node : Node) → f (heard_node r node) ≡ f node
+  pub stored_rest : (r : Option ℕ) (node : Node) → f (heard_node r node) ≡ f node
   unfolding heard_node stored_for
-  stored_rest R.None node = refl
-  stored_rest (R.Value value) node = by (judged_by node value)
+  stored_rest None node = refl
+  stored_rest (Some value) node = by (judged_by node value)
     where
       by : (j : Judged) → f (stored_for j value node) ≡ f node
       by J.Same = rest value node
       by J.Restarted = rest value node
       by J.Late = refl
 
-  pub heard_rest : (r : Recovery) (node : Node) (t : List Session) → f (heard_by r node t).node ≡ f node
+  pub heard_rest : (r : Option ℕ) (node : Node) (t : List Session) → f (heard_by r node t).node ≡ f node
   heard_rest r node t = rw (heard_either r node t) (stored_rest r node)
 
-pub stored_plan : (r : Recovery) (node : Node) → (heard_node r node).plan ≡ node.plan
+pub stored_plan : (r : Option ℕ) (node : Node) → (heard_node r node).plan ≡ node.plan
 unfolding hearing
 stored_plan = stored_rest (λ (n : Node). n.plan) (λ value node. refl)
 
-pub heard_plan : (r : Recovery) (node : Node) (t : List Session) → (heard_by r node t).node.plan ≡ node.plan
+pub heard_plan : (r : Option ℕ) (node : Node) (t : List Session) → (heard_by r node t).node.plan ≡ node.plan
 unfolding hearing
 heard_plan = heard_rest (λ (n : Node). n.plan) (λ value node. refl)
 
 -- heard twice it is as heard once
-pub heard_twice : (r : Recovery) (node : Node) → heard_node r (heard_node r node) ≡ heard_node r node
+pub heard_twice : (r : Option ℕ) (node : Node) → heard_node r (heard_node r node) ≡ heard_node r node
 unfolding heard_node stored_for hearing
-heard_twice R.None node = refl
-heard_twice (R.Value value) node = by (judged_by node value) refl
+heard_twice None node = refl
+heard_twice (Some value) node = by (judged_by node value) refl
   where
     by : (j : Judged) → judged_by node value ≡ j
         → stored_for (judged_by (stored_for j value node) value) value (stored_for j value node) ≡ stored_for j value node
@@ -134,10 +132,10 @@ heard_twice (R.Value value) node = by (judged_by node value) refl
     by J.Late e = rw e
 
 -- and frees nothing more
-pub heard_once : (r : Recovery) (node : Node) → restarts_by r (heard_node r node) ≡ false
+pub heard_once : (r : Option ℕ) (node : Node) → restarts_by r (heard_node r node) ≡ false
 unfolding heard_node restarts_by stored_for is_restarted
-heard_once R.None node = refl
-heard_once (R.Value value) node = by (judged_by node value) refl
+heard_once None node = refl
+heard_once (Some value) node = by (judged_by node value) refl
   where
     by : (j : Judged) → judged_by node value ≡ j → is_restarted (judged_by (stored_for j value node) value) ≡ false
     by J.Same e = rw (same_again value node)
@@ -149,17 +147,17 @@ module _ (node : Node) (t : List Session) (e : keeps_rules node t ≡ true) wher
   rules : Rules node.plan node.echo node.next t
   rules = rules_of node t e
 
-  pub heard-keeps : (r : Recovery) → keeps_rules (heard_by r node t).node (heard_by r node t).table ≡ true
+  pub heard-keeps : (r : Option ℕ) → keeps_rules (heard_by r node t).node (heard_by r node t).table ≡ true
   unfolding heard_by done_for hearing
-  heard-keeps R.None = e
-  heard-keeps (R.Value value) = by (judged_by node value)
+  heard-keeps None = e
+  heard-keeps (Some value) = by (judged_by node value)
     where
       by : (j : Judged) → keeps_rules (done_for j value node t).node (done_for j value node t).table ≡ true
       by J.Same = rules_to (hearing value node) t rules
       by J.Restarted = rules_to (hearing value node) (map freed t) (rules_all_freed node.plan node.echo node.next t rules)
       by J.Late = e
 
-  pub echo-keeps : (seq : ℕ) (r : Recovery) (reply : List ℕ)
+  pub echo-keeps : (seq : ℕ) (r : Option ℕ) (reply : List ℕ)
       → keeps_rules (echo_taken node t seq r reply).answer.node (echo_taken node t seq r reply).table ≡ true
   unfolding echo_taken
   echo-keeps seq r reply = heard-keeps r
@@ -171,7 +169,7 @@ ended_keeps a e =
     rules_to (timed (rested a.node.plan.interval a.node.echo) a.node.next a.node) a.table
     (rules-rested a.node.plan a.node.echo a.node.next a.table (rules_of a.node a.table e))
 
-pub echo_reply_keeps : (node : Node) (t : List Session) (r : Recovery) (reply : List ℕ) → keeps_rules node t ≡ true
+pub echo_reply_keeps : (node : Node) (t : List Session) (r : Option ℕ) (reply : List ℕ) → keeps_rules node t ≡ true
     → keeps_rules (echo_reply_taken node t r reply).answer.node (echo_reply_taken node t r reply).table ≡ true
 unfolding echo_reply_taken no_reply
 echo_reply_keeps node t r reply e = ended_keeps (heard_by r node t) (heard-keeps node t e r)

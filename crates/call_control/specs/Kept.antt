@@ -1,7 +1,7 @@
 -- Take control datagram keeps the table rules, for any octets whatever.
 -- Assumes nothing.
 use Rattle.std.specs.Prelude.{ℕ, true, List, ◌≡◌, length, ltb}
-use Rattle.base_octets.specs.Choice.{pick, split}
+use Rattle.base_octets.specs.Choice.{split}
 use Rattle.base_octets.specs.Every.{every}
 use Rattle.base_octets.specs.BigEndian.{is_octet}
 use Rattle.unit_tunnel.specs.Numbering.{control_offset}

@@ -5,48 +5,44 @@
 ghost use Rattle.std.specs.Prelude.{◌≡◌};
 ghost use Rattle.call_control.specs.Echoes.{restarts_by, heard_node};
 ghost use Rattle.base_octets.specs.Overlay.{Wrote};
-ghost use Rattle.call_control.specs.Amends.{not_live, cause_octets, peer_teid, peer_addr, peers_of, modify_octets};
+ghost use Rattle.call_control.specs.Amends.{not_live, cause_octets, peers_of, modify_octets};
 ghost use Rattle.call_control.specs.Creates.{opening_of, accepted_octets, no_room, is_repeat};
 
 use unit_plan::Plan;
 use unit_session::{Opening, Peers, Session};
 use unit_table::{Judged, Node};
-use unit_tunnel::{ControlTeid, UserTeid};
-use wire_fields::{Recovery, Refusal};
+use unit_tunnel::{ControlTeid, Teid, UserTeid};
+use wire_fields::{Refusal, Tunnel};
 use wire_messages::MessageType;
-use wire_requests::{Context, Create, Peer};
+use wire_requests::{Context, Create};
 
 // Whether a Recovery says that the exchange restarted.
-pub fn restarts_by(node: Node, recovery: Recovery) -> bool
+#[tactic(auto, unfolding(crate::specs::Echoes::restarts_by, unit_table::specs::Recovery::is_restarted))]
+pub fn restarts_by(node: Node, recovery: Option<u8>) -> bool
     ensures { result ≡ restarts_by recovery node }
 {
-    let Recovery::Value(value) = recovery else {
-        return false;
-    };
-    let says = node.judged(value);
-    match says {
-        Judged::Same => false,
-        Judged::Restarted => true,
-        Judged::Late => false,
+    match recovery {
+        Some(value) => matches!(node.judged(value), Judged::Restarted),
+        None => false,
     }
 }
 
 // A Recovery value is stored, but a late one is thrown away.
-pub fn heard_node(node: Node, recovery: Recovery) -> Node
+#[tactic(auto, unfolding(crate::specs::Echoes::heard_node, crate::specs::Echoes::stored_for))]
+pub fn heard_node(node: Node, recovery: Option<u8>) -> Node
     ensures { result ≡ heard_node recovery node }
 {
-    let Recovery::Value(value) = recovery else {
+    let Some(value) = recovery else {
         return node;
     };
-    let says = node.judged(value);
-    match says {
-        Judged::Same => node.hearing(value),
-        Judged::Restarted => node.hearing(value),
+    match node.judged(value) {
+        Judged::Same | Judged::Restarted => node.hearing(value),
         Judged::Late => node,
     }
 }
 
 // No such session: the cause is NOT_LIVE, no field named.
+#[tactic(auto, unfolding(crate::specs::Amends::not_live))]
 pub fn not_live() -> Refusal
     ensures { result ≡ not_live }
 {
@@ -54,55 +50,50 @@ pub fn not_live() -> Refusal
 }
 
 // A reply with a cause, and the field at fault where one is named; the answer is its length.
+#[tactic(auto, unfolding(crate::specs::Amends::cause_octets, crate::specs::Amends::fault_octets))]
 pub fn write_cause(kind: u8, teid: u32, seq: u32, w: Refusal, reply: &mut [u8]) -> usize
     ensures { Wrote result reply.new reply.old (cause_octets kind teid seq w) }
 {
-    if w.named {
-        return wire_messages::fault_reply(reply, kind, teid, seq, w.cause, w.kind, w.instance);
-    }
-    wire_messages::cause_reply(reply, kind, teid, seq, w.cause)
-}
-
-fn peer_teid(p: Peer, old: u32) -> u32
-    ensures { result ≡ peer_teid p old }
-{
-    match p {
-        Peer::Same => old,
-        Peer::New { teid, address: _ } => teid,
+    match w.fault {
+        Some(f) => wire_messages::fault_reply(reply, kind, teid, seq, w.cause, f.kind, f.instance),
+        None => wire_messages::cause_reply(reply, kind, teid, seq, w.cause),
     }
 }
 
-fn peer_addr(p: Peer, old: u32) -> u32
-    ensures { result ≡ peer_addr p old }
-{
-    match p {
-        Peer::Same => old,
-        Peer::New { teid: _, address } => address,
-    }
-}
-
-// Where the peer is after a Modify.
-pub fn peers_of(c: Peer, u: Peer, s: Session) -> Peers
+// Where the peer is after a Modify: of the two tunnel ends each that came, and the old one of each that did not.
+#[tactic(auto, unfolding(crate::specs::Amends::peers_of))]
+pub fn peers_of(c: Option<Tunnel>, u: Option<Tunnel>, s: Session) -> Peers
     ensures { result ≡ peers_of c u s }
 {
-    let control = peer_teid(c, s.control);
-    let controladdr = peer_addr(c, s.controladdr);
-    let user = peer_teid(u, s.user);
-    let useraddr = peer_addr(u, s.useraddr);
+    let control = c.unwrap_or(Tunnel {
+        teid: s.control,
+        address: s.controladdr,
+    });
+    let user = u.unwrap_or(Tunnel {
+        teid: s.user,
+        address: s.useraddr,
+    });
     Peers {
-        control,
-        controladdr,
-        user,
-        useraddr,
+        control: control.teid,
+        controladdr: control.address,
+        user: user.teid,
+        useraddr: user.address,
     }
 }
 
 // The accepted reply to a Modify; the answer is its length.
-pub fn write_modify(context: Context, teid: u32, seq: u32, ebi: u8, reply: &mut [u8]) -> usize
+#[tactic(auto, unfolding(crate::specs::Amends::modify_octets))]
+pub fn write_modify(
+    context: Option<Context>,
+    teid: u32,
+    seq: u32,
+    ebi: u8,
+    reply: &mut [u8],
+) -> usize
     ensures { Wrote result reply.new reply.old (modify_octets context teid seq ebi) }
 {
     match context {
-        Context::Absent => {
+        None => {
             wire_messages::cause_reply(
                 reply,
                 MessageType::MODIFY_REPLY,
@@ -111,13 +102,12 @@ pub fn write_modify(context: Context, teid: u32, seq: u32, ebi: u8, reply: &mut 
                 Refusal::ACCEPTED,
             )
         }
-        Context::Present { ebi: _, user: _ } => {
-            wire_messages::modify_bearer(reply, teid, seq, ebi)
-        }
+        Some(_) => wire_messages::modify_bearer(reply, teid, seq, ebi),
     }
 }
 
 // What of a Create a session keeps.
+#[tactic(auto, unfolding(crate::specs::Creates::opening_of))]
 pub fn opening_of(c: Create, seq: u32) -> Opening
     ensures { result ≡ opening_of c seq }
 {
@@ -134,21 +124,19 @@ pub fn opening_of(c: Create, seq: u32) -> Opening
 }
 
 // The accepted reply, from the record of a place; the answer is its length.
+#[tactic(auto, unfolding(crate::specs::Creates::accepted_octets))]
 pub fn write_accepted(plan: Plan, seq: u32, place: usize, s: Session, reply: &mut [u8]) -> usize
     ensures { Wrote result reply.new reply.old (accepted_octets plan seq place s) }
 {
-    let control = ControlTeid::of(s.usage, place);
-    let user = UserTeid::of(s.usage, place);
-    let address = plan.address(place);
     wire_messages::create_accepted(
         reply,
         wire_messages::Accepted {
             teid: s.control,
             sequence: seq,
-            control: control.0,
+            control: ControlTeid::of(s.usage, place).0,
             controladdr: plan.control,
-            address,
-            user: user.0,
+            address: plan.address(place),
+            user: UserTeid::of(s.usage, place).0,
             useraddr: plan.user,
             ebi: s.ebi,
             recovery: plan.recovery,
@@ -156,6 +144,7 @@ pub fn write_accepted(plan: Plan, seq: u32, place: usize, s: Session, reply: &mu
     )
 }
 
+#[tactic(auto, unfolding(crate::specs::Creates::no_room))]
 pub fn no_room() -> Refusal
     ensures { result ≡ no_room }
 {
@@ -163,8 +152,9 @@ pub fn no_room() -> Refusal
 }
 
 // A repeat of the Create that made the session.
+#[tactic(auto, unfolding(crate::specs::Creates::is_repeat))]
 pub fn is_repeat(c: Create, seq: u32, s: Session) -> bool
     ensures { result ≡ is_repeat c seq s }
 {
-    (s.point as usize == c.point) & (s.created == seq)
+    (usize::from(s.point) == c.point) & (s.created == seq)
 }

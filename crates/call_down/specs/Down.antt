@@ -1,7 +1,7 @@
 -- Take downlink packet (document 02, request 1): one definition that fixes number, place, length, peer and output buffer, for any packet
 -- and any table. The table is never changed by it.
 -- Assumes nothing.
-use Rattle.std.specs.Prelude.{ℕ, ◌+◌, ◌<◌, ◌≤◌, true, false, List, [], ◌≢◌, ◌≡◌, refl, length, get_or, ltb}
+use Rattle.std.specs.Prelude.{ℕ, ◌+◌, ◌<◌, ◌≤◌, true, false, List, [], ◌≢◌, ◌≡◌, refl, length, get_or, ltb, Option, Some, None}
 use Rattle.std.proofs.Common.{lt-ltb, le-ltb}
 use Rattle.base_octets.specs.Number.{taken, rules_broken, packet_unfit, no_session, output_short}
 use Rattle.base_octets.specs.Choice.{pick, split}
@@ -11,8 +11,6 @@ use Rattle.wire_packet.specs.Packet.{whole_packet, destination_of}
 use Rattle.wire_user.specs.Header.{fixed_size}
 use Rattle.unit_session.specs.declared.Session.{Session}
 use Rattle.unit_table.specs.declared.Node.{Node}
-use Rattle.unit_table.specs.declared.Owner.{Owner}
-use Rattle.unit_table.specs.declared.Owner.TheVariants as F
 use Rattle.unit_table.specs.Change.{nobody}
 use Rattle.unit_table.specs.Rules.{keeps_rules}
 use Rattle.unit_table.specs.Find.{addressee_of}
@@ -40,9 +38,9 @@ unfoldable pub down_on : ℕ → Session → List ℕ → List ℕ → Output
 down_on place s packet out = pick (ltb (length out) (length packet + fixed_size)) (unwritten output_short out) (written_to place s packet out)
 
 -- to whom it goes
-unfoldable pub down_to : Owner → List Session → List ℕ → List ℕ → Output
-down_to (F.At place) l packet out = down_on place (get_or l place nobody) packet out
-down_to F.Nothing l packet out = unwritten no_session out
+unfoldable pub down_to : Option ℕ → List Session → List ℕ → List ℕ → Output
+down_to (Some place) l packet out = down_on place (get_or l place nobody) packet out
+down_to None l packet out = unwritten no_session out
 
 -- the order: 2, 18, 19, 20
 unfoldable pub down_taken : Node → List Session → List ℕ → List ℕ → Output
@@ -92,10 +90,10 @@ on_lowers place s packet out =
     split (ltb (length out) (length packet + fixed_size)) (λ a. rw a (nothing_lowers output_short out))
     (λ a. rw a (record { message = gpdu_of s.user packet; size = refl; over = refl; silent = λ e. absurd (e refl) }))
 
-to_lowers : (f : Owner) (t : List Session) (packet out : List ℕ) → Lowers out (down_to f t packet out)
+to_lowers : (f : Option ℕ) (t : List Session) (packet out : List ℕ) → Lowers out (down_to f t packet out)
 unfolding down_to
-to_lowers (F.At place) t packet out = on_lowers place (get_or t place nobody) packet out
-to_lowers F.Nothing t packet out = nothing_lowers no_session out
+to_lowers (Some place) t packet out = on_lowers place (get_or t place nobody) packet out
+to_lowers None t packet out = nothing_lowers no_session out
 
 pub down_lowers : (node : Node) (t : List Session) (packet out : List ℕ) → Lowers out (down_taken node t packet out)
 unfolding down_taken

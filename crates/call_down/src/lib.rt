@@ -36,12 +36,11 @@ impl Written {
 }
 
 // The place that has the packet's destination address; past the last where none has it.
+// Kept: a place and no Option, since the law `one_is` reads the record at it, which past the last is one that nobody took.
 pub fn place_for(node: Node, packet: &[u8]) -> usize
     ensures { result ≡ place_for node packet.now }
 {
-    let to = wire_packet::destination_of(packet);
-    let plan = node.plan;
-    plan.place_of(to)
+    node.plan.place_of(wire_packet::destination_of(packet))
 }
 
 // To the session at a place, if there is room.
@@ -67,8 +66,7 @@ pub fn down_by(kept: bool, place: usize, s: Session, packet: &[u8], out: &mut [u
     if !kept {
         return Written::bare(Number::RULES_BROKEN);
     }
-    let whole = wire_packet::whole_packet(packet);
-    if !whole {
+    if !wire_packet::whole_packet(packet) {
         return Written::bare(Number::PACKET_UNFIT);
     }
     let free = s.is_free();

@@ -14,15 +14,15 @@ use unit_tunnel::Unit;
 fn put_number(out: &mut [u8], at: usize, n: u32) -> usize
     ensures { written result out.new ≡ laid at (number_text n) out.old }
 {
-    let p = base_numerals::put(out, at, 9);
-    base_numerals::put_decimal(out, p, n as u64, 1)
+    let p = base_numerals::put(out, at, b'\t');
+    base_numerals::put_decimal(out, p, u64::from(n), 1)
 }
 
 // A tab, then the fifteen digits of an IMSI.
 fn put_imsi(out: &mut [u8], at: usize, imsi: u64) -> usize
     ensures { written result out.new ≡ laid at (imsi_text imsi) out.old }
 {
-    let p = base_numerals::put(out, at, 9);
+    let p = base_numerals::put(out, at, b'\t');
     base_numerals::put_decimal(out, p, imsi, 15)
 }
 
@@ -30,9 +30,8 @@ fn put_imsi(out: &mut [u8], at: usize, imsi: u64) -> usize
 fn put_address(out: &mut [u8], at: usize, address: u32) -> usize
     ensures { written result out.new ≡ laid at (address_text address) out.old }
 {
-    let p = base_numerals::put(out, at, 9);
-    let o = base_octets::octets32(address);
-    base_numerals::put_hex(out, p, &o)
+    let p = base_numerals::put(out, at, b'\t');
+    base_numerals::put_hex(out, p, &base_octets::octets32(address))
 }
 
 // A peer's TEID and address.
@@ -47,9 +46,9 @@ fn put_peer(out: &mut [u8], at: usize, teid: u32, address: u32) -> usize
 fn put_held(out: &mut [u8], at: usize, s: Session) -> usize
     ensures { written result out.new ≡ laid at (held_text s) out.old }
 {
-    let a = put_number(out, at, s.point as u32);
+    let a = put_number(out, at, u32::from(s.point));
     let b = put_imsi(out, a, s.imsi);
-    let c = put_number(out, b, s.ebi as u32);
+    let c = put_number(out, b, u32::from(s.ebi));
     let d = put_peer(out, c, s.control, s.controladdr);
     let e = put_peer(out, d, s.user, s.useraddr);
     put_number(out, e, s.created)
@@ -59,24 +58,21 @@ fn put_held(out: &mut [u8], at: usize, s: Session) -> usize
 fn state_letter(s: Session) -> u8
     ensures { result ≡ state_letter s }
 {
-    let free = s.is_free();
-    if free {
-        return 70;
+    if s.is_free() {
+        return b'F';
     }
     if s.state == Session::CLOSING {
-        return 88;
+        return b'X';
     }
-    76
+    b'L'
 }
 
 // What stands behind the state: of a free place eight dashes.
 fn put_rest(out: &mut [u8], at: usize, s: Session) -> usize
     ensures { written result out.new ≡ laid at (rest_text s) out.old }
 {
-    let free = s.is_free();
-    if free {
-        let dashes = [9, 45, 9, 45, 9, 45, 9, 45, 9, 45, 9, 45, 9, 45, 9, 45];
-        return base_numerals::put_text(out, at, &dashes);
+    if s.is_free() {
+        return base_numerals::put_text(out, at, b"\t-\t-\t-\t-\t-\t-\t-\t-");
     }
     put_held(out, at, s)
 }
@@ -86,9 +82,8 @@ pub fn put_line(out: &mut [u8], place: usize, s: Session) -> usize
 {
     let a = base_numerals::put_decimal(out, 0, place as u64, 1);
     let b = put_number(out, a, s.usage);
-    let c = base_numerals::put(out, b, 9);
-    let letter = state_letter(s);
-    let d = base_numerals::put(out, c, letter);
+    let c = base_numerals::put(out, b, b'\t');
+    let d = base_numerals::put(out, c, state_letter(s));
     put_rest(out, d, s)
 }
 
@@ -96,8 +91,7 @@ pub fn put_line(out: &mut [u8], place: usize, s: Session) -> usize
 pub fn peer_of(s: Session) -> u32
     ensures { result ≡ peer_of s }
 {
-    let free = s.is_free();
-    if free {
+    if s.is_free() {
         return 0;
     }
     s.controladdr
@@ -108,8 +102,7 @@ pub fn address_at(node: Node, place: usize) -> u32
     ensures { result ≡ address_at node place }
 {
     if place < Unit::PLACES {
-        let plan = node.plan;
-        return plan.address(place);
+        return node.plan.address(place);
     }
     0
 }

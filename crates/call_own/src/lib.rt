@@ -20,6 +20,44 @@ pub struct Span {
     pub to: usize,
 }
 
+impl Span {
+    // No place.
+    pub const NONE: Span = Span { from: 0, to: 0 };
+
+    // So many places from the first on.
+    pub fn first_places(n: usize) -> Self
+        ensures { result ≡ first_places n }
+    {
+        Span { from: 0, to: n }
+    }
+
+    // One place; none where it is past the last.
+    pub fn one_place(i: usize) -> Self
+        ensures { result ≡ one_place i }
+    {
+        if i < Unit::PLACES {
+            return Span { from: i, to: i + 1 };
+        }
+        Span::NONE
+    }
+
+    // Two places and what lies between them, of which each may be past the last.
+    pub fn two_places(i: usize, j: usize) -> Self
+        ensures { result ≡ two_places i j }
+    {
+        if Unit::PLACES <= i {
+            return Span::one_place(j);
+        }
+        if Unit::PLACES <= j {
+            return Span::one_place(i);
+        }
+        if i < j {
+            return Span { from: i, to: j + 1 };
+        }
+        Span { from: j, to: i + 1 }
+    }
+}
+
 // What a call answers by value: document 01's number, the reply's length, what goes with the records, and where these may have changed. The
 // records are the caller's.
 #[repr(C)]
@@ -39,12 +77,11 @@ impl Answer {
     pub fn bare(number: u8, node: Node) -> Self
         ensures { result ≡ bare number node }
     {
-        let span = Span { from: 0, to: 0 };
         Answer {
             number,
             size: 0,
             node,
-            span,
+            span: Span::NONE,
         }
     }
 
@@ -52,67 +89,23 @@ impl Answer {
     pub fn spanning(self, span: Span) -> Self
         ensures { result ≡ spanning span self }
     {
-        let node = self.node;
-        Answer {
-            number: self.number,
-            size: self.size,
-            node,
-            span,
-        }
+        Answer { span, ..self }
     }
-}
-
-// So many places from the first on.
-pub fn first_places(n: usize) -> Span
-    ensures { result ≡ first_places n }
-{
-    Span { from: 0, to: n }
-}
-
-// One place; none where it is past the last.
-pub fn one_place(i: usize) -> Span
-    ensures { result ≡ one_place i }
-{
-    if i < Unit::PLACES {
-        return Span { from: i, to: i + 1 };
-    }
-    Span { from: 0, to: 0 }
-}
-
-// Two places and what lies between them, of which each may be past the last.
-pub fn two_places(i: usize, j: usize) -> Span
-    ensures { result ≡ two_places i j }
-{
-    if Unit::PLACES <= i {
-        return one_place(j);
-    }
-    if Unit::PLACES <= j {
-        return one_place(i);
-    }
-    if i < j {
-        return Span { from: i, to: j + 1 };
-    }
-    Span { from: j, to: i + 1 }
 }
 
 // What fresh answers by value, from the count of records that are lent and the plan.
 pub fn fresh_by(count: usize, plan: Plan) -> Answer
     ensures { result ≡ fresh_by count plan }
 {
-    let none = Plan::none();
-    let empty = Node::fresh(none);
+    let empty = Node::fresh(Plan::none());
     if count != Unit::PLACES {
         return Answer::bare(Number::RULES_BROKEN, empty);
     }
-    let all = first_places(Unit::PLACES);
-    let ok = plan.accepted();
-    if ok {
-        let node = Node::fresh(plan);
-        let fresh = Answer::bare(Number::TAKEN, node);
-        return fresh.spanning(all);
+    let all = Span::first_places(Unit::PLACES);
+    if plan.accepted() {
+        return Answer::bare(Number::TAKEN, Node::fresh(plan)).spanning(all);
     }
-    let refused = Answer::bare(Number::PLAN_BREAKS, empty);
-    refused.spanning(all)
+    Answer::bare(Number::PLAN_BREAKS, empty).spanning(all)
 }
 
 // The next number after a send: a first send took k, a resend kept its own.

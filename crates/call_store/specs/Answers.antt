@@ -1,7 +1,7 @@
 -- What a Modify and a Delete that ask the store are answered with can be kept: a number that the store's rules know, and a reply that its rows
 -- have room for.
 -- Assumes nothing.
-use Rattle.std.specs.Prelude.{ℕ, ◌≤◌, false, ◌||◌, List, ◌≡◌, length, get_or, drop}
+use Rattle.std.specs.Prelude.{ℕ, ◌≤◌, false, ◌||◌, List, ◌≡◌, length, get_or, drop, Option, Some, None, Result, Ok, Err}
 use Rattle.std.proofs.Math.Bool.{true}
 use Rattle.std.proofs.Math.Path.{refl}
 use Rattle.std.proofs.Common.{sym, eqb-true}
@@ -18,20 +18,16 @@ use Rattle.unit_store.specs.Row.{number_ok, longest_reply}
 use Rattle.wire_messages.specs.Types.{modify_type, delete_type, modify_reply_type, delete_reply_type}
 use Rattle.wire_messages.specs.Messages.{size_cause, size_fault, size_modify}
 use Rattle.wire_fields.specs.declared.Refusal.{Refusal}
-use Rattle.wire_fields.specs.declared.Tunnel.{Tunnel}
-use Rattle.wire_fields.specs.declared.Tunnel.TheVariants as T
+use Rattle.wire_fields.specs.Refusal.{refusal_of}
+use Rattle.wire_fields.specs.declared.Fault.{Fault}
 use Rattle.wire_header.specs.declared.HeaderCursor.{HeaderCursor}
 use Rattle.wire_header.specs.declared.Kind.TheVariants as K
 use Rattle.wire_header.specs.Types.{among, kind_by}
 use Rattle.wire_header.specs.Header.{header_of, kind_of}
 use Rattle.wire_header.specs.Gate.{gate_of}
-use Rattle.wire_requests.specs.declared.Decoded.{Decoded}
-use Rattle.wire_requests.specs.declared.Decoded.TheVariants as R
 use Rattle.wire_requests.specs.declared.Request.TheVariants as Q
 use Rattle.wire_requests.specs.declared.Modify as M
 use Rattle.wire_requests.specs.declared.Delete as D
-use Rattle.wire_requests.specs.declared.Context.{Context}
-use Rattle.wire_requests.specs.declared.Context.TheVariants as X
 use Rattle.wire_requests.specs.declared.Request.{Request}
 use Rattle.wire_requests.specs.Change.{modify_of, delete_of, end_moves, context_moves, moves_of, means_of}
 use Rattle.call_own.specs.Outcome.{Done, on_session, on_owner}
@@ -41,9 +37,14 @@ use Rattle.call_asked.specs.declared.Asked.{Asked}
 use Rattle.call_asked.specs.Asked.{session_asked, change_refused, sound_asked, request_asked, kind_asked, asked_of}
 use Rattle.call_asked.specs.Answers.{number_for, is_create, is_modify, is_delete, modify_numbers, delete_numbers, modify_answers}
 use Rattle.call_asked.proofs.DeleteAnswers.{delete_answers}
-use Rattle.call_control.specs.Amends.{cause_octets, cause_on, not_live, modify_octets, moved_on, modify_by, modify_on, freed_on, delete_on, concern_on, none_on, session_on}
+use Rattle.call_control.specs.Amends.{cause_octets, fault_octets, cause_on, not_live, modify_octets, moved_on, modify_by, modify_on, freed_on, delete_on, concern_on, none_on, session_on}
 use Rattle.call_control.specs.Control.{restarts_in, asked_taken}
 use Rattle.call_store.specs.Stored.{asks_store}
+use Rattle.wire_requests.specs.declared.Context.{Context}
+use Rattle.wire_fields.specs.declared.Flaw.{Flaw}
+use Rattle.wire_fields.specs.declared.Tunnel.{Tunnel}
+use Rattle.wire_fields.specs.declared.Flaw.TheVariants.{Missing, Short, Wrong}
+use Rattle.wire_requests.specs.Chain.{Decoded, if_present}
 
 -- what the rows of a store can take
 pub record Fits (n m : ℕ) : Type 0 where
@@ -55,35 +56,36 @@ FitsOn d = Fits d.number (length d.message)
 
 -- ---- what concerns a session: a Modify, a Delete, or one of them that is refused with a cause of its list
 cause_fits : (w : Refusal) (type teid seq : ℕ) → length (cause_octets type teid seq w) ≤ longest_reply
-unfolding cause_octets
-cause_fits w type teid seq =
-    split w.named
-    (λ e. rw e (let z = size_fault type teid seq w.cause w.kind w.instance in omega arith))
-    (λ e. rw e (let z = size_cause type teid seq w.cause in omega arith))
+unfolding cause_octets fault_octets
+cause_fits w type teid seq = by w.fault
+  where
+    by : (f : Option Fault) → length (fault_octets type teid seq w.cause f) ≤ longest_reply
+    by None = let z = size_cause type teid seq w.cause in omega arith
+    by (Some f) = let z = size_fault type teid seq w.cause f.kind f.instance in omega arith
 
 cause_on_lem : (w : Refusal) (type teid seq : ℕ) (s : Session) → number_ok w.cause ≡ true → FitsOn (cause_on type teid seq w s)
 unfolding cause_on
 cause_on_lem w type teid seq s e = record { number = e; size = cause_fits w type teid seq }
 
 module _ (seq : ℕ) (s : Session) where
-  moved_size : (x : Context) (teid : ℕ) → length (modify_octets x teid seq s.ebi) ≤ longest_reply
+  moved_size : (x : Option Context) (teid : ℕ) → length (modify_octets x teid seq s.ebi) ≤ longest_reply
   unfolding modify_octets
-  moved_size X.Absent teid = let z = size_cause modify_reply_type teid seq 16 in omega arith
-  moved_size (X.Present ebi f) teid = let z = size_modify teid seq s.ebi in omega arith
+  moved_size None teid = let z = size_cause modify_reply_type teid seq 16 in omega arith
+  moved_size (Some context) teid = let z = size_modify teid seq s.ebi in omega arith
 
   modify_fits : (m : M.Modify) → FitsOn (modify_on m seq s)
-  unfolding modify_on modify_by moved_on moves_of context_moves end_moves number_ok
+  unfolding modify_on modify_by moved_on moves_of context_moves end_moves refusal_of number_ok
   modify_fits m = by m.context m.context
     where
-      end : (x : Context) (f : Tunnel) → FitsOn (modify_by (end_moves m.control f) x seq s)
-      end x (T.Value teid address) = record { number = refl; size = moved_size x _ }
-      end x T.Missing = record { number = refl; size = moved_size x _ }
-      end x T.Short = cause_on_lem _ modify_reply_type s.control seq s refl
-      end x T.Wrong = cause_on_lem _ modify_reply_type s.control seq s refl
+      end : (x : Option Context) (r : Result (Option Tunnel) Flaw) → FitsOn (modify_by (end_moves m.control r) x seq s)
+      end x (Ok user) = record { number = refl; size = moved_size x _ }
+      end x (Err Missing) = cause_on_lem _ modify_reply_type s.control seq s refl
+      end x (Err Short) = cause_on_lem _ modify_reply_type s.control seq s refl
+      end x (Err Wrong) = cause_on_lem _ modify_reply_type s.control seq s refl
 
-      by : (x y : Context) → FitsOn (modify_by (context_moves m.control y s.ebi) x seq s)
-      by x X.Absent = record { number = refl; size = moved_size x _ }
-      by x (X.Present ebi f) = split (eqb ebi s.ebi) (λ e. rw e (end x f)) (λ e. rw e (cause_on_lem _ modify_reply_type s.control seq s refl))
+      by : (x y : Option Context) → FitsOn (modify_by (context_moves m.control y s.ebi) x seq s)
+      by x None = record { number = refl; size = moved_size x _ }
+      by x (Some context) = split (eqb context.ebi s.ebi) (λ e. rw e (end x (if_present context.user))) (λ e. rw e (cause_on_lem _ modify_reply_type s.control seq s refl))
 
   delete_fits : (d : D.Delete) → FitsOn (delete_on d seq s)
   unfolding delete_on freed_on not_live number_ok
@@ -149,19 +151,19 @@ module _ (node : Node) (t : List Session) (reply : List ℕ) where
     unfolding change_refused
     refuse_fits w e = on_fits h (S.Refused type w) (refused-fits h.sequence (record_for h) type w (known_ok w.cause e))
 
-    modified_fits : (d : Decoded) → among (number_for d) modify_numbers ≡ true → ((q : Request) → d ≡ R.Sound q → is_modify q ≡ true) → FitsAsked (request_asked h d (change_refused h type))
+    modified_fits : (d : Decoded) → among (number_for d) modify_numbers ≡ true → ((q : Request) → d ≡ Ok q → is_modify q ≡ true) → FitsAsked (request_asked h d (change_refused h type))
     unfolding request_asked number_for sound_asked is_modify
-    modified_fits (R.Refused w) e k = refuse_fits w e
-    modified_fits (R.Sound (Q.Create c)) e k = impossible (k (Q.Create c) refl)
-    modified_fits (R.Sound (Q.Modify m)) e k = on_fits h (S.Modify m) (moves_fits h.sequence (record_for h) m)
-    modified_fits (R.Sound (Q.Delete d)) e k = impossible (k (Q.Delete d) refl)
+    modified_fits (Err w) e k = refuse_fits w e
+    modified_fits (Ok (Q.Create c)) e k = impossible (k (Q.Create c) refl)
+    modified_fits (Ok (Q.Modify m)) e k = on_fits h (S.Modify m) (moves_fits h.sequence (record_for h) m)
+    modified_fits (Ok (Q.Delete d)) e k = impossible (k (Q.Delete d) refl)
 
-    deleted_fits : (d : Decoded) → among (number_for d) modify_numbers ≡ true → ((q : Request) → d ≡ R.Sound q → is_delete q ≡ true) → FitsAsked (request_asked h d (change_refused h type))
+    deleted_fits : (d : Decoded) → among (number_for d) modify_numbers ≡ true → ((q : Request) → d ≡ Ok q → is_delete q ≡ true) → FitsAsked (request_asked h d (change_refused h type))
     unfolding request_asked number_for sound_asked is_delete
-    deleted_fits (R.Refused w) e k = refuse_fits w e
-    deleted_fits (R.Sound (Q.Create c)) e k = impossible (k (Q.Create c) refl)
-    deleted_fits (R.Sound (Q.Modify m)) e k = impossible (k (Q.Modify m) refl)
-    deleted_fits (R.Sound (Q.Delete d)) e k = on_fits h (S.Delete d) (ends_fits h.sequence (record_for h) d)
+    deleted_fits (Err w) e k = refuse_fits w e
+    deleted_fits (Ok (Q.Create c)) e k = impossible (k (Q.Create c) refl)
+    deleted_fits (Ok (Q.Modify m)) e k = impossible (k (Q.Modify m) refl)
+    deleted_fits (Ok (Q.Delete d)) e k = on_fits h (S.Delete d) (ends_fits h.sequence (record_for h) d)
 
   modified : (d : List ℕ) → FitsAsked (kind_asked K.Modify (header_of d) (drop (header_of d).fields d) node)
   unfolding kind_asked
@@ -185,13 +187,13 @@ module _ (node : Node) (t : List Session) (reply : List ℕ) where
 
 -- ---- who asks the store concerns a session, and brings no Recovery
 module _ (node : Node) where
-  request_still : (h : HeaderCursor) (type : ℕ) (d : Decoded) → ((q : Request) → d ≡ R.Sound q → is_create q ≡ false)
+  request_still : (h : HeaderCursor) (type : ℕ) (d : Decoded) → ((q : Request) → d ≡ Ok q → is_create q ≡ false)
       → restarts_in (request_asked h d (change_refused h type)) node ≡ false
   unfolding request_asked change_refused sound_asked session_asked restarts_in is_create
-  request_still h type (R.Refused w) k = refl
-  request_still h type (R.Sound (Q.Create c)) k = impossible (sym (k (Q.Create c) refl))
-  request_still h type (R.Sound (Q.Modify m)) k = refl
-  request_still h type (R.Sound (Q.Delete d)) k = refl
+  request_still h type (Err w) k = refl
+  request_still h type (Ok (Q.Create c)) k = impossible (sym (k (Q.Create c) refl))
+  request_still h type (Ok (Q.Modify m)) k = refl
+  request_still h type (Ok (Q.Delete d)) k = refl
 
   no_create : (q : Request) → is_modify q ≡ true → is_create q ≡ false
   unfolding is_modify is_create

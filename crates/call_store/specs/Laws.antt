@@ -1,7 +1,7 @@
 -- What the calls with the store come to, in the words of the calls without it: where the store keeps its rules they are document 01's calls; a
 -- rule that is broken, of the table or of the store, is 2; a request that the store knows is answered from it.
 -- Assumes nothing.
-use Rattle.std.specs.Prelude.{ℕ, ◌<◌, ◌≤◌, Bool, false, ◌||◌, not, List, [], ◌≡◌, length, ltb, leb}
+use Rattle.std.specs.Prelude.{ℕ, ◌<◌, ◌≤◌, Bool, false, ◌||◌, not, List, [], ◌≡◌, length, ltb, leb, Result, Ok, Err}
 use Rattle.std.proofs.Math.Bool.{true}
 use Rattle.std.proofs.Math.Path.{refl}
 use Rattle.std.proofs.Common.{sym, ◌∙◌, arith, length-take}
@@ -27,8 +27,6 @@ use Rattle.wire_header.specs.declared.Kind.TheVariants as K
 use Rattle.wire_header.specs.Types.{kind_by}
 use Rattle.wire_header.specs.Header.{header_of, kind_of}
 use Rattle.wire_header.specs.Gate.{gate_of}
-use Rattle.wire_requests.specs.declared.Decoded.{Decoded}
-use Rattle.wire_requests.specs.declared.Decoded.TheVariants as R
 use Rattle.wire_requests.specs.declared.Request.{Request}
 use Rattle.wire_requests.specs.declared.Request.TheVariants as Q
 use Rattle.wire_requests.specs.Change.{modify_of, delete_of}
@@ -45,6 +43,8 @@ use Rattle.call_asked.specs.Answers.{is_modify, is_delete, modify_answers}
 use Rattle.call_asked.proofs.DeleteAnswers.{delete_answers}
 use Rattle.call_control.specs.Control.{control_taken}
 use Rattle.call_store.specs.Stored.{stored, keeps, broken_number, close_stored, send_stored, line_stored, user_stored, down_stored, empty_store, fresh_stored, tick_stored, asks_store, is_kept, kept_for, store_after, taken_stored, control_stored, three_asked, kept_place}
+use Rattle.wire_fields.specs.declared.Refusal.{Refusal}
+use Rattle.wire_requests.specs.Chain.{Decoded}
 
 -- ---- the rules, of the table and of the store
 module _ (node : Node) (t : List Session) (w : List (List ℕ)) where
@@ -271,19 +271,19 @@ of_session (A.Session teid seq (S.Refused type w)) = true
 of_session (A.Session teid seq (S.Bearer b)) = false
 
 module _ (h : HeaderCursor) (type : ℕ) where
-  modify_session : (d : Decoded) → ((q : Request) → d ≡ R.Sound q → is_modify q ≡ true) → of_session (request_asked h d (change_refused h type)) ≡ true
+  modify_session : (d : Decoded) → ((q : Request) → d ≡ Ok q → is_modify q ≡ true) → of_session (request_asked h d (change_refused h type)) ≡ true
   unfolding of_session request_asked sound_asked session_asked change_refused is_modify
-  modify_session (R.Refused w) k = refl
-  modify_session (R.Sound (Q.Create c)) k = impossible (k (Q.Create c) refl)
-  modify_session (R.Sound (Q.Modify m)) k = refl
-  modify_session (R.Sound (Q.Delete d)) k = refl
+  modify_session (Err w) k = refl
+  modify_session (Ok (Q.Create c)) k = impossible (k (Q.Create c) refl)
+  modify_session (Ok (Q.Modify m)) k = refl
+  modify_session (Ok (Q.Delete d)) k = refl
 
-  delete_session : (d : Decoded) → ((q : Request) → d ≡ R.Sound q → is_delete q ≡ true) → of_session (request_asked h d (change_refused h type)) ≡ true
+  delete_session : (d : Decoded) → ((q : Request) → d ≡ Ok q → is_delete q ≡ true) → of_session (request_asked h d (change_refused h type)) ≡ true
   unfolding of_session request_asked sound_asked session_asked change_refused is_delete
-  delete_session (R.Refused w) k = refl
-  delete_session (R.Sound (Q.Create c)) k = impossible (k (Q.Create c) refl)
-  delete_session (R.Sound (Q.Modify m)) k = refl
-  delete_session (R.Sound (Q.Delete d)) k = refl
+  delete_session (Err w) k = refl
+  delete_session (Ok (Q.Create c)) k = impossible (k (Q.Create c) refl)
+  delete_session (Ok (Q.Modify m)) k = refl
+  delete_session (Ok (Q.Delete d)) k = refl
 
 modify_kind : (n : ℕ) → eqb n modify_type ≡ true → kind_by n ≡ K.Modify
 unfolding kind_by

@@ -1,7 +1,7 @@
 -- A way to compute the calls with the store: what is asked of it, what is asked of the records, and what becomes of the store after them. Nothing here
 -- is to be believed: the laws show that these steps are the definitions in Stored.
 -- Assumes nothing.
-use Rattle.std.specs.Prelude.{ℕ, ◌%◌, Bool, not, ◌&&◌, ◌||◌, List, [], map, ◌≡◌, refl, length, get_or, ltb, leb}
+use Rattle.std.specs.Prelude.{ℕ, ◌%◌, Bool, not, ◌&&◌, ◌||◌, List, [], map, ◌≡◌, refl, length, get_or, ltb, leb, Option, Some, None}
 use Rattle.std.proofs.Math.Bool.{true, false}
 use Rattle.std.proofs.Common.{sym, ◌∙◌, arith}
 use Rattle.std.proofs.Math.Dec.{eqb}
@@ -22,15 +22,17 @@ use Rattle.unit_store.specs.Store.{store_ok, pushed, sound_of}
 use Rattle.call_own.specs.Outcome.{least_reply}
 use Rattle.call_asked.specs.declared.Asked.{Asked}
 use Rattle.call_asked.specs.declared.Asked.TheVariants as A
+use Rattle.call_store.specs.declared.Query.{Query}
 use Rattle.call_store.specs.declared.Ask.{Ask}
 use Rattle.call_store.specs.Stored.{keeps, asks_store, head_asked, kept_place, kept_for, is_kept}
+
+abbrev pub query_of : List ℕ → Query
+query_of d = record { head = head_asked d; teid = teid_of d }
 
 unfoldable pub ask_of : List (List ℕ) → List ℕ → Ask
 ask_of w d = record {
   sound = store_ok w;
-  asks = asks_store d;
-  head = pick {A = ℕ} (asks_store d) (head_asked d) 0;
-  teid = pick {A = ℕ} (asks_store d) (teid_of d) 0;
+  query = pick {A = Option Query} (asks_store d) (Some (query_of d)) None;
   at = pick {A = ℕ} (asks_store d) (kept_place d w) (length w);
 }
 
@@ -52,32 +54,30 @@ settled size reply w = record { size = size; reply = reply; store = w }
 abbrev pub settled_again : List ℕ → List ℕ → List (List ℕ) → Settled
 settled_again r reply w = settled (length (octets_in r)) (overlay (octets_in r) reply) w
 
-unfoldable pub kept_after : List (List ℕ) → Ask → ℕ → ℕ → List ℕ → List (List ℕ)
-kept_after w k number size reply = pushed (row_of k.head k.teid number (size % 256) reply) w
+-- the reply that was answered is kept
+unfoldable pub kept_after : List (List ℕ) → Query → ℕ → ℕ → List ℕ → List (List ℕ)
+kept_after w q number size reply = pushed (row_of q.head q.teid number (size % 256) reply) w
 
--- nothing is refused before the store is asked
-unfoldable pub is_told : ℕ → Bool → Ask → Bool
-is_told room kept k = leb least_reply room && kept && k.sound && k.asks
+-- what the store is asked for, where it answers or keeps the answer: nothing is refused before it is asked
+unfoldable pub told : ℕ → Bool → Ask → Option Query
+told room kept k = pick {A = Option Query} (leb least_reply room && kept && k.sound) k.query None
+
+abbrev pub settled_by : List (List ℕ) → Ask → Option Query → ℕ → ℕ → List ℕ → Settled
+settled_by w k None number size reply = settled size reply w
+settled_by w k (Some q) number size reply =
+    pick (is_found w k) (settled_again (get_or w k.at []) reply w) (settled size reply (kept_after w q number size reply))
 
 unfoldable pub settled_of : List (List ℕ) → Ask → Bool → Bool → ℕ → ℕ → List ℕ → Settled
 settled_of w k kept all number size reply =
     pick all (settled size reply (map_first (life_taken true) store_rows w))
-    (pick (is_told (length reply) kept k)
-    (pick (is_found w k) (settled_again (get_or w k.at []) reply w) (settled size reply (kept_after w k number size reply)))
-    (settled size reply w))
+    (settled_by w k (told (length reply) kept k) number size reply)
 
--- ---- how the table with its store stands, of how the records stand
-unfoldable pub how_with : Bool → ℕ → ℕ
-how_with sound how = pick {A = ℕ} sound how 0
-
+-- ---- fresh: what it goes by
 unfoldable pub count_with : ℕ → ℕ → ℕ
 count_with count rows = pick {A = ℕ} (eqb rows store_rows) count 0
 
 unfoldable pub cleared_rows : ℕ → ℕ
 cleared_rows count = pick {A = ℕ} (eqb count places) store_rows 0
-
-unfoldable pub aged_count : ℕ → ℕ
-aged_count how = pick {A = ℕ} (eqb how 0) 0 store_rows
 
 -- ---- laws
 -- the rules by how the store stands
@@ -128,16 +128,16 @@ module _ (w : List (List ℕ)) (k : Ask) (kept all : Bool) (number size : ℕ) (
   settled_all e = rw e
 
   module _ (e : all ≡ false) where
-    pub settled_alone : is_told (length reply) kept k ≡ false → settled_of w k kept all number size reply ≡ settled size reply w
+    pub settled_alone : told (length reply) kept k ≡ None → settled_of w k kept all number size reply ≡ settled size reply w
     unfolding settled_of
     settled_alone t = rw (e, t)
 
-    module _ (t : is_told (length reply) kept k ≡ true) where
+    module _ (q : Query) (t : told (length reply) kept k ≡ Some q) where
       pub settled_again_lem : is_found w k ≡ true → settled_of w k kept all number size reply ≡ settled_again (get_or w k.at []) reply w
       unfolding settled_of
       settled_again_lem f = rw (e, t, f)
 
-      pub settled_kept : is_found w k ≡ false → settled_of w k kept all number size reply ≡ settled size reply (kept_after w k number size reply)
+      pub settled_kept : is_found w k ≡ false → settled_of w k kept all number size reply ≡ settled size reply (kept_after w q number size reply)
       unfolding settled_of
       settled_kept f = rw (e, t, f)
 
@@ -161,20 +161,20 @@ module _ (w : List (List ℕ)) (d : List ℕ) where
 
   -- the store is asked: the rules are kept, and the reply buffer is not short
   module _ (room : ℕ) (kept : Bool) where
-    pub told_yes : leb least_reply room ≡ true → kept ≡ true → store_ok w ≡ true → is_told room kept (ask_of w d) ≡ asks_store d
-    unfolding is_told ask_of
+    pub told_yes : leb least_reply room ≡ true → kept ≡ true → store_ok w ≡ true → told room kept (ask_of w d) ≡ pick {A = Option Query} (asks_store d) (Some (query_of d)) None
+    unfolding told ask_of
     told_yes b k s = rw (b, k, s)
 
-    pub told-short : leb least_reply room ≡ false → is_told room kept (ask_of w d) ≡ false
-    unfolding is_told
+    pub told-short : leb least_reply room ≡ false → told room kept (ask_of w d) ≡ None
+    unfolding told
     told-short b = rw b
 
-    pub told_broken : kept ≡ false → is_told room kept (ask_of w d) ≡ false
-    unfolding is_told
+    pub told_broken : kept ≡ false → told room kept (ask_of w d) ≡ None
+    unfolding told
     told_broken k = split (leb least_reply room) (λ b. rw (b, k)) (λ b. rw b)
 
-    pub told_unsound : store_ok w ≡ false → is_told room kept (ask_of w d) ≡ false
-    unfolding is_told ask_of
+    pub told_unsound : store_ok w ≡ false → told room kept (ask_of w d) ≡ None
+    unfolding told ask_of
     told_unsound s = split (leb least_reply room) (λ b. split kept (λ k. rw (b, k, s)) (λ k. rw (b, k))) (λ b. rw b)
 
   asked_sound : store_ok w ≡ true → (ask_of w d).sound ≡ true

@@ -3,8 +3,10 @@
 #![tactic(auto)]
 
 ghost use Rattle.std.specs.Prelude.{◌≡◌};
+ghost use Rattle.base_octets.specs.Choice.{pick};
+ghost use Rattle.wire_header.specs.Header.{header_of};
 ghost use Rattle.call_store.specs.Stored.{asks_store};
-ghost use Rattle.call_store.specs.Steps.{ask_of, wish_of, kept_after, is_told, settled, settled_of, how_with, count_with, cleared_rows, aged_count};
+ghost use Rattle.call_store.specs.Steps.{ask_of, wish_of, told, settled, settled_of, count_with, cleared_rows};
 
 use base_octets::Number;
 use call_asked::Asked;
@@ -14,53 +16,57 @@ use unit_tunnel::Unit;
 use wire_header::HeaderCursor;
 use wire_messages::MessageType;
 
-// What a datagram asks of the store: whether the store keeps its rules, whether the datagram is one that asks it, the three that it asks for,
-// and the place of the kept reply, past the last where there is none.
+// What a request is known by in the store: its type and sequence number, and its header TEID.
+#[derive(Clone, Copy)]
+pub struct Query {
+    pub head: u32,
+    pub teid: u32,
+}
+
+// What a datagram asks of the store: whether the store keeps its rules, what the datagram is known by where it is one that asks it, and the
+// place of the kept reply, past the last where there is none.
+// Kept: `at` is a place that is held against the count of rows, which `number_in` and `lay` require below it: an Option would be tested
+// and then held against the count all the same.
 #[derive(Clone, Copy)]
 pub struct Ask {
     pub sound: bool,
-    pub asks: bool,
-    pub head: u32,
-    pub teid: u32,
+    pub query: Option<Query>,
     pub at: usize,
 }
 
-// Whether a datagram asks the store: its type is looked at first, since most are of another.
-fn asks_store(d: &[u8]) -> bool
-    ensures { result ≡ asks_store d.now }
+// The header of a datagram that asks the store: its type is looked at first, since most are of another.
+#[tactic(auto, using(base_octets::specs::Refused::refused_some), unfolding(crate::specs::Stored::asks_store, wire_header::specs::Header::kind_of))]
+fn asking(d: &[u8]) -> Option<HeaderCursor>
+    ensures { result ≡ pick (asks_store d.now) (Some (header_of d.now)) None }
 {
     let kind = wire_fields::octet_at(d, 1);
     if (kind != MessageType::MODIFY) & (kind != MessageType::DELETE) {
-        return false;
+        return None;
     }
-    let number = wire_header::gate(d);
-    number == Number::TAKEN
+    wire_header::gate(d).ok()
 }
 
+#[tactic(auto, using(base_octets::specs::Search::first_or_none), unfolding(crate::specs::Steps::ask_of, crate::specs::Stored::head_asked, crate::specs::Stored::three_asked, crate::specs::Stored::kept_place, wire_header::specs::Header::header_of))]
 pub fn ask_of(store: &[[u8; Kept::OCTETS]], d: &[u8]) -> Ask
     ensures { result ≡ ask_of store.now d.now }
 {
     let sound = unit_store::store_ok(store);
-    let asks = asks_store(d);
-    if !asks {
-        return Ask {
+    match asking(d) {
+        Some(h) => {
+            let head = unit_store::head_of(h.kind, h.sequence);
+            let three = unit_store::three_of(head, h.teid);
+            let query = Query { head, teid: h.teid };
+            Ask {
+                sound,
+                query: Some(query),
+                at: unit_store::find(store, three).unwrap_or(store.len()),
+            }
+        }
+        None => Ask {
             sound,
-            asks,
-            head: 0,
-            teid: 0,
+            query: None,
             at: store.len(),
-        };
-    }
-    let h = HeaderCursor::of(d);
-    let head = unit_store::head_of(h.kind, h.sequence);
-    let three = unit_store::three_of(head, h.teid);
-    let at = unit_store::find(store, three);
-    Ask {
-        sound,
-        asks,
-        head,
-        teid: h.teid,
-        at,
+        },
     }
 }
 
@@ -78,23 +84,19 @@ pub fn wish_of(store: &[[u8; Kept::OCTETS]], ask: Ask, asked: Asked) -> Asked
     asked
 }
 
-// The reply that was answered is kept.
-fn kept_after(store: &mut [[u8; Kept::OCTETS]], ask: Ask, number: u8, size: usize, reply: &[u8])
-    ensures { store.new ≡ kept_after store.old ask number size reply.now }
+// What the store is asked for, where it answers or keeps the answer: nothing is refused before it is asked.
+fn told(room: usize, kept: bool, ask: Ask) -> Option<Query>
+    ensures { result ≡ told room kept ask }
 {
-    let row = unit_store::row_of(ask.head, ask.teid, number, (size % 256) as u8, reply);
-    unit_store::keep(store, row);
-}
-
-// Whether the store answers, or keeps the answer: nothing is refused before it is asked.
-fn is_told(room: usize, kept: bool, ask: Ask) -> bool
-    ensures { result ≡ is_told room kept ask }
-{
-    (Answer::LEAST_REPLY <= room) & kept & ask.sound & ask.asks
+    if (Answer::LEAST_REPLY <= room) & kept & ask.sound {
+        return ask.query;
+    }
+    None
 }
 
 // What becomes of the store, and of the reply that the records gave, with its number and its length: the length of the reply is answered. `kept` says
 // whether the records keep the rules, `all` whether all of them were freed.
+// Kept: `kept` and `all` come from what was found, `number` and `size` from what was answered: a struct would be built at the one call.
 pub fn settled(
     store: &mut [[u8; Kept::OCTETS]],
     ask: Ask,
@@ -110,25 +112,15 @@ pub fn settled(
         unit_store::take_life(store, true, Kept::ROWS);
         return size;
     }
-    let told = is_told(reply.len(), kept, ask);
-    if !told {
+    let Some(query) = told(reply.len(), kept, ask) else {
         return size;
-    }
+    };
     if store.len() <= ask.at {
-        kept_after(store, ask, number, size, reply);
+        let row = unit_store::row_of(query.head, query.teid, number, (size % 256) as u8, reply);
+        unit_store::keep(store, row);
         return size;
     }
     unit_store::lay(store, ask.at, reply)
-}
-
-// How the table with its store stands, of how the records stand: 0 where a rule is broken.
-pub fn how_with(sound: bool, how: u8) -> u8
-    ensures { result ≡ how_with sound how }
-{
-    if sound {
-        return how;
-    }
-    0
 }
 
 // The count of records that fresh goes by: none where there is another count of rows.
@@ -149,14 +141,4 @@ pub fn cleared_rows(count: usize) -> usize
         return Kept::ROWS;
     }
     0
-}
-
-// How many rows a tick takes life from.
-pub fn aged_count(how: u8) -> usize
-    ensures { result ≡ aged_count how }
-{
-    if how == 0 {
-        return 0;
-    }
-    Kept::ROWS
 }

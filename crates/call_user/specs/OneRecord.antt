@@ -20,6 +20,8 @@ use Rattle.wire_user.specs.declared.Header.{Header}
 use Rattle.wire_user.specs.declared.Header.TheVariants as H
 use Rattle.wire_user.specs.Header.{user_echo_type, type_of, user_teid_of, user_sequence_of, user_header_of, header_echo, header_packet}
 use Rattle.wire_user.specs.User.{user_of, user_within}
+use Rattle.call_user.specs.declared.Comes.{Comes}
+use Rattle.call_user.specs.declared.Comes.TheVariants as C
 use Rattle.call_user.specs.User.{Took, took, silent, packet_taken, header_taken, user_taken}
 
 -- the place that the tunnel number names, whatever the datagram is
@@ -36,6 +38,11 @@ pub record Answered : Type 0 where
 
 abbrev pub answered_on : ℕ → ℕ → ℕ → List ℕ → Bool → Answered
 answered_on number place size reply up = record { number = number; place = place; size = size; reply = reply; up = up }
+
+-- what a datagram that is read comes to, with the reply buffer as it is left
+abbrev pub comes_on : Comes → List ℕ → Answered
+comes_on (C.Up place) reply = answered_on taken place 0 reply true
+comes_on (C.Answered number size) reply = answered_on number 0 size reply false
 
 abbrev pub answers : ℕ → List ℕ → List ℕ → Answered
 answers number m reply = answered_on number 0 (length m) (overlay m reply) false

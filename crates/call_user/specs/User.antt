@@ -1,7 +1,7 @@
 -- Take user datagram: one definition that fixes number, place, reply and where the payload begins, for any datagram and any table. The
 -- table is never changed by it.
 -- Assumes nothing.
-use Rattle.std.specs.Prelude.{ℕ, ◌<◌, ◌≤◌, true, false, List, ◌≡◌, length, eqb, ltb}
+use Rattle.std.specs.Prelude.{ℕ, ◌<◌, ◌≤◌, true, false, List, ◌≡◌, length, eqb, ltb, Option, Some, None}
 use borrow.Author.Tests.{lt-ltb, le-ltb, eq-eqb, ne_eqb}
 use Rattle.base_octets.specs.Number.{taken, reply_short, rules_broken, user_not_live}
 use Rattle.base_octets.specs.Choice.{pick}
@@ -9,8 +9,6 @@ use Rattle.base_octets.specs.Overlay.{overlay}
 use Rattle.unit_tunnel.specs.Numbering.{user_offset}
 use Rattle.unit_session.specs.declared.Session.{Session}
 use Rattle.unit_table.specs.declared.Node.{Node}
-use Rattle.unit_table.specs.declared.Owner.{Owner}
-use Rattle.unit_table.specs.declared.Owner.TheVariants as F
 use Rattle.unit_table.specs.Rules.{keeps_rules}
 use Rattle.unit_table.specs.Find.{owner_of}
 use Rattle.wire_messages.specs.Messages.{user_echo, error_indication}
@@ -41,9 +39,9 @@ abbrev pub user_replied : ℕ → List ℕ → ℕ → List ℕ → Took
 user_replied number m end reply = took number 0 (length m) (overlay m reply) end
 
 -- a G-PDU: handed up under a live user number, else answered with an Error Indication
-unfoldable pub packet_taken : Owner → ℕ → ℕ → ℕ → ℕ → List ℕ → Took
-packet_taken (F.At place) teid addr start end reply = took taken place 0 reply start
-packet_taken F.Nothing teid addr start end reply = user_replied user_not_live (error_indication teid addr) end reply
+unfoldable pub packet_taken : Option ℕ → ℕ → ℕ → ℕ → ℕ → List ℕ → Took
+packet_taken (Some place) teid addr start end reply = took taken place 0 reply start
+packet_taken None teid addr start end reply = user_replied user_not_live (error_indication teid addr) end reply
 
 -- by what the header says: an echo is answered
 unfoldable pub header_taken : Node → List Session → Header → ℕ → ℕ → List ℕ → Took

@@ -19,8 +19,10 @@ use Rattle.unit_table.specs.Rules.{bounds_of, keeps_rules, rules_of}
 use Rattle.step_keys.specs.Survey.{wait_of, waits_of, weight_of, awaits_none}
 use Rattle.step_check.specs.declared.Findings.{Findings}
 use Rattle.step_check.specs.declared.Checked.{Checked}
+use Rattle.step_check.specs.declared.Standing.{Standing}
+use Rattle.step_check.specs.declared.Standing.TheVariants.{Broken, Quiet, Awaiting}
 use Rattle.step_check.specs.Digest.{digest_of}
-use Rattle.step_check.specs.Summary.{summary_of, waiting_of, kept_but, waits_apart, standing_of, checked_as, stands_of, quiet_way, awaiting_way, standing_is, idle_seen, packed_seen}
+use Rattle.step_check.specs.Summary.{summary_of, waiting_of, kept_but, waits_apart, standing_of, checked_as, awaits, stands_of, quiet_way, awaiting_way, standing_is, idle_seen, packed_seen}
 use Rattle.step_check.specs.Findings.{findings_of, key_place, free_in, due_in}
 use Rattle.lent_check.specs.Read.{read_of, read_all}
 
@@ -54,11 +56,11 @@ module _ (node : Node) (key : ℕ) (l : List Session) (b : Bounds) (findings : F
   standing_lent = rw glanced (standing_is node l ds waits digested waited)
 
   -- on the two ways
-  pub checked_apart : wanted ≡ true → checked_as (pick {A = ℕ} (kept_but (length l) node findings.summary && waits_apart node waits) 2 0) findings ≡ checked_of node key l
+  pub checked_apart : wanted ≡ true → checked_as (pick {A = Standing} (kept_but (length l) node findings.summary && waits_apart node waits) Awaiting Broken) findings ≡ checked_of node key l
   unfolding checked_as checked_of
   checked_apart t = let s = awaiting_way (length l) node findings.summary waits (sym e-w ∙ t) ∙ standing_lent in rw (s, e-d, e-b)
 
-  pub checked_calm : wanted ≡ false → checked_as (pick {A = ℕ} (kept_but (length l) node findings.summary) 1 0) findings ≡ checked_of node key l
+  pub checked_calm : wanted ≡ false → checked_as (pick {A = Standing} (kept_but (length l) node findings.summary) Quiet Broken) findings ≡ checked_of node key l
   unfolding checked_as checked_of
   checked_calm f = let s = quiet_way (length l) node findings.summary waits (sym e-w ∙ f) ∙ standing_lent in rw (s, e-d, e-b)
 
@@ -112,6 +114,6 @@ module _ (node : Node) (key : ℕ) (l : List Session) (kept : keeps_rules node l
   whole = read_all (λ z. wait_of z.own) l (rules_of node l kept).size
 
   -- what they await, read where one awaits a number
-  pub checked_waits : (awaiting : Bool) → awaiting ≡ eqb (checked_of node key l).how 2 → read_of (λ z. wait_of z.own) awaiting l ≡ waits_of l
-  unfolding checked_of stands_of
+  pub checked_waits : (awaiting : Bool) → awaiting ≡ awaits (checked_of node key l).how → read_of (λ z. wait_of z.own) awaiting l ≡ waits_of l
+  unfolding checked_of stands_of awaits
   checked_waits awaiting e = split (every awaits_none l) (λ q. rw (e, kept, q) (unread q)) (λ q. rw (e, kept, q) whole)

@@ -1,6 +1,6 @@
 -- The control call on lent records, step by step, is its definition on the lent list.
 -- Assumes nothing.
-use Rattle.std.specs.Prelude.{ℕ, ◌%◌, Bool, true, ◌&&◌, ◌≡◌, refl, length, get_or, set, ltb}
+use Rattle.std.specs.Prelude.{ℕ, ◌%◌, Bool, true, ◌&&◌, ◌≡◌, refl, length, ltb, Option, Some, None}
 use Rattle.std.proofs.Math.Bool.{false}
 use mathlib.Core.List.{List, map}
 use native.Mathlib.Omega.{arith}
@@ -9,19 +9,13 @@ use Rattle.std.proofs.Common.{◌∙◌, ltb-true, ltb-false, le-leb}
 use Rattle.std.proofs.Math.Dec.{leb}
 use Rattle.std.proofs.lemmas.Bool.{lt-leb}
 use Rattle.base_octets.specs.Number.{reply_short, rules_broken}
-use Rattle.base_octets.specs.Choice.{split}
-use Rattle.base_octets.specs.Places.{map_first}
+use Rattle.base_octets.specs.Choice.{pick, split}
 use Rattle.unit_session.specs.declared.Session.{Session}
 use Rattle.unit_table.specs.declared.Node.{Node}
 use Rattle.unit_table.specs.Rules.{keeps_rules}
-use Rattle.unit_table.specs.declared.Change.{Change}
-use Rattle.unit_table.specs.declared.Change.TheVariants as Ch
-use Rattle.unit_table.specs.Change.{nobody}
-use Rattle.unit_table.specs.Become.{changed_by}
 use Rattle.call_own.specs.Outcome.{Outcome, outcome, bare, no_reply, least_reply}
 use Rattle.call_control.specs.Control.{restarts_in, asked_taken, control_asked}
 use Rattle.call_own.specs.declared.Answer.{Answer}
-use Rattle.step_check.specs.declared.Checked.{Checked}
 use Rattle.step_check.specs.Summary.{stands_by, stands_kept}
 use Rattle.lent_check.specs.Kept.{checked_of, checked_how, checked_packed, checked_old, checked_free}
 use Rattle.call_asked.specs.declared.Asked.{Asked}
@@ -30,15 +24,15 @@ use Rattle.call_asked.specs.Asked.{asked_of}
 use Rattle.call_asked.specs.Sound.{AskedSound, asked_sound}
 use Rattle.unit_store.specs.Row.{number_in, octets_in, life_taken}
 use Rattle.unit_store.specs.Store.{store_ok, emptied}
+use Rattle.call_store.specs.declared.Query.{Query}
 use Rattle.call_store.specs.declared.Ask.{Ask}
 use Rattle.call_store.specs.Stored.{stored, asks_store, kept_for, is_kept, store_after, taken_stored, control_stored}
 use Rattle.call_store.specs.Answers.{asked_fits, asked_still}
-use Rattle.call_store.specs.Steps.{keeps_by, keeps-not, ask_of, is_found, wish_of, kept_after, rows_all, is_told, Settled, settled, settled_again, settled_of, settled_all, settled_alone, settled_again_lem, settled_kept, found_kept, asks_kept, found_not, place_kept, told_yes, told-short, told_broken, told_unsound, wish_broken, wish_kept, wish_anew}
+use Rattle.call_store.specs.Steps.{keeps_by, keeps-not, query_of, ask_of, is_found, wish_of, kept_after, rows_all, told, Settled, settled, settled_again, settled_of, settled_all, settled_alone, settled_again_lem, settled_kept, found_kept, asks_kept, found_not, place_kept, told_yes, told-short, told_broken, told_unsound, wish_broken, wish_kept, wish_anew}
 use Rattle.step_control.specs.declared.Basis.{Basis}
 use Rattle.step_control.specs.declared.Concerned.{Concerned}
 use Rattle.step_control.specs.declared.Taken.{Taken}
-use Rattle.step_control.specs.declared.Verdict.{Verdict}
-use Rattle.step_control.specs.Step.{restarts_now, target_of, basis_of, verdict_in, opens_at, concerned_of, concerned_in, taken_with, taken_on, node_after, freed_count, concerned_put, changed_places, placed_concerned}
+use Rattle.step_control.specs.Step.{restarts_now, key_of, basis_of, concerned_of, concerned_in, taken_with, taken_on, node_after, concerned_put, changed_places, placed_concerned}
 use Rattle.step_whole.specs.Basis.{CheckTold, Sees}
 use Rattle.step_whole.proofs.Basis.{basis_sees}
 use Rattle.step_whole.specs.Whole.{InPlace}
@@ -63,47 +57,15 @@ replying size a = record { number = a.number; size = size; node = a.node; span =
 
 -- the two records that are concerned
 unfoldable pub basis_lent : Node → List Session → Asked → ℕ → Basis
-basis_lent node l a room = basis_of (checked_of node (target_of a).key l) node a room
+basis_lent node l a room = basis_of (checked_of node (key_of a) l) node a room
 
 unfoldable pub concerned_lent : Node → List Session → Asked → ℕ → Concerned
 concerned_lent node l a room = concerned_in (basis_lent node l a room) node l a
-
--- all freed where the exchange restarted, and the two put back
-unfoldable pub free_lent : List Session → Concerned → List Session
-free_lent l p = map_first (changed_by Ch.Free) (freed_count p) l
-
-unfoldable pub two_put : List Session → Concerned → Taken → List Session
-two_put l p o = set (set l p.old o.old) p.new o.new
 
 unfoldable placed_lent : Node → List Session → Asked → Concerned → List ℕ → Outcome
 placed_lent node l a p reply = placed_concerned node p l (taken_on node a p reply)
 
 -- ---- in the words of the code
-pub basis_lent_lem : (node : Node) (l : List Session) (a : Asked) (room key : ℕ) (v : Checked) (r : Basis)
-    → key ≡ (target_of a).key → v ≡ checked_of node key l → r ≡ basis_of v node a room → r ≡ basis_lent node l a room
-unfolding basis_lent
-basis_lent_lem node l a room key v r e-k e-v e-r = rw (e-r, e-v, e-k)
-
-pub concerned_lent_lem : (node : Node) (l : List Session) (a : Asked) (room : ℕ) (g : Basis) (old new : ℕ) (y : Verdict) (s t : Session) (r : Concerned)
-    → g ≡ basis_lent node l a room → old ≡ g.old → s ≡ get_or l old nobody → y ≡ verdict_in g node a s → new ≡ opens_at y → t ≡ get_or l new nobody
-    → r ≡ concerned_of g s y t → r ≡ concerned_lent node l a room
-unfolding concerned_lent concerned_in
-concerned_lent_lem node l a room g old new y s t r e-g e-old e-s e-y e-new e-t e-r = rw (e-r, e-t, e-new, e-y, e-s, e-old, e-g)
-
-pub freed_lent : (l xs : List Session) (p : Concerned) (n : ℕ) (c : Change) → n ≡ freed_count p → c ≡ Ch.Free → xs ≡ map_first (changed_by c) n l → xs ≡ free_lent l p
-unfolding free_lent
-freed_lent l xs p n c e-n e-c e-xs = rw (e-xs, e-c, e-n)
-
-pub two_put_lem : (l ys zs : List Session) (p : Concerned) (o : Taken) (i j : ℕ) (s t : Session)
-    → i ≡ p.old → s ≡ o.old → ys ≡ set l i s → j ≡ p.new → t ≡ o.new → zs ≡ set ys j t
-    → zs ≡ two_put l p o
-unfolding two_put
-two_put_lem l ys zs p o i j s t e-i e-s e-ys e-j e-t e-zs = rw (e-zs, e-t, e-j, e-ys, e-s, e-i)
-
-pub concerned_put_lem : (l xs zs : List Session) (p : Concerned) (o : Taken) → xs ≡ free_lent l p → zs ≡ two_put xs p o → zs ≡ concerned_put l p o
-unfolding free_lent two_put concerned_put
-concerned_put_lem l xs zs p o e-xs e-zs = rw (e-zs, e-xs)
-
 placed_lent_lem : (node : Node) (l zs : List Session) (a : Asked) (p : Concerned) (reply after : List ℕ) (o : Taken) (r : Answer)
     → taken_with o after ≡ taken_on node a p reply → zs ≡ concerned_put l p o → r ≡ taken_answer node p o o.size
     → outcome r zs after ≡ placed_lent node l a p reply
@@ -114,7 +76,7 @@ placed_lent_lem node l zs a p reply after o r e-o e-zs e-r = rw (e-r, e-zs, ← 
 module _ (node : Node) (l : List Session) (reply : List ℕ) (a : Asked) (sound : AskedSound node.plan a) where
   sees : Sees node l a (length reply) (basis_lent node l a (length reply))
   unfolding basis_lent
-  sees = basis_sees node l (checked_of node (target_of a).key l) a (length reply) sound (checked_told node (target_of a).key l)
+  sees = basis_sees node l (checked_of node (key_of a) l) a (length reply) sound (checked_told node (key_of a) l)
 
   placed_whole : placed_lent node l a (concerned_lent node l a (length reply)) reply ≡ control_asked node l a reply
   unfolding placed_lent concerned_lent InPlace
@@ -201,8 +163,8 @@ module _ (node : Node) (l zs : List Session) (w ws : List (List ℕ)) (d reply m
             rw (b, keeps_by node l w s, k) (left_with (no_reply rules_broken node l reply) w o (settled_alone w (ask_of w d) kept all left.number left.size mid a (told_broken w d (length mid) kept (e-k ∙ k))))
 
         module _ (k : keeps_rules node l ≡ true) where
-          told : is_told (length mid) kept (ask_of w d) ≡ asks_store d
-          told = told_yes w d (length mid) kept roomy (e-k ∙ k) s
+          asked_for : told (length mid) kept (ask_of w d) ≡ pick {A = Option Query} (asks_store d) (Some (query_of d)) None
+          asked_for = told_yes w d (length mid) kept roomy (e-k ∙ k) s
 
           came-again : is_kept d w ≡ true → Comes
           unfolding control_stored taken_stored no_reply
@@ -211,7 +173,7 @@ module _ (node : Node) (l zs : List Session) (w ws : List (List ℕ)) (d reply m
               let v : wish ≡ A.Silent n = wish_kept w d (asked_of node d) s e in
               let o : outcome left zs mid ≡ no_reply n node l reply = rw (b, k, v) at e-o ∙ silent_asked node l reply n in
               let a : all ≡ false = not_all (rw v (now_silent node (length reply) n)) in
-              let g = e-s ∙ settled_again_lem w (ask_of w d) kept all left.number left.size mid a (told ∙ asks_kept w d e) (found_kept w d e) in
+              let g = e-s ∙ settled_again_lem w (ask_of w d) kept all left.number left.size mid a (query_of d) (asked_for ∙ rw (asks_kept w d e)) (found_kept w d e) in
               let i : left ≡ bare n node = ap (λ (y : Outcome). y.answer) o in
               let j : zs ≡ l = ap (λ (y : Outcome). y.table) o in
               let m : mid ≡ reply = ap (λ (y : Outcome). y.reply) o in
@@ -243,10 +205,10 @@ module _ (node : Node) (l zs : List Session) (w ws : List (List ℕ)) (d reply m
                 let i : left ≡ (asked_taken node l (asked_of node d) reply).answer = ap (λ (y : Outcome). y.answer) o in
                 let m : mid ≡ (asked_taken node l (asked_of node d) reply).reply = ap (λ (y : Outcome). y.reply) o in
                 let q : (asked_taken node l (asked_of node d) reply).answer.size % 256 ≡ (asked_taken node l (asked_of node d) reply).answer.size = omega arith in
-                let v : kept_after w (ask_of w d) left.number left.size mid ≡ store_after node d (asked_taken node l (asked_of node d) reply) w = rw (a, i, m, q) in
+                let v : kept_after w (query_of d) left.number left.size mid ≡ store_after node d (asked_taken node l (asked_of node d) reply) w = rw (a, i, m, q) in
                 rw (b, keeps_by node l w s, k, e)
                 (left_with (asked_taken node l (asked_of node d) reply) (store_after node d (asked_taken node l (asked_of node d) reply) w) o
-                (settled_kept w (ask_of w d) kept all left.number left.size mid f (told ∙ a) (found_not w d e) ∙ ap (λ (y : List (List ℕ)). settled left.size mid y) v))
+                (settled_kept w (ask_of w d) kept all left.number left.size mid f (query_of d) (asked_for ∙ rw a) (found_not w d e) ∙ ap (λ (y : List (List ℕ)). settled left.size mid y) v))
 
             -- it is none whose reply is kept
             came-other : asks_store d ≡ false → Comes
@@ -257,7 +219,7 @@ module _ (node : Node) (l zs : List Session) (w ws : List (List ℕ)) (d reply m
                 (λ f. rw f (left_with (asked_taken node l (asked_of node d) reply) (map (life_taken true) w) comes
                 (settled_all w (ask_of w d) kept all left.number left.size mid (freed ∙ f) ∙ ap (λ (y : List (List ℕ)). settled left.size mid y) (rows_all (life_taken true) w s))))
                 (λ f. rw f (left_with (asked_taken node l (asked_of node d) reply) w comes
-                (settled_alone w (ask_of w d) kept all left.number left.size mid (freed ∙ f) (told ∙ a)))))
+                (settled_alone w (ask_of w d) kept all left.number left.size mid (freed ∙ f) (asked_for ∙ rw a)))))
 
             came-anew : Comes
             came-anew = split (asks_store d) came-kept came-other

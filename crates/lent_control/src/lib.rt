@@ -5,9 +5,8 @@
 ghost use Rattle.std.specs.Prelude.{◌≡◌};
 ghost use Rattle.call_own.specs.Outcome.{outcome};
 ghost use Rattle.call_store.specs.Stored.{stored, control_stored};
-ghost use Rattle.call_store.specs.Steps.{settled, settled_of};
 ghost use Rattle.step_control.specs.Step.{concerned_put};
-ghost use Rattle.lent_control.specs.Lent.{taken_answer, basis_lent, concerned_lent, free_lent, two_put};
+ghost use Rattle.lent_control.specs.Lent.{taken_answer, basis_lent, concerned_lent};
 
 use call_asked::Asked;
 use call_own::Answer;
@@ -15,83 +14,49 @@ use call_store::Ask;
 use step_control::{Basis, Concerned, Taken};
 use unit_session::Session;
 use unit_store::Kept;
-use unit_table::Node;
+use unit_table::{Change, Node};
 
+#[tactic(auto, unfolding(crate::specs::Lent::taken_answer))]
 fn taken_answer(node: Node, p: Concerned, o: Taken, size: usize) -> Answer
     ensures { result ≡ taken_answer node p o size }
 {
-    let span = step_control::changed_places(p, o);
-    let after = step_control::node_after(node, o);
     Answer {
         number: o.number,
         size,
-        node: after,
-        span,
+        node: step_control::node_after(node, o),
+        span: step_control::changed_places(p, o),
     }
 }
 
 // The records are checked, and what was found makes the basis.
+#[tactic(auto, unfolding(crate::specs::Lent::basis_lent))]
 fn basis_lent(node: Node, recs: &[Session], asked: Asked, room: usize) -> Basis
     ensures { result ≡ basis_lent node recs.now asked room }
 {
-    let key = step_control::key_of(asked);
-    let checked = lent_check::checked(node, recs, key);
+    let checked = lent_check::checked(node, recs, step_control::key_of(asked));
     step_control::basis_of(checked, node, asked, room)
 }
 
 // The two records that are concerned, found and read.
+#[tactic(auto, unfolding(crate::specs::Lent::concerned_lent, step_control::specs::Step::concerned_in))]
 fn concerned_lent(node: Node, recs: &[Session], asked: Asked, room: usize) -> Concerned
     ensures { result ≡ concerned_lent node recs.now asked room }
 {
     let g = basis_lent(node, recs, asked, room);
-    let old = step_control::old_place(g);
-    let s = lent_records::read(recs, old);
+    let s = lent_records::read(recs, g.old);
     let v = step_control::verdict_in(g, node, asked, s);
-    let new = step_control::opens_at(v);
-    let t = lent_records::read(recs, new);
+    let t = lent_records::read(recs, step_control::opens_at(v));
     step_control::concerned_of(g, s, v, t)
 }
 
-// Where the exchange restarted all are freed.
-fn free_lent(recs: &mut [Session], p: Concerned)
-    ensures { recs.new ≡ free_lent recs.old p }
-{
-    let n = step_control::freed_count(p);
-    let c = step_control::freeing();
-    lent_records::change_each(recs, c, n);
-}
-
-// The two put back.
-fn put_two(recs: &mut [Session], p: Concerned, o: Taken)
-    ensures { recs.new ≡ two_put recs.old p o }
-{
-    let old = step_control::first_place(p);
-    let s = step_control::first_record(o);
-    lent_records::put(recs, old, s);
-    let new = step_control::second_place(p);
-    let t = step_control::second_record(o);
-    lent_records::put(recs, new, t);
-}
-
-// The two put back, after all others.
+// The two put back; where the exchange restarted all others are freed first.
+#[tactic(auto, unfolding(step_control::specs::Step::concerned_put))]
 fn put_concerned(recs: &mut [Session], p: Concerned, o: Taken)
     ensures { recs.new ≡ concerned_put recs.old p o }
 {
-    free_lent(recs, p);
-    put_two(recs, p, o);
-}
-
-// What becomes of the store, by what was found and answered; the length of the reply.
-fn settled_taken(
-    store: &mut [[u8; Kept::OCTETS]],
-    ask: Ask,
-    p: Concerned,
-    o: Taken,
-    reply: &mut [u8],
-) -> usize
-    ensures { settled result reply.new store.new ≡ settled_of store.old ask p.kept p.all o.number o.size reply.old }
-{
-    call_store::settled(store, ask, p.kept, p.all, o.number, o.size, reply)
+    lent_records::change_each(recs, Change::Free, step_control::freed_count(p));
+    lent_records::put(recs, p.old, o.old);
+    lent_records::put(recs, p.new, o.new);
 }
 
 // Take control datagram: it is read, and what it asks of the store is found; what is left to ask of the records is done, and then what becomes of
@@ -111,6 +76,6 @@ pub fn grugavorn_control(
     let p = concerned_lent(node, recs, wish, reply.len());
     let o = step_control::taken_on(node, wish, p, reply);
     put_concerned(recs, p, o);
-    let size = settled_taken(store, ask, p, o, reply);
+    let size = call_store::settled(store, ask, p.kept, p.all, o.number, o.size, reply);
     taken_answer(node, p, o, size)
 }

@@ -1,6 +1,6 @@
 -- Downlink packets with lent records: what the one record that was read says is what the whole lent list says.
 -- Assumes nothing.
-use Rattle.std.specs.Prelude.{ℕ, Bool, true, false, List, ◌≡◌, get_or}
+use Rattle.std.specs.Prelude.{ℕ, Bool, false, List, ◌≡◌, get_or}
 use Rattle.std.proofs.Common.{◌∙◌}
 use Rattle.base_octets.specs.Choice.{split}
 use Rattle.unit_session.specs.declared.Session.{Session}

@@ -1,7 +1,7 @@
 -- The steps of fresh on lent records are fresh on the lent list.
 -- Assumes nothing.
-use Rattle.std.specs.Prelude.{ℕ, List, [], map, false, ◌≡◌, refl, length, replicate, eqb}
-use Rattle.std.proofs.Common.{sym, ap, ◌∙◌, arith, eqb-true}
+use Rattle.std.specs.Prelude.{ℕ, List, [], false, ◌≡◌, refl, length, replicate, eqb}
+use Rattle.std.proofs.Common.{ap, ◌∙◌, arith, eqb-true}
 use Rattle.base_octets.specs.Choice.{pick, split}
 use Rattle.base_octets.specs.Places.{map_first, map_none, map_all, map_same}
 use Rattle.unit_tunnel.specs.Numbering.{places}

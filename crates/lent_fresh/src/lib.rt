@@ -3,7 +3,6 @@
 #![tactic(auto)]
 
 ghost use Rattle.std.specs.Prelude.{[], ◌≡◌};
-ghost use Rattle.unit_table.specs.declared.Change.TheVariants.{Blank};
 ghost use Rattle.call_own.specs.Outcome.{outcome};
 ghost use Rattle.call_store.specs.Stored.{stored, fresh_stored};
 
@@ -13,21 +12,13 @@ use unit_session::Session;
 use unit_store::Kept;
 use unit_table::Change;
 
-// What is made of each record.
-fn blanking() -> Change
-    ensures { result ≡ Blank }
-{
-    Change::Blank
-}
-
 // Fresh state from a plan.
 pub fn grugavorn_fresh(plan: Plan, recs: &mut [Session], store: &mut [[u8; Kept::OCTETS]]) -> Answer
     ensures { stored (outcome result recs.new []) store.new ≡ fresh_stored plan recs.old store.old }
 {
     let count = call_store::count_with(recs.len(), store.len());
     let n = lent_records::whole(count);
-    let c = blanking();
-    lent_records::change_each(recs, c, n);
+    lent_records::change_each(recs, Change::Blank, n);
     let rows = call_store::cleared_rows(count);
     unit_store::clear(store, rows);
     call_own::fresh_by(count, plan)

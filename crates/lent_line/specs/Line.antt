@@ -1,6 +1,6 @@
 -- The line of a place of lent records needs one record, and that all keep the rules.
 -- Assumes nothing.
-use Rattle.std.specs.Prelude.{ℕ, Bool, true, false, List, ◌≡◌, length, get_or, ltb}
+use Rattle.std.specs.Prelude.{ℕ, Bool, false, List, ◌≡◌, length, get_or, ltb}
 use Rattle.std.proofs.Common.{ap, ◌∙◌}
 use Rattle.base_octets.specs.Choice.{split}
 use Rattle.unit_tunnel.specs.Numbering.{places}

@@ -30,12 +30,11 @@ pub fn line_by(kept: bool, node: Node, place: usize, s: Session, reply: &mut [u8
         return Answer::bare(Number::NO_PLACE, node);
     }
     let size = call_line::put_line(reply, place, s);
-    let span = Span { from: 0, to: 0 };
     Answer {
         number: Number::TAKEN,
         size,
         node,
-        span,
+        span: Span::NONE,
     }
 }
 

@@ -7,8 +7,8 @@ use mathlib.Core.List.{List, [], ◌∷◌, map}
 use Rattle.std.proofs.Math.Path.{refl, ap}
 use Rattle.std.proofs.Common.{sym, ◌∙◌}
 use Rattle.std.proofs.Math.Seq.{set-get_or}
-use borrow.Author.Tests.{not-true, not-false}
-use Rattle.base_octets.specs.Number.{taken, reply_short, rules_broken, nothing_due}
+use borrow.Author.Tests.{not-true}
+use Rattle.base_octets.specs.Number.{reply_short, rules_broken, nothing_due}
 use Rattle.base_octets.specs.Choice.{split, and_left, and_right}
 use Rattle.base_octets.specs.Every.{every}
 use Rattle.base_octets.specs.Search.{first_of}
@@ -28,7 +28,7 @@ use Rattle.call_own.specs.Calls.{echo_sent, place_sent, due_sent, send_of}
 use Rattle.step_check.specs.declared.Checked.{Checked}
 use Rattle.step_check.specs.Digest.{digest_of, idle_in_lem}
 use Rattle.step_check.specs.Findings.{due_in}
-use Rattle.step_check.specs.Summary.{stands_of, stands_by, stands_kept}
+use Rattle.step_check.specs.Summary.{stands_by, awaits, stands_kept}
 use Rattle.unit_store.specs.Store.{store_ok}
 use Rattle.call_store.specs.Stored.{broken_number, send_stored}
 use Rattle.lent_check.specs.Read.{read_of}
@@ -46,7 +46,7 @@ module _ (node : Node) (l : List Session) (kept : keeps_rules node l ≡ true) w
 
   taken_is : taken_among node (read_of (λ z. wait_of z.own) (awaiting_in (checked_of node 0 l)) l) ≡ taken_number node.next node.echo l
   unfolding taken_among taken_number awaiting_in
-  taken_is = rw (checked_waits node 0 l kept (eqb (checked_of node 0 l).how 2) refl) (free_among_lem (places + 2) node.next node.echo l)
+  taken_is = rw (checked_waits node 0 l kept (awaits (checked_of node 0 l).how) refl) (free_among_lem (places + 2) node.next node.echo l)
 
   double : (x : Bool) → not (not x) ≡ x
   double true = refl
@@ -69,13 +69,13 @@ module _ (node : Node) (l : List Session) (kept : keeps_rules node l ≡ true) w
       (λ e. checked_undue node 0 l kept e ∙ sym (rules_of node l kept).size ∙ sym (idle_none l (sym (checked_idle node 0 l kept) ∙ e)))
       (λ e. checked_due node 0 l kept e ∙ due_each l (rules_of node l kept).each)
 
-  stands_yes : eqb (checked_of node 0 l).how 0 ≡ false
-  unfolding checked_of stands_by
-  stands_yes = not-true (eqb (stands_of node l) 0) (stands_kept node l ∙ kept)
+  stands_yes : stands_by (checked_of node 0 l).how ≡ true
+  unfolding checked_of
+  stands_yes = stands_kept node l ∙ kept
 
-stands_no : (node : Node) (l : List Session) → keeps_rules node l ≡ false → eqb (checked_of node 0 l).how 0 ≡ true
-unfolding checked_of stands_by
-stands_no node l e = not-false (eqb (stands_of node l) 0) (stands_kept node l ∙ e)
+stands_no : (node : Node) (l : List Session) → keeps_rules node l ≡ false → stands_by (checked_of node 0 l).how ≡ false
+unfolding checked_of
+stands_no node l e = stands_kept node l ∙ e
 
 -- ---- the steps of a send are a send on the lent list
 module _ (node : Node) (l zs : List Session) (reply after : List ℕ) (p : Sending) (i : ℕ) (s t : Session) (r : Answer)

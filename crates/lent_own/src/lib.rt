@@ -16,11 +16,11 @@ pub fn grugavorn_tick(node: Node, recs: &mut [Session], store: &mut [[u8; Kept::
 {
     let sound = unit_store::store_ok(store);
     let stands = lent_check::stands(node, recs);
-    let how = call_store::how_with(sound, stands);
+    let how = step_own::how_with(sound, stands);
     let c = step_own::tick_change(node);
     let n = step_own::tick_count(how, node);
     lent_records::change_each(recs, c, n);
-    let rows = call_store::aged_count(how);
+    let rows = step_own::aged_count(how);
     unit_store::take_life(store, false, rows);
     step_own::tick_answer(how, n, node)
 }

@@ -1,21 +1,18 @@
--- How far a loop over the first n of a list goes where the list may be shorter.
+-- A loop over the first n of a list, where the list may be shorter: what it leaves of that part, with the rest of the list behind it.
 -- Assumes nothing.
-use Rattle.std.specs.Prelude.{ℕ, ◌<◌, ◌≤◌, List, ◌≡◌, length, ltb}
-use Rattle.std.proofs.Common.{sym, ◌∙◌, arith, ltb-true, ltb-false}
-use Rattle.base_octets.specs.Choice.{pick, split}
+use Rattle.std.specs.Prelude.{ℕ, zero, suc, ◌≤◌, min, List, [], ◌∷◌, ◌++◌, map, ◌≡◌, length, take, drop}
+use Rattle.std.proofs.Common.{ap, arith}
 use Rattle.base_octets.specs.Places.{map_first, map_all}
 
--- the lesser of two counts
-unfoldable pub lesser : ℕ → ℕ → ℕ
-lesser n count = pick {A = ℕ} (ltb n count) n count
-
 -- ---- laws in the words of the loop
-pub lesser_within : (n count : ℕ) → lesser n count ≤ count
-unfolding lesser
-lesser_within n count = split (ltb n count) (λ e. let h : n < count = ltb-true n count e in rw e (omega arith)) (λ e. rw e (omega arith))
+part_first : {A : Type 0} (f : A → A) (n : ℕ) (l : List A) → map f (take (min n (length l)) l) ++ drop (min n (length l)) l ≡ map_first f n l
+unfolding map_first
+part_first f zero l = let e : min 0 (length l) ≡ 0 = omega arith in rw e
+part_first f (suc n) [] = let e : min (suc n) 0 ≡ 0 = omega arith in rw e
+part_first f (suc n) (x ∷ l) = let e : min (suc n) (suc (length l)) ≡ suc (min n (length l)) = omega arith in
+    rw e (ap (λ (m : List _). f x ∷ m) (part_first f n l))
 
 -- the loop's end
-pub first-lesser : {A : Type 0} (f : A → A) (n : ℕ) (l : List A) → map_first f (lesser n (length l)) l ≡ map_first f n l
-unfolding lesser
-first-lesser f n l = split (ltb n (length l)) (λ e. rw e)
-    (λ e. let h : length l ≤ n = ltb-false n (length l) e in rw e (map_all f (length l) l (omega arith) ∙ sym (map_all f n l h)))
+pub first_part : {A : Type 0} (f : A → A) (n m i : ℕ) (l : List A) → m ≡ min n (length l) → length (take m l) ≤ i
+    → map_first f i (take m l) ++ drop m l ≡ map_first f n l
+first_part f n m i l e h = rw (map_all f i (take m l) h, e) (part_first f n l)

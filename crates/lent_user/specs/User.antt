@@ -1,6 +1,6 @@
 -- User datagrams with lent records, in numbers: what the one record that was read says is what the whole lent list says.
 -- Assumes nothing.
-use Rattle.std.specs.Prelude.{ℕ, ◌-◌, ◌≤◌, Bool, true, false, List, ◌≡◌, length, get_or, ltb}
+use Rattle.std.specs.Prelude.{ℕ, ◌-◌, ◌≤◌, Bool, false, List, ◌≡◌, length, get_or, ltb}
 use Rattle.std.proofs.Common.{◌∙◌, arith}
 use Rattle.std.specs.Borrow.{Bor}
 use Rattle.base_octets.specs.Choice.{split}

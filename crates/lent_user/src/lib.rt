@@ -9,7 +9,7 @@ ghost use Rattle.call_user.specs.OneRecord.{done};
 ghost use Rattle.call_store.specs.Stored.{user_stored};
 ghost use Rattle.call_user.specs.Parcel.{parcel, parcel_of};
 
-use call_user::Handed;
+use call_user::{Delivery, Handed};
 use unit_session::Session;
 use unit_store::Kept;
 use unit_table::Node;
@@ -19,40 +19,33 @@ use unit_table::Node;
 pub fn user_at(kept: bool, node: Node, s: Session, d: &[u8], reply: &mut [u8]) -> Handed
     ensures { parcel result reply.new ≡ parcel_of (length d.now) (done kept node s d.now reply.old) }
 {
-    let mut number: u8 = 0;
-    let mut place: usize = 0;
-    let mut size: usize = 0;
-    let end = d.len();
-    let p = call_user::done(kept, node, s, d, reply, &mut number, &mut place, &mut size);
-    let octets = p.len();
+    let taken = call_user::done(kept, node, s, d, reply);
+    let octets = taken.payload.len();
     Handed {
-        number,
-        place,
-        size,
-        start: end - octets,
+        number: taken.number,
+        place: taken.place,
+        size: taken.size,
+        start: d.len() - octets,
         octets,
     }
 }
 
-// Take user datagram. The number, the place and the reply's length come back through the lent numbers.
+// Take user datagram.
 pub fn take_user<'a>(
     node: Node,
     recs: &[Session],
     store: &[[u8; Kept::OCTETS]],
     d: &'a [u8],
     reply: &mut [u8],
-    number: &mut u8,
-    place: &mut usize,
-    size: &mut usize,
-) -> &'a [u8]
-    ensures { (took number.new place.new size.new reply.new (user_stored node recs.now store.now d.now reply.old).start
+) -> Delivery<'a>
+    ensures { (took result.number result.place result.size reply.new (user_stored node recs.now store.now d.now reply.old).start
         ≡ user_stored node recs.now store.now d.now reply.old)
-        × IsRest result d.entry (user_stored node recs.now store.now d.now reply.old).start }
+        × IsRest result.payload d.entry (user_stored node recs.now store.now d.now reply.old).start }
 {
     let kept = lent_check::keeps(node, recs, store);
     let at = call_user::place_in(d);
     let s = lent_records::read(recs, at);
-    call_user::done(kept, node, s, d, reply, number, place, size)
+    call_user::done(kept, node, s, d, reply)
 }
 
 // Take user datagram, answered in numbers.

@@ -29,4 +29,4 @@ modifies_sound = modify_sound
 
 pub values_are_their_octets : ValuesAreTheirOctets
 unfolding ValuesAreTheirOctets
-values_are_their_octets s kind inst start size e = record { stands = find_stands s kind inst start size e; value = find_value s kind inst start size e }
+values_are_their_octets s kind inst start size e = record { stands = find_stands s kind inst _ e; value = find_value s kind inst _ e }

@@ -1,6 +1,6 @@
 -- That what specs/Carried.antt says holds, and what that rests on.
 -- Assumes nothing.
-use Rattle.std.specs.Prelude.{ℕ, suc, ◌+◌, ◌-◌, ◌/◌, ◌%◌, ◌<◌, ◌≤◌, not, ◌&&◌, ◌||◌, List, [], ◌∷◌, ◌++◌, ◌≡◌, refl, length, drop, get_or}
+use Rattle.std.specs.Prelude.{ℕ, suc, ◌+◌, ◌-◌, ◌/◌, ◌%◌, ◌<◌, ◌≤◌, not, ◌&&◌, ◌||◌, List, [], ◌∷◌, ◌++◌, ◌≡◌, refl, length, drop, get_or, Some}
 use Rattle.std.proofs.Math.Bool.{true, false}
 use Rattle.std.proofs.Common.{sym, ◌∙◌, suc-add, length-append, drop-drop}
 use Rattle.std.proofs.Math.Path.{ap}
@@ -14,7 +14,6 @@ use Rattle.unit_tunnel.specs.Numbering.{places, user_offset, teids, user_fits}
 use Rattle.unit_tunnel.specs.Tunnel.{user_number, number_holder, number_fits}
 use Rattle.unit_session.specs.Session.{is_free, held_ok, record_ok}
 use Rattle.unit_session.specs.Keep.{live_of, ok_usage}
-use Rattle.unit_table.specs.declared.Owner.TheVariants as F
 use Rattle.unit_table.specs.Rules.{bounds_of, Rules, rules_of}
 use Rattle.unit_table.specs.Change.{record_ok_lem}
 use Rattle.unit_table.specs.Find.{owner_of, owner_is, held_yes}
@@ -168,7 +167,7 @@ module _ (s : State) (k : Kept s) (i : ℕ) (h : i < places) (live : is_free (at
   unfolding places teids
   small_number = number_fits user_offset (at s i).usage i user_fits h (ok_usage (bounds_of s.node.plan) (at s i) ok)
 
-  pub live_owner : owner_of user_offset (user_number (at s i).usage i) s.table ≡ F.At i
+  pub live_owner : owner_of user_offset (user_number (at s i).usage i) s.table ≡ Some i
   unfolding places
   live_owner =
       let z = rules.size in

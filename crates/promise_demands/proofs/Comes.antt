@@ -1,6 +1,6 @@
 -- That what specs/Comes.antt says holds, and what that rests on.
 -- Assumes nothing.
-use Rattle.std.specs.Prelude.{ℕ, true, false, not, ◌≢◌, ◌≡◌, length, get_or, eqb, ltb}
+use Rattle.std.specs.Prelude.{ℕ, true, false, not, ◌≢◌, ◌≡◌, length, get_or, eqb, ltb, Option, Some, None, Result, Ok, Err}
 use mathlib.Core.List.{List, [], ◌∷◌}
 use Rattle.std.proofs.Math.Path.{refl}
 use Rattle.std.proofs.Common.{sym, ap, arith, eqb-true}
@@ -14,8 +14,6 @@ use Rattle.unit_sharing.specs.Sharing.{admits}
 use Rattle.unit_session.specs.declared.Session.{Session}
 use Rattle.unit_session.specs.Session.{is_free, has_id, waits_for, freed}
 use Rattle.unit_table.specs.declared.Node.{Node}
-use Rattle.unit_table.specs.declared.Owner.{Owner}
-use Rattle.unit_table.specs.declared.Owner.TheVariants as F
 use Rattle.unit_table.specs.Rules.{keeps_rules, live}
 use Rattle.unit_table.specs.Change.{nobody, changed_at, changed_out}
 use Rattle.unit_table.specs.Find.{place_found, found_in, owner_of, found_is}
@@ -24,17 +22,11 @@ use Rattle.unit_store.specs.Row.{number_in, octets_in, number_ok}
 use Rattle.wire_header.specs.Types.{among}
 use Rattle.wire_messages.specs.Types.{echo_reply_type, create_reply_type}
 use Rattle.wire_messages.specs.Messages.{version_not_supported, echo_of}
-use Rattle.wire_requests.specs.declared.BearerReply.{BearerReply}
-use Rattle.wire_requests.specs.declared.BearerReply.TheVariants as B
 use Rattle.wire_requests.specs.declared.Create as C
 use Rattle.wire_requests.specs.declared.Modify as M
 use Rattle.wire_requests.specs.declared.Delete as D
-use Rattle.wire_requests.specs.declared.Context.{Context}
-use Rattle.wire_requests.specs.declared.Context.TheVariants as X
-use Rattle.wire_fields.specs.declared.Tunnel.{Tunnel}
-use Rattle.wire_fields.specs.declared.Tunnel.TheVariants as T
 use Rattle.wire_requests.specs.Change.{end_moves, context_moves, moves_of, means_of}
-use Rattle.wire_fields.specs.Refusal.{not_live_cause, short_cause, wrong_cause, missing_cause}
+use Rattle.wire_fields.specs.Refusal.{refusal_of, not_live_cause, short_cause, wrong_cause, missing_cause}
 use Rattle.call_own.specs.Outcome.{Outcome, Done, bare_on, on_session, on_owner, least_reply, no_reply, replied, changing}
 use Rattle.call_asked.specs.declared.Concern.{Concern}
 use Rattle.call_asked.specs.declared.Concern.TheVariants as S
@@ -55,6 +47,12 @@ use Rattle.promise_demands.specs.Numbers.{silent_numbers, ConcernKnown, AskedKno
 use Rattle.promise_demands.proofs.Numbers.{asked_known, created_number, kept_among}
 use Rattle.call_own.specs.declared.Span.{Span}
 use Rattle.promise_demands.specs.Comes.{control_silent, ButForPlaces, TableKept, ButForCreate, Not, OnOne}
+use Rattle.wire_fields.specs.declared.Flaw.{Flaw}
+use Rattle.wire_requests.specs.Chain.{if_present}
+use Rattle.wire_fields.specs.declared.Tunnel.{Tunnel}
+use Rattle.wire_requests.specs.declared.Context.{Context}
+use Rattle.wire_fields.specs.declared.Flaw.TheVariants.{Missing, Short, Wrong}
+use Rattle.wire_requests.specs.declared.Unreadable.{Unreadable}
 
 -- ---- laws of lists of numbers
 -- a number of a list that has none of another's is none of the other's
@@ -100,27 +98,27 @@ module _ (seq : ℕ) (s : Session) where
   quiet_on = record { other = λ k. k; silent = λ k. refl; kept = λ k. refl }
 
   modify_on_lem : (m : M.Modify) → OnOne s (modify_on m seq s)
-  unfolding modify_on modify_by moved_on cause_on moves_of context_moves end_moves control_silent
+  unfolding modify_on modify_by moved_on cause_on moves_of context_moves end_moves refusal_of control_silent
   modify_on_lem m = by m.context m.context
     where
-      end : (x : Context) (f : Tunnel) → OnOne s (modify_by (end_moves m.control f) x seq s)
-      end x (T.Value teid address) = done_on _ refl
-      end x T.Missing = done_on _ refl
-      end x T.Short = told_on (modify_by (end_moves m.control T.Short) x seq s) (λ k. k) (λ k. k) refl
-      end x T.Wrong = told_on (modify_by (end_moves m.control T.Wrong) x seq s) (λ k. k) (λ k. k) refl
+      end : (x : Option Context) (r : Result (Option Tunnel) Flaw) → OnOne s (modify_by (end_moves m.control r) x seq s)
+      end x (Ok user) = done_on _ refl
+      end x (Err Missing) = told_on (modify_by (end_moves m.control (Err Missing)) x seq s) (λ k. k) (λ k. k) refl
+      end x (Err Short) = told_on (modify_by (end_moves m.control (Err Short)) x seq s) (λ k. k) (λ k. k) refl
+      end x (Err Wrong) = told_on (modify_by (end_moves m.control (Err Wrong)) x seq s) (λ k. k) (λ k. k) refl
 
-      by : (x y : Context) → OnOne s (modify_by (context_moves m.control y s.ebi) x seq s)
-      by x X.Absent = done_on _ refl
-      by x (X.Present ebi f) = split (eqb ebi s.ebi) (λ e. rw e (end x f)) (λ e. rw e (told_on _ (λ k. k) (λ k. k) refl))
+      by : (x y : Option Context) → OnOne s (modify_by (context_moves m.control y s.ebi) x seq s)
+      by x None = done_on _ refl
+      by x (Some context) = split (eqb context.ebi s.ebi) (λ e. rw e (end x (if_present context.user))) (λ e. rw e (told_on _ (λ k. k) (λ k. k) refl))
 
   delete_on_lem : (d : D.Delete) → OnOne s (delete_on d seq s)
   unfolding delete_on freed_on cause_on not_live control_silent
   delete_on_lem d = split (means_of d s.ebi) (λ e. rw e (done_on _ refl)) (λ e. rw e (told_on _ (λ k. k) (λ k. k) refl))
 
-  bearer_on_lem : (b : BearerReply) → OnOne s (bearer_on b seq s)
+  bearer_on_lem : (b : Result ℕ Unreadable) → OnOne s (bearer_on b seq s)
   unfolding bearer_on bare_on
-  bearer_on_lem B.Unreadable = quiet_on
-  bearer_on_lem (B.Cause cause) = split (waits_for seq s) (λ e. rw e (done_on _ refl)) (λ e. rw e quiet_on)
+  bearer_on_lem (Err u) = quiet_on
+  bearer_on_lem (Ok cause) = split (waits_for seq s) (λ e. rw e (done_on _ refl)) (λ e. rw e quiet_on)
 
   live_on_lem : (x : Concern) → ConcernKnown x → OnOne s (concern_on x seq s)
   unfolding concern_on cause_on ConcernKnown create_numbers control_silent every
@@ -204,9 +202,9 @@ module _ (node : Node) (t : List Session) (reply : List ℕ) where
     shared_comes t' e =
         split (admits (heard_by c.recovery node t).node.plan (live t') c.point) (λ q. rw q (place (found_in is_free t'))) (λ q. rw q full)
       where
-        place : (f : Owner) → Comes (A.Create c seq) (opened_at f c seq (heard_by c.recovery node t).node t' node t reply)
-        place F.Nothing = alone _ 11 (λ k. k)
-        place (F.At i) = done _ _ _ _
+        place : (f : Option ℕ) → Comes (A.Create c seq) (opened_at f c seq (heard_by c.recovery node t).node t' node t reply)
+        place None = alone _ 11 (λ k. k)
+        place (Some i) = done _ _ _ _
 
         full : Comes (A.Create c seq) (cause_taken create_reply_type c.control seq no_room (heard_by c.recovery node t).node t' reply)
         full = record {
@@ -225,10 +223,10 @@ module _ (node : Node) (t : List Session) (reply : List ℕ) where
         l : List Session
         l = (heard_by c.recovery node t).table
 
-        by : (f : Owner) → found_in (has_id c.imsi c.ebi) (heard_by c.recovery node t).table ≡ f
+        by : (f : Option ℕ) → found_in (has_id c.imsi c.ebi) (heard_by c.recovery node t).table ≡ f
             → Comes (A.Create c seq) (settled_at f c seq (heard_by c.recovery node t).node (heard_by c.recovery node t).table node t reply)
-        by F.Nothing e = shared_comes l (sym (changed_out freed (first_of (has_id c.imsi c.ebi) l) l (none_found (has_id c.imsi c.ebi) l e)))
-        by (F.At i) e =
+        by None e = shared_comes l (sym (changed_out freed (first_of (has_id c.imsi c.ebi) l) l (none_found (has_id c.imsi c.ebi) l e)))
+        by (Some i) e =
             split (is_repeat c seq (get_or l i nobody)) (λ x. rw x (done _ _ _ _))
             (λ x. rw x (shared_comes (changed_at freed i l) (rw (found_is (has_id c.imsi c.ebi) l i e).1.0)))
 

@@ -1,6 +1,6 @@
 -- That what specs/Creates.antt says holds, and what that rests on.
 -- Assumes nothing.
-use Rattle.std.specs.Prelude.{ℕ, ◌<◌, ◌≤◌, Bool, not, List, ◌≡◌, length, get_or, drop, ltb}
+use Rattle.std.specs.Prelude.{ℕ, ◌<◌, ◌≤◌, Bool, not, List, ◌≡◌, length, get_or, drop, ltb, Option, Some, None, Ok}
 use Rattle.std.proofs.Math.Bool.{true, false}
 use Rattle.std.proofs.Math.Path.{refl}
 use Rattle.std.proofs.Common.{◌∙◌, ap, arith, lt-ltb, le-ltb, ltb-false}
@@ -14,17 +14,13 @@ use Rattle.unit_session.specs.declared.Session.{Session}
 use Rattle.unit_session.specs.Session.{is_free, has_id, freed}
 use Rattle.unit_session.specs.Keep.{lighter_freed}
 use Rattle.unit_table.specs.declared.Node.{Node}
-use Rattle.unit_table.specs.declared.Owner.{Owner}
-use Rattle.unit_table.specs.declared.Owner.TheVariants as F
 use Rattle.unit_table.specs.Rules.{live_on, live, Rules, rules_of}
 use Rattle.unit_table.specs.Change.{nobody, changed_at, changed_out, less_set, less_map, rules-freed}
 use Rattle.unit_table.specs.Find.{found_in, found_is}
 use Rattle.unit_table.specs.Open.{replaced}
 use Rattle.unit_table.specs.Room.{free_place, place_free}
 use Rattle.wire_header.specs.Header.{header_of}
-use Rattle.wire_fields.specs.declared.Recovery.{Recovery}
 use Rattle.wire_requests.specs.declared.Create as C
-use Rattle.wire_requests.specs.declared.Decoded.TheVariants as D
 use Rattle.wire_requests.specs.declared.Request.TheVariants as Q
 use Rattle.wire_requests.specs.Create.{create_of}
 use Rattle.wire_requests.proofs.CreateLaws.{create_sound}
@@ -42,24 +38,24 @@ use Rattle.promise_demands.specs.Bounds.{u}
 use Rattle.promise_demands.specs.Creates.{heard, repeats, SoundCreate, NewCreate, table_asked, asked_u, accepted_of, refused_of}
 
 -- ---- a Create comes to the sharing rule
-pub none_found : (p : Session → Bool) (l : List Session) → found_in p l ≡ F.Nothing → length l ≤ first_of p l
+pub none_found : (p : Session → Bool) (l : List Session) → found_in p l ≡ None → length l ≤ first_of p l
 unfolding found_in
 none_found p l e =
     split (ltb (first_of p l) (length l))
-    (λ t. let f : F.At (first_of p l) ≡ F.Nothing = rw t at e in let z : ◌≡◌ {A = ℕ} 0 1 = cc in absurd (omega arith))
+    (λ t. let f : Some (first_of p l) ≡ None = rw t at e in let z : ◌≡◌ {A = ℕ} 0 1 = cc in absurd (omega arith))
     (λ t. ltb-false (first_of p l) (length l) t)
 
 not_repeat : (c : C.Create) (seq : ℕ) (s : Session) → not (repeats c seq s) ≡ true → has_id c.imsi c.ebi s ≡ true → is_repeat c seq s ≡ false
 unfolding repeats
 not_repeat c seq s n h = split (is_repeat c seq s) (λ q. impossible (rw (h, q) at n)) (λ q. q)
 
-settled-shared : (c : C.Create) (seq : ℕ) (node : Node) (t : List Session) (node₀ : Node) (t₀ : List Session) (reply : List ℕ) (f : Owner)
+settled-shared : (c : C.Create) (seq : ℕ) (node : Node) (t : List Session) (node₀ : Node) (t₀ : List Session) (reply : List ℕ) (f : Option ℕ)
     → found_in (has_id c.imsi c.ebi) t ≡ f → every (λ x. not (repeats c seq x)) t ≡ true
     → settled_at f c seq node t node₀ t₀ reply ≡ shared c seq node (replaced c.imsi c.ebi t) node₀ t₀ reply
 unfolding settled_at replaced
-settled-shared c seq node t node₀ t₀ reply F.Nothing e n =
+settled-shared c seq node t node₀ t₀ reply None e n =
     rw (changed_out freed (first_of (has_id c.imsi c.ebi) t) t (none_found (has_id c.imsi c.ebi) t e))
-settled-shared c seq node t node₀ t₀ reply (F.At i) e n =
+settled-shared c seq node t node₀ t₀ reply (Some i) e n =
     let g = found_is (has_id c.imsi c.ebi) t i e in
     let q = every_in (λ x. not (repeats c seq x)) t i nobody n g.0 in
     rw (not_repeat c seq (get_or t i nobody) q g.1.1, ← g.1.0)
@@ -78,7 +74,7 @@ module _ (p : Plan) (s : State) (kept : Kept s) (plan : s.node.plan ≡ p) (d : 
   abbrev seq : ℕ
   seq = (header_of d).sequence
 
-  decoded : create_of s.node.plan (drop (header_of d).fields d) ≡ D.Sound (Q.Create c)
+  decoded : create_of s.node.plan (drop (header_of d).fields d) ≡ Ok (Q.Create c)
   decoded = rw plan n.sound.fields
 
   comes_to_lem : control_taken s.node s.table d reply
@@ -98,7 +94,7 @@ module _ (p : Plan) (s : State) (kept : Kept s) (plan : s.node.plan ≡ p) (d : 
       rules-freed (heard c s).node.plan (heard c s).node.echo (heard c s).node.next (heard c s).table
       (rules_of (heard c s).node (heard c s).table (heard-keeps s.node s.table (kept_table s kept) c.recovery)) (first_of (has_id c.imsi c.ebi) (heard c s).table)
 
-  place_there : admits (heard c s).node.plan (live (table_asked c s)) c.point ≡ true → found_in is_free (table_asked c s) ≡ F.At (free_place (table_asked c s))
+  place_there : admits (heard c s).node.plan (live (table_asked c s)) c.point ≡ true → found_in is_free (table_asked c s) ≡ Some (free_place (table_asked c s))
   unfolding found_in free_place
   place_there f =
       rw (lt-ltb (first_of is_free (table_asked c s)) (length (table_asked c s))
@@ -128,7 +124,7 @@ module _ (p : Plan) (s : State) (kept : Kept s) (plan : s.node.plan ≡ p) (d : 
   create-point = (create_sound p (drop (header_of d).fields d) c n.sound.fields).point
 
 -- ---- Recovery and the replaced session only take away
-heard_less : (r : Recovery) (node : Node) (t : List Session) (a : ℕ) → live_on a (heard_by r node t).table ≤ live_on a t
+heard_less : (r : Option ℕ) (node : Node) (t : List Session) (a : ℕ) → live_on a (heard_by r node t).table ≤ live_on a t
 heard_less r node t a =
     rw (heard_either r node t)
     (split (restarts_by r node) (λ q. rw q ((less_map freed t lighter_freed).ons a)) (λ q. rw q (omega arith)))

@@ -1,6 +1,6 @@
 -- That what specs/Downlink.antt says holds, and what that rests on.
 -- Assumes nothing.
-use Rattle.std.specs.Prelude.{ℕ, ◌+◌, ◌<◌, ◌≤◌, false, List, [], ◌∷◌, ◌≡◌, refl, length, take, get_or, ltb}
+use Rattle.std.specs.Prelude.{ℕ, ◌+◌, ◌<◌, ◌≤◌, false, List, [], ◌∷◌, ◌≡◌, refl, length, take, get_or, ltb, Option, Some, None}
 use Rattle.std.proofs.Math.Bool.{true, not}
 use Rattle.std.proofs.Common.{sym, ◌∙◌, ap}
 use native.Mathlib.Omega.{arith}
@@ -16,8 +16,6 @@ use Rattle.wire_user.specs.Header.{type_of, ours, optional}
 use Rattle.unit_tunnel.specs.Numbering.{places}
 use Rattle.unit_plan.specs.Address.{address_of, place_of, place_of_address}
 use Rattle.unit_session.specs.Session.{is_free}
-use Rattle.unit_table.specs.declared.Owner.{Owner}
-use Rattle.unit_table.specs.declared.Owner.TheVariants as F
 use Rattle.unit_table.specs.Rules.{rules_of}
 use Rattle.unit_table.specs.Find.{dwells, addressee_of, addressee_is, first_is}
 use Rattle.call_down.specs.Down.{written_to, down_to, down_taken, down_unfit, down_whole, down_short, down_fits}
@@ -85,7 +83,7 @@ module _ (s : State) (k : Kept s) where
 
   -- the place that has the destination address says whose the packet is
   whose : (packet : List ℕ) (i : ℕ) → i < places → address_of s.node.plan.pool i ≡ destination_of packet
-      → addressee_of s.node.plan.pool (destination_of packet) s.table ≡ pick (not (is_free (at s i))) (F.At i) F.Nothing
+      → addressee_of s.node.plan.pool (destination_of packet) s.table ≡ pick (not (is_free (at s i))) (Some i) None
   whose packet i h e =
       let z = sized in
       let p : place_of s.node.plan.pool (destination_of packet) ≡ i = rw (← e) (place_of_address s.node.plan.pool i h) in
@@ -93,7 +91,7 @@ module _ (s : State) (k : Kept s) where
 
   module _ (packet out : List ℕ) where
     -- what is found is a live place with that address
-    found : (i : ℕ) → addressee_of s.node.plan.pool (destination_of packet) s.table ≡ F.At i
+    found : (i : ℕ) → addressee_of s.node.plan.pool (destination_of packet) s.table ≡ Some i
         → (i < places) × (is_free (at s i) ≡ false) × (address_of s.node.plan.pool i ≡ destination_of packet)
     unfolding addressee_of dwells
     found i e =
@@ -107,7 +105,7 @@ module _ (s : State) (k : Kept s) where
         (omega arith, not-true (is_free (at s i)) a, eqb-true (address_of s.node.plan.pool i) (destination_of packet) b)
 
     written_down : (i : ℕ) → whole_packet packet ≡ true → length packet + 8 ≤ length out
-        → addressee_of s.node.plan.pool (destination_of packet) s.table ≡ F.At i → WrittenDown s packet (written_to i (at s i) packet out)
+        → addressee_of s.node.plan.pool (destination_of packet) s.table ≡ Some i → WrittenDown s packet (written_to i (at s i) packet out)
     written_down i w room e =
         let f = found i e in
         let n = size_gpdu (at s i).user packet in
@@ -125,21 +123,21 @@ module _ (s : State) (k : Kept s) where
           back = λ o. rw t (gpdu_back (at s i).user packet (small_packet packet o v.exact));
         }
 
-    nobody_there : addressee_of s.node.plan.pool (destination_of packet) s.table ≡ F.Nothing
+    nobody_there : addressee_of s.node.plan.pool (destination_of packet) s.table ≡ None
         → (i : ℕ) → i < places → address_of s.node.plan.pool i ≡ destination_of packet → is_free (at s i) ≡ true
     nobody_there e i h a =
         split (is_free (at s i)) (λ f. f)
-        (λ f. let g : F.Nothing ≡ F.At i = sym e ∙ whose packet i h a ∙ rw f in
+        (λ f. let g : None ≡ Some i = sym e ∙ whose packet i h a ∙ rw f in
         let z : ◌≡◌ {A = ℕ} 0 1 = cc in
         absurd (omega arith))
 
     -- by whose it is
-    to_grounds : whole_packet packet ≡ true → (f : Owner) → addressee_of s.node.plan.pool (destination_of packet) s.table ≡ f
+    to_grounds : whole_packet packet ≡ true → (f : Option ℕ) → addressee_of s.node.plan.pool (destination_of packet) s.table ≡ f
         → Grounds s packet out (down_to f s.table packet out)
     unfolding down_to
-    to_grounds w F.Nothing e =
+    to_grounds w None e =
         record { written = λ z. absurd (omega arith); unfit = λ z. absurd (omega arith); nobodys = λ z. nobody_there e; short = λ z. absurd (omega arith) }
-    to_grounds w (F.At i) e =
+    to_grounds w (Some i) e =
         split (ltb (length out) (length packet + 8))
         (λ a.
         let h = ltb-true (length out) (length packet + 8) a in

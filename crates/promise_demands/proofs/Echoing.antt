@@ -1,6 +1,6 @@
 -- That what specs/Echoing.antt says holds, and what that rests on.
 -- Assumes nothing.
-use Rattle.std.specs.Prelude.{ℕ, ◌+◌, ◌*◌, ◌%◌, ◌<◌, ◌≤◌, false, ◌&&◌, ◌≡◌, length, ltb}
+use Rattle.std.specs.Prelude.{ℕ, ◌+◌, ◌*◌, ◌%◌, ◌<◌, ◌≤◌, false, ◌&&◌, ◌≡◌, length, ltb, Option}
 use Rattle.std.proofs.Math.Bool.{Bool, true, not}
 use mathlib.Core.List.{List, [], ◌∷◌}
 use Rattle.std.proofs.Math.Path.{refl}
@@ -23,7 +23,6 @@ use Rattle.unit_table.specs.Rules.{keeps_rules, rules_of}
 use Rattle.unit_table.specs.Own.{rested, echo_ticked, due_place}
 use Rattle.unit_table.specs.Recovery.{hearing}
 use Rattle.unit_table.specs.Number.{taken_number}
-use Rattle.wire_fields.specs.declared.Recovery.{Recovery}
 use Rattle.call_own.specs.Outcome.{on_session, least_reply, no_reply}
 use Rattle.call_own.specs.Calls.{timed, tick_of, close_of, echo_sent, place_sent, due_sent, send_of}
 use Rattle.call_control.specs.Echoes.{heard_by, heard_plan, heard_rest, echo_ended, echo_reply_taken}
@@ -39,7 +38,7 @@ use Rattle.promise_demands.specs.InTime.{is_tick, ticks_in}
 use Rattle.promise_demands.specs.Echoing.{at_rest, echo_prompt, under_way, SendsEcho, Echoes, EchoWhole}
 
 -- ---- proofs
-heard-echo : (r : Recovery) (node : Node) (t : List Session) → (heard_by r node t).node.echo ≡ node.echo
+heard-echo : (r : Option ℕ) (node : Node) (t : List Session) → (heard_by r node t).node.echo ≡ node.echo
 unfolding hearing
 heard-echo = heard_rest (λ (n : Node). n.echo) (λ value node. refl)
 
@@ -84,7 +83,7 @@ module _ (p : Plan) where
   unfolding at_rest rested
   rests s g r = let e = (accepted_figures p (start_accepted p s g)).echoes in rw (ne_eqb p.interval 0 (λ z. omega arith))
 
-  reply_rests : (s : State) → Start p s → (r : Recovery) (reply : List ℕ) → at_rest (asked_taken s.node s.table (A.EchoReply r) reply).answer.node.echo ≡ true
+  reply_rests : (s : State) → Start p s → (r : Option ℕ) (reply : List ℕ) → at_rest (asked_taken s.node s.table (A.EchoReply r) reply).answer.node.echo ≡ true
   unfolding asked_taken echo_reply_taken echo_ended timed no_reply
   reply_rests s g r reply = by (heard_by r s.node s.table).node.plan.interval (ap (λ (x : Plan). x.interval) (heard_plan r s.node s.table ∙ g.plan))
     where

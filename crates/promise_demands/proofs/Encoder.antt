@@ -1,6 +1,6 @@
 -- That what specs/Encoder.antt says holds, and what that rests on.
 -- Assumes nothing.
-use Rattle.std.specs.Prelude.{ℕ, zero, suc, ◌+◌, ◌*◌, ◌/◌, ◌%◌, ◌^◌, ◌<◌, ◌≤◌, Bool, List, [], ◌∷◌, ◌++◌, ◌≡◌, length, get_or, leb}
+use Rattle.std.specs.Prelude.{ℕ, zero, suc, ◌+◌, ◌*◌, ◌/◌, ◌%◌, ◌^◌, ◌<◌, ◌≤◌, Bool, List, [], ◌∷◌, ◌++◌, ◌≡◌, length, get_or, leb, Option, Some, None, Result, Ok, Err}
 use Rattle.std.proofs.Math.Bool.{true}
 use Rattle.std.proofs.Math.Path.{refl}
 use Rattle.std.proofs.Common.{pow-suc, length-take, le-leb, leb-true, lt-ltb}
@@ -10,27 +10,21 @@ use Rattle.base_octets.specs.Choice.{and_left, and_right}
 use Rattle.base_octets.specs.Every.{every, every_in}
 use Rattle.base_octets.specs.BigEndian.{octets_of, length_octets}
 use Rattle.wire_fields.specs.Imsi.{is_half, decimal_from}
-use Rattle.wire_fields.specs.declared.Tunnel.{Tunnel}
-use Rattle.wire_fields.specs.declared.Tunnel.TheVariants as T
 use Rattle.wire_fields.specs.Kinds.{imsi_kind, rat_kind, tunnel_kind, apn_kind, paa_kind, bearer_kind, ebi_kind, qos_kind, recovery_kind}
-use Rattle.wire_fields.specs.declared.Recovery.{Recovery}
-use Rattle.wire_fields.specs.declared.Recovery.TheVariants as R
 use Rattle.unit_plan.specs.declared.Plan.{Plan}
 use Rattle.unit_plan.specs.Limits.{used, parties, no_point, point_ok, longest_name}
 use Rattle.unit_plan.specs.Names.{name_of}
 use Rattle.unit_plan.specs.Plan.{accepted}
 use Rattle.wire_requests.specs.declared.Create as C
 use Rattle.wire_requests.specs.declared.Modify as M
-use Rattle.wire_requests.specs.declared.Peer.{Peer}
-use Rattle.wire_requests.specs.declared.Peer.TheVariants as P
-use Rattle.wire_requests.specs.declared.Context.{Context}
-use Rattle.wire_requests.specs.declared.Context.TheVariants as X
-use Rattle.wire_requests.specs.declared.Ebi.{Ebi}
-use Rattle.wire_requests.specs.declared.Ebi.TheVariants as E
 use Rattle.promise_demands.specs.Sent.{fits, sent_octets}
 use Rattle.promise_demands.specs.Values.{packed}
 use Rattle.promise_demands.proofs.Values.{packed_most}
 use Rattle.promise_demands.specs.Encoder.{field, digits_of, tunnel_octets, Besides, Short, control_flags, user_flags, create_bearer, recovery_field, create_fields, control_field, user_field, context_field, context_bearer, modify_fields, delete_fields}
+use Rattle.wire_fields.specs.declared.Flaw.{Flaw}
+use Rattle.wire_fields.specs.declared.Tunnel.{Tunnel}
+use Rattle.wire_requests.specs.declared.Context.{Context}
+use Rattle.wire_fields.specs.declared.Flaw.TheVariants as Flaw
 
 -- ---- laws: digits write their number
 every_last : (p : ℕ → Bool) (l : List ℕ) (x : ℕ) → every p l ≡ true → p x ≡ true → every p (l ++ (x ∷ [])) ≡ true
@@ -103,10 +97,10 @@ module _ (x : Besides) (s : Short x) where
       let t = tunnel-short user_flags c.user c.useraddr (x.within tunnel_kind) in
       simp length-append (omega arith)
 
-  recovery_fits : (r : Recovery) → every fits (recovery_field r x) ≡ true
+  recovery_fits : (r : Option ℕ) → every fits (recovery_field r x) ≡ true
   unfolding recovery_field every
-  recovery_fits R.None = refl
-  recovery_fits (R.Value r) = let a = s.behind recovery_kind in rw (fits-field recovery_kind 0 (r ∷ x.behind recovery_kind) (omega arith))
+  recovery_fits None = refl
+  recovery_fits (Some r) = let a = s.behind recovery_kind in rw (fits-field recovery_kind 0 (r ∷ x.behind recovery_kind) (omega arith))
 
   pub create-fits : (plan : Plan) (c : C.Create) → accepted plan ≡ true → c.point < parties plan
       → every fits (create_fields plan c x (create_bearer c x)) ≡ true
@@ -133,53 +127,53 @@ module _ (x : Besides) (s : Short x) where
       )
       (recovery_fits c.recovery)
 
-  user_fits : (t : Tunnel) → every fits (user_field t x) ≡ true
+  user_fits : (t : Result Tunnel Flaw) → every fits (user_field t x) ≡ true
   unfolding user_field every
-  user_fits (T.Value teid addr) =
+  user_fits (Ok end) =
       let b = s.within tunnel_kind in
-      let t = tunnel-short user_flags teid addr (x.within tunnel_kind) in
-      rw (fits-field tunnel_kind 1 (tunnel_octets user_flags teid addr (x.within tunnel_kind)) (omega arith))
-  user_fits T.Missing = refl
-  user_fits T.Short = refl
-  user_fits T.Wrong = refl
+      let t = tunnel-short user_flags end.teid end.address (x.within tunnel_kind) in
+      rw (fits-field tunnel_kind 1 (tunnel_octets user_flags end.teid end.address (x.within tunnel_kind)) (omega arith))
+  user_fits (Err Flaw.Missing) = refl
+  user_fits (Err Flaw.Short) = refl
+  user_fits (Err Flaw.Wrong) = refl
 
-  user_short : (t : Tunnel) → length (sent_octets (user_field t x)) ≤ 10013
+  user_short : (t : Result Tunnel Flaw) → length (sent_octets (user_field t x)) ≤ 10013
   unfolding user_field sent_octets octets_of
-  user_short (T.Value teid addr) =
+  user_short (Ok end) =
       let b = s.within tunnel_kind in
-      let t = tunnel-short user_flags teid addr (x.within tunnel_kind) in
+      let t = tunnel-short user_flags end.teid end.address (x.within tunnel_kind) in
       simp length-append (omega arith)
-  user_short T.Missing = omega arith
-  user_short T.Short = omega arith
-  user_short T.Wrong = omega arith
+  user_short (Err Flaw.Missing) = omega arith
+  user_short (Err Flaw.Short) = omega arith
+  user_short (Err Flaw.Wrong) = omega arith
 
-  pub context-fits : (k : Context) → every fits (context_bearer k x) ≡ true
+  pub context-fits : (k : Option Context) → every fits (context_bearer k x) ≡ true
   unfolding context_bearer every
-  context-fits X.Absent = refl
-  context-fits (X.Present ebi t) = let a = s.within ebi_kind in rw (fits-field ebi_kind 0 (ebi ∷ x.within ebi_kind) (omega arith)) (user_fits t)
+  context-fits None = refl
+  context-fits (Some contextx) = let a = s.within ebi_kind in rw (fits-field ebi_kind 0 (contextx.ebi ∷ x.within ebi_kind) (omega arith)) (user_fits contextx.user)
 
-  context-short : (k : Context) → length (sent_octets (context_bearer k x)) < 65536
+  context-short : (k : Option Context) → length (sent_octets (context_bearer k x)) < 65536
   unfolding context_bearer sent_octets octets_of
-  context-short X.Absent = omega arith
-  context-short (X.Present ebi t) = let a = s.within ebi_kind in let b = user_short t in simp length-append (omega arith)
+  context-short None = omega arith
+  context-short (Some contextx) = let a = s.within ebi_kind in let b = user_short contextx.user in simp length-append (omega arith)
 
-  bearer_fits : (k : Context) → every fits (context_field k (context_bearer k x)) ≡ true
+  bearer_fits : (k : Option Context) → every fits (context_field k (context_bearer k x)) ≡ true
   unfolding context_field every
-  bearer_fits X.Absent = refl
-  bearer_fits (X.Present ebi t) = rw (fits-field bearer_kind 0 (sent_octets (context_bearer (X.Present ebi t) x)) (context-short (X.Present ebi t)))
+  bearer_fits None = refl
+  bearer_fits (Some contextx) = rw (fits-field bearer_kind 0 (sent_octets (context_bearer (Some (record { ebi = contextx.ebi; user = contextx.user })) x)) (context-short (Some (record { ebi = contextx.ebi; user = contextx.user }))))
 
   pub modify_fits : (m : M.Modify) → every fits (modify_fields m x (context_bearer m.context x)) ≡ true
   unfolding modify_fields control_field every
   modify_fits m = by m.control
     where
-      by : (p : Peer) → every fits (control_field p x ++ context_field m.context (context_bearer m.context x)) ≡ true
-      by P.Same = bearer_fits m.context
-      by (P.New teid addr) =
+      by : (p : Option Tunnel) → every fits (control_field p x ++ context_field m.context (context_bearer m.context x)) ≡ true
+      by None = bearer_fits m.context
+      by (Some end) =
           let b = s.behind tunnel_kind in
-          let t = tunnel-short control_flags teid addr (x.behind tunnel_kind) in
-          rw (fits-field tunnel_kind 0 (tunnel_octets control_flags teid addr (x.behind tunnel_kind)) (omega arith)) (bearer_fits m.context)
+          let t = tunnel-short control_flags end.teid end.address (x.behind tunnel_kind) in
+          rw (fits-field tunnel_kind 0 (tunnel_octets control_flags end.teid end.address (x.behind tunnel_kind)) (omega arith)) (bearer_fits m.context)
 
-  pub delete_fits : (k : Ebi) → every fits (delete_fields k x) ≡ true
+  pub delete_fits : (k : Option ℕ) → every fits (delete_fields k x) ≡ true
   unfolding delete_fields every
-  delete_fits E.Absent = refl
-  delete_fits (E.Given ebi) = let a = s.behind ebi_kind in rw (fits-field ebi_kind 0 (ebi ∷ x.behind ebi_kind) (omega arith))
+  delete_fits None = refl
+  delete_fits (Some ebi) = let a = s.behind ebi_kind in rw (fits-field ebi_kind 0 (ebi ∷ x.behind ebi_kind) (omega arith))

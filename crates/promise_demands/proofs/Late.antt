@@ -1,6 +1,6 @@
 -- That what specs/Late.antt says holds, and what that rests on.
 -- Assumes nothing.
-use Rattle.std.specs.Prelude.{ℕ, ◌≤◌, List, ◌≡◌, length, get_or}
+use Rattle.std.specs.Prelude.{ℕ, ◌≤◌, List, ◌≡◌, length, get_or, Option, Some, None}
 use Rattle.std.proofs.Math.Bool.{false}
 use Rattle.std.proofs.Math.Path.{refl, ap}
 use Rattle.std.proofs.Common.{sym, ◌∙◌}
@@ -12,16 +12,12 @@ use Rattle.unit_session.specs.declared.Session.{Session}
 use Rattle.unit_session.specs.Session.{is_free, has_id, freed, opened}
 use Rattle.unit_table.specs.declared.Node.{Node}
 use Rattle.unit_table.specs.declared.Judged.TheVariants as J
-use Rattle.unit_table.specs.declared.Owner.{Owner}
-use Rattle.unit_table.specs.declared.Owner.TheVariants as F
 use Rattle.unit_table.specs.Rules.{live}
 use Rattle.unit_table.specs.Change.{nobody, changed_at, changed_other}
 use Rattle.unit_table.specs.Find.{found_in, found_is}
 use Rattle.unit_table.specs.Own.{rested}
 use Rattle.unit_table.specs.Recovery.{judged_by, is_restarted, restarted_by, late_by}
 use Rattle.unit_store.specs.Store.{emptied, emptied_none}
-use Rattle.wire_fields.specs.declared.Recovery.{Recovery}
-use Rattle.wire_fields.specs.declared.Recovery.TheVariants as R
 use Rattle.wire_requests.specs.declared.Create as C
 use Rattle.call_asked.specs.declared.Asked.{Asked}
 use Rattle.call_asked.specs.declared.Asked.TheVariants as A
@@ -44,21 +40,21 @@ use Rattle.promise_demands.specs.Late.{create_without, without, is_for, Carries,
 -- ---- a Create whose value is late
 module _ (c : C.Create) (seq : ℕ) (node : Node) (t : List Session) (reply : List ℕ) where
   -- what it carries beside its Recovery is what it is judged by
-  opened_none : (n : Node) (m : List Session) (f : Owner) → opened_at f c seq n m node t reply ≡ opened_at f (create_without c) seq n m node t reply
+  opened_none : (n : Node) (m : List Session) (f : Option ℕ) → opened_at f c seq n m node t reply ≡ opened_at f (create_without c) seq n m node t reply
   unfolding opened_at opening_of create_without
-  opened_none n m F.Nothing = refl
-  opened_none n m (F.At i) = refl
+  opened_none n m None = refl
+  opened_none n m (Some i) = refl
 
   shared_none : (n : Node) (m : List Session) → shared c seq n m node t reply ≡ shared (create_without c) seq n m node t reply
   unfolding shared create_without
   shared_none n m = rw (opened_none n m (found_in is_free m))
 
-  settled_none : (n : Node) (m : List Session) (f : Owner) → settled_at f c seq n m node t reply ≡ settled_at f (create_without c) seq n m node t reply
+  settled_none : (n : Node) (m : List Session) (f : Option ℕ) → settled_at f c seq n m node t reply ≡ settled_at f (create_without c) seq n m node t reply
   unfolding settled_at is_repeat create_without
-  settled_none n m F.Nothing = shared_none n m
-  settled_none n m (F.At i) = rw (shared_none n (changed_at freed i m))
+  settled_none n m None = shared_none n m
+  settled_none n m (Some i) = rw (shared_none n (changed_at freed i m))
 
-  module _ (value : ℕ) (carried : c.recovery ≡ R.Value value) (late : judged_by node value ≡ J.Late) where
+  module _ (value : ℕ) (carried : c.recovery ≡ Some value) (late : judged_by node value ≡ J.Late) where
     create-heard : heard_by c.recovery node t ≡ record { node = node; table = t }
     unfolding heard_by
     create-heard = rw carried (heard_late value node t late)
@@ -76,11 +72,11 @@ module _ (c : C.Create) (seq : ℕ) (node : Node) (t : List Session) (reply : Li
 
     -- a place that is opened was free, and the one that is freed had its IMSI and EBI
     module _ (i : ℕ) (taken : is_free (get_or t i nobody) ≡ false) where
-      opened_stays : (m : List Session) → get_or m i nobody ≡ get_or t i nobody → (n : Node) (f : Owner) → found_in is_free m ≡ f
+      opened_stays : (m : List Session) → get_or m i nobody ≡ get_or t i nobody → (n : Node) (f : Option ℕ) → found_in is_free m ≡ f
           → get_or (opened_at f c seq n m node t reply).table i nobody ≡ get_or t i nobody
       unfolding opened_at accepted_taken no_reply
-      opened_stays m e n F.Nothing g = refl
-      opened_stays m e n (F.At j) g =
+      opened_stays m e n None g = refl
+      opened_stays m e n (Some j) g =
           changed_other (opened (opening_of c seq)) j m i nobody
           (λ z. let y = (found_is is_free m j g).1.1 in impossible (sym taken ∙ rw (← e, z) y)) ∙ e
 
@@ -88,11 +84,11 @@ module _ (c : C.Create) (seq : ℕ) (node : Node) (t : List Session) (reply : Li
       unfolding shared cause_taken
       shared_stays m e n = split (admits n.plan (live m) c.point) (λ q. rw q (opened_stays m e n (found_in is_free m) refl)) (λ q. rw q e)
 
-      settled_stays : has_id c.imsi c.ebi (get_or t i nobody) ≡ false → (n : Node) (f : Owner) → found_in (has_id c.imsi c.ebi) t ≡ f
+      settled_stays : has_id c.imsi c.ebi (get_or t i nobody) ≡ false → (n : Node) (f : Option ℕ) → found_in (has_id c.imsi c.ebi) t ≡ f
           → get_or (settled_at f c seq n t node t reply).table i nobody ≡ get_or t i nobody
       unfolding settled_at accepted_taken
-      settled_stays o n F.Nothing g = shared_stays t refl n
-      settled_stays o n (F.At j) g =
+      settled_stays o n None g = shared_stays t refl n
+      settled_stays o n (Some j) g =
           split (is_repeat c seq (get_or t j nobody)) (λ q. rw q)
           (λ q. rw q (shared_stays (changed_at freed j t)
           (changed_other freed j t i nobody (λ z. let y = (found_is (has_id c.imsi c.ebi) t j g).1.1 in impossible (sym o ∙ rw z y))) n))
@@ -107,16 +103,16 @@ module _ (c : C.Create) (seq : ℕ) (node : Node) (t : List Session) (reply : Li
 
 -- ---- each datagram whose value is late
 module _ (node : Node) (t : List Session) (reply : List ℕ) (value : ℕ) (late : judged_by node value ≡ J.Late) where
-  module _ (r : Recovery) (e : r ≡ R.Value value) where
+  module _ (r : Option ℕ) (e : r ≡ Some value) where
     late_heard : heard_by r node t ≡ record { node = node; table = t }
     unfolding heard_by
     late_heard = rw e (heard_late value node t late)
 
-    late_places : heard_places r node ≡ heard_places R.None node
+    late_places : heard_places r node ≡ heard_places None node
     unfolding heard_places restarts_by is_restarted
     late_places = rw (e, late)
 
-  asked_none : (a : Asked) → recovery_in a ≡ R.Value value → asked_taken node t a reply ≡ asked_taken node t (without a) reply
+  asked_none : (a : Asked) → recovery_in a ≡ Some value → asked_taken node t a reply ≡ asked_taken node t (without a) reply
   unfolding asked_taken recovery_in without echo_taken echo_reply_taken heard_by
   asked_none (A.Silent number) e = refl
   asked_none A.Version e = refl
@@ -128,7 +124,7 @@ module _ (node : Node) (t : List Session) (reply : List ℕ) (value : ℕ) (late
 
   -- of the node no part that the echo leaves
   asked_part : {B : Type 0} (f : Node → B) → ((r : OwnRequest) → f (timed r node.next node) ≡ f node)
-      → (a : Asked) → recovery_in a ≡ R.Value value → f (asked_taken node t a reply).answer.node ≡ f node
+      → (a : Asked) → recovery_in a ≡ Some value → f (asked_taken node t a reply).answer.node ≡ f node
   unfolding asked_taken recovery_in echo_taken echo_reply_taken echo_ended no_reply
   asked_part f k (A.Silent number) e = absurd (none_value value e)
   asked_part f k A.Version e = absurd (none_value value e)
@@ -138,7 +134,7 @@ module _ (node : Node) (t : List Session) (reply : List ℕ) (value : ℕ) (late
   asked_part f k (A.Refused w to seq) e = absurd (none_value value e)
   asked_part f k (A.Session teid seq x) e = absurd (none_value value e)
 
-  asked_stays : (a : Asked) → recovery_in a ≡ R.Value value → (i : ℕ) → is_free (get_or t i nobody) ≡ false → is_for a (get_or t i nobody) ≡ false
+  asked_stays : (a : Asked) → recovery_in a ≡ Some value → (i : ℕ) → is_free (get_or t i nobody) ≡ false → is_for a (get_or t i nobody) ≡ false
       → get_or (asked_taken node t a reply).table i nobody ≡ get_or t i nobody
   unfolding asked_taken recovery_in is_for echo_taken echo_reply_taken echo_ended no_reply
   asked_stays (A.Silent number) e i n o = refl
@@ -150,7 +146,7 @@ module _ (node : Node) (t : List Session) (reply : List ℕ) (value : ℕ) (late
   asked_stays (A.Session teid seq x) e i n o = absurd (none_value value e)
 
 -- ---- what carries a value does not ask the store, and empties it where the value is that of a restart
-value_asks_not : (a : Asked) (value : ℕ) → recovery_in a ≡ R.Value value → of_session a ≡ false
+value_asks_not : (a : Asked) (value : ℕ) → recovery_in a ≡ Some value → of_session a ≡ false
 unfolding recovery_in of_session
 value_asks_not (A.Silent number) value e = refl
 value_asks_not A.Version value e = refl
@@ -160,7 +156,7 @@ value_asks_not (A.Create c seq) value e = refl
 value_asks_not (A.Refused w to seq) value e = refl
 value_asks_not (A.Session teid seq x) value e = absurd (none_value value e)
 
-restarts_as : (a : Asked) (node : Node) (value : ℕ) → recovery_in a ≡ R.Value value → restarts_in a node ≡ is_restarted (judged_by node value)
+restarts_as : (a : Asked) (node : Node) (value : ℕ) → recovery_in a ≡ Some value → restarts_in a node ≡ is_restarted (judged_by node value)
 unfolding recovery_in restarts_in restarts_by
 restarts_as (A.Silent number) node value e = absurd (none_value value e)
 restarts_as A.Version node value e = absurd (none_value value e)

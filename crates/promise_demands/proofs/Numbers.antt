@@ -1,6 +1,6 @@
 -- That what specs/Numbers.antt says holds, and what that rests on.
 -- Assumes nothing.
-use Rattle.std.specs.Prelude.{ℕ, ◌+◌, Bool, true, false, not, ◌&&◌, List, [], ◌∷◌, ◌≡◌, length, get_or, drop, eqb, ltb}
+use Rattle.std.specs.Prelude.{ℕ, ◌+◌, Bool, true, false, not, ◌&&◌, List, [], ◌∷◌, ◌≡◌, length, get_or, drop, eqb, ltb, Option, Some, None, Result, Ok, Err}
 use Rattle.std.proofs.Math.Path.{refl}
 use Rattle.std.proofs.Common.{sym, ◌∙◌, eqb-true, lt-ltb}
 use Rattle.base_octets.specs.Choice.{split, impossible, and_left, and_right, or_split}
@@ -14,8 +14,6 @@ use Rattle.unit_session.specs.declared.Session.{Session}
 use Rattle.unit_session.specs.OwnRequest.{awaits}
 use Rattle.unit_session.specs.Session.{is_free, has_id, waits_for, freed}
 use Rattle.unit_table.specs.declared.Node.{Node}
-use Rattle.unit_table.specs.declared.Owner.{Owner}
-use Rattle.unit_table.specs.declared.Owner.TheVariants as F
 use Rattle.unit_table.specs.Rules.{keeps_rules, rules_of, rules_to, live}
 use Rattle.unit_table.specs.Change.{nobody, changed_at, rules-freed}
 use Rattle.unit_table.specs.Find.{place_found, found_in, owner_of}
@@ -31,21 +29,11 @@ use Rattle.wire_messages.specs.Types.{create_type, modify_reply_type, delete_rep
 use Rattle.wire_header.specs.Header.{header_of, version_of, flag_p, flag_t, kind_of, length_of, teid_of, header_size}
 use Rattle.wire_header.specs.Gate.{refused_with, gate_of, control_version}
 use Rattle.wire_requests.specs.Carried as carried
-use Rattle.wire_requests.specs.declared.EchoReply.{EchoReply}
-use Rattle.wire_requests.specs.declared.EchoReply.TheVariants as E
-use Rattle.wire_requests.specs.declared.BearerReply.{BearerReply}
-use Rattle.wire_requests.specs.declared.BearerReply.TheVariants as B
 use Rattle.wire_requests.specs.declared.Create as C
-use Rattle.wire_requests.specs.declared.Decoded.{Decoded}
-use Rattle.wire_requests.specs.declared.Decoded.TheVariants as R
 use Rattle.wire_requests.specs.declared.Request.TheVariants as Q
 use Rattle.wire_requests.specs.Create.{create_of}
 use Rattle.wire_requests.specs.declared.Modify as M
 use Rattle.wire_requests.specs.declared.Delete as D
-use Rattle.wire_requests.specs.declared.Context.{Context}
-use Rattle.wire_requests.specs.declared.Context.TheVariants as X
-use Rattle.wire_fields.specs.declared.Tunnel.{Tunnel}
-use Rattle.wire_fields.specs.declared.Tunnel.TheVariants as T
 use Rattle.wire_requests.specs.Change.{modify_of, delete_of, end_moves, context_moves, moves_of, means_of}
 use Rattle.call_asked.specs.Answers.{number_for, create_numbers, modify_numbers, delete_numbers, create-answers, modify_answers}
 use Rattle.call_asked.proofs.DeleteAnswers.{delete_answers}
@@ -62,10 +50,17 @@ use Rattle.call_control.specs.Amends.{cause_taken, cause_on, not_live, moved_on,
 use Rattle.call_control.specs.Creates.{accepted_taken, no_room, opened_at, shared, is_repeat, settled_at, heard_create, create_taken}
 use Rattle.call_control.specs.Control.{asked_taken, control_taken}
 use Rattle.call_line.specs.Line.{line_by, line_of}
-use Rattle.wire_fields.specs.Refusal.{not_live_cause, short_cause, wrong_cause, missing_cause}
+use Rattle.wire_fields.specs.Refusal.{refusal_of, not_live_cause, short_cause, wrong_cause, missing_cause}
 use Rattle.call_store.specs.Stored.{kept_for}
 use Rattle.call_store.specs.Laws.{keeps_table, keeps_store, tick_keeping, send_sound, close_sound, line_sound, fresh_counted, control_by, answering}
 use Rattle.promise_demands.specs.Numbers.{fresh_numbers, tick_numbers, close_numbers, send_numbers, line_numbers, control_numbers, silent_numbers, created_numbers, ConcernKnown, AskedKnown, FreshNumbers, TickNumbers, CloseNumbers, SendNumbers, LineNumbers, ControlNumbers}
+use Rattle.wire_fields.specs.declared.Flaw.{Flaw}
+use Rattle.wire_fields.specs.declared.Tunnel.{Tunnel}
+use Rattle.wire_requests.specs.declared.Context.{Context}
+use Rattle.wire_requests.specs.declared.Request.{Request}
+use Rattle.wire_fields.specs.declared.Flaw.TheVariants.{Missing, Short, Wrong}
+use Rattle.wire_requests.specs.declared.Unreadable.{Unreadable}
+use Rattle.wire_requests.specs.Chain.{Decoded, if_present}
 
 -- ---- laws of lists of numbers
 -- a number of one list is a number of a list that has all of it
@@ -118,27 +113,27 @@ AnsweredOn d = among d.number control_numbers ≡ true
 
 module _ (seq : ℕ) (s : Session) where
   modify_number : (m : M.Modify) → AnsweredOn (modify_on m seq s)
-  unfolding modify_on modify_by moved_on cause_on moves_of context_moves end_moves control_numbers
+  unfolding modify_on modify_by moved_on cause_on moves_of context_moves end_moves refusal_of control_numbers
   modify_number m = by m.context m.context
     where
-      end : (x : Context) (f : Tunnel) → AnsweredOn (modify_by (end_moves m.control f) x seq s)
-      end x (T.Value teid address) = refl
-      end x T.Missing = refl
-      end x T.Short = refl
-      end x T.Wrong = refl
+      end : (x : Option Context) (r : Result (Option Tunnel) Flaw) → AnsweredOn (modify_by (end_moves m.control r) x seq s)
+      end x (Ok user) = refl
+      end x (Err Missing) = refl
+      end x (Err Short) = refl
+      end x (Err Wrong) = refl
 
-      by : (x y : Context) → AnsweredOn (modify_by (context_moves m.control y s.ebi) x seq s)
-      by x X.Absent = refl
-      by x (X.Present ebi f) = split (eqb ebi s.ebi) (λ e. rw e (end x f)) (λ e. rw e)
+      by : (x y : Option Context) → AnsweredOn (modify_by (context_moves m.control y s.ebi) x seq s)
+      by x None = refl
+      by x (Some context) = split (eqb context.ebi s.ebi) (λ e. rw e (end x (if_present context.user))) (λ e. rw e)
 
   delete_number : (d : D.Delete) → AnsweredOn (delete_on d seq s)
   unfolding delete_on freed_on cause_on not_live control_numbers
   delete_number d = split (means_of d s.ebi) (λ e. rw e) (λ e. rw e)
 
-  bearer_number : (b : BearerReply) → AnsweredOn (bearer_on b seq s)
+  bearer_number : (b : Result ℕ Unreadable) → AnsweredOn (bearer_on b seq s)
   unfolding bearer_on bare_on control_numbers
-  bearer_number B.Unreadable = refl
-  bearer_number (B.Cause cause) = split (waits_for seq s) (λ e. rw e) (λ e. rw e)
+  bearer_number (Err u) = refl
+  bearer_number (Ok cause) = split (waits_for seq s) (λ e. rw e) (λ e. rw e)
 
   live_number : (x : Concern) → ConcernKnown x → AnsweredOn (concern_on x seq s)
   unfolding concern_on cause_on ConcernKnown create_numbers control_numbers every
@@ -159,7 +154,7 @@ module _ (seq : ℕ) (s : Session) where
   session_number x h = split (is_free s) (λ e. rw e (none_number x)) (λ e. rw e (live_number x h))
 
 -- whoever the sharing rule admits finds a place: this is where 11 falls away
-free_found : (node : Node) (l : List Session) (a : ℕ) → keeps_rules node l ≡ true → admits node.plan (live l) a ≡ true → found_in is_free l ≡ F.At (free_place l)
+free_found : (node : Node) (l : List Session) (a : ℕ) → keeps_rules node l ≡ true → admits node.plan (live l) a ≡ true → found_in is_free l ≡ Some (free_place l)
 unfolding found_in free_place
 free_found node l a e q =
     rw (lt-ltb (first_of is_free l) (length l) (place_free node.plan node.echo node.next l (rules_of node l e) a q))
@@ -174,10 +169,10 @@ module _ (c : C.Create) (seq : ℕ) (node₀ : Node) (t₀ : List Session) (repl
   shared_number node t e =
       split (admits node.plan (live t) c.point) (λ q. rw (q, free_found node t c.point e q)) (λ q. rw q)
 
-  settled_number : (node : Node) (t : List Session) → keeps_rules node t ≡ true → (f : Owner) → Created (settled_at f c seq node t node₀ t₀ reply)
+  settled_number : (node : Node) (t : List Session) → keeps_rules node t ≡ true → (f : Option ℕ) → Created (settled_at f c seq node t node₀ t₀ reply)
   unfolding settled_at accepted_taken created_numbers
-  settled_number node t e F.Nothing = shared_number node t e
-  settled_number node t e (F.At i) =
+  settled_number node t e None = shared_number node t e
+  settled_number node t e (Some i) =
       split (is_repeat c seq (get_or t i nobody)) (λ x. rw x)
       (λ x. rw x (shared_number node (changed_at freed i t)
       (rules_to node (changed_at freed i t) (rules-freed node.plan node.echo node.next t (rules_of node t e) i))))
@@ -221,15 +216,15 @@ module _ (node : Node) (h : HeaderCursor) (rest : List ℕ) where
   request_known : (d : Decoded) (refused : Refusal → Asked) → ((w : Refusal) → among w.cause create_numbers ≡ true → AskedKnown (refused w))
       → among (number_for d) create_numbers ≡ true → AskedKnown (request_asked h d refused)
   unfolding AskedKnown ConcernKnown request_asked sound_asked session_asked number_for
-  request_known (R.Refused w) refused k e = k w e
-  request_known (R.Sound (Q.Create c)) refused k e = tt
-  request_known (R.Sound (Q.Modify m)) refused k e = tt
-  request_known (R.Sound (Q.Delete d)) refused k e = tt
+  request_known (Err w) refused k e = k w e
+  request_known (Ok (Q.Create c)) refused k e = tt
+  request_known (Ok (Q.Modify m)) refused k e = tt
+  request_known (Ok (Q.Delete d)) refused k e = tt
 
-  end_known : (r : EchoReply) → AskedKnown (end_asked r h.sequence node)
+  end_known : (r : Result (Option ℕ) Unreadable) → AskedKnown (end_asked r h.sequence node)
   unfolding AskedKnown end_asked silent_numbers
-  end_known E.Unreadable = refl
-  end_known (E.Carries recovery) = split (awaits h.sequence node.echo) (λ q. rw q tt) (λ q. rw q)
+  end_known (Err u) = refl
+  end_known (Ok recovery) = split (awaits h.sequence node.echo) (λ q. rw q tt) (λ q. rw q)
 
   kind_known : (k : Kind) → AskedKnown (kind_asked k h rest node)
   unfolding AskedKnown ConcernKnown kind_asked create_refused change_refused session_asked create_numbers modify_numbers delete_numbers silent_numbers every

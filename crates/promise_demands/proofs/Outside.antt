@@ -1,6 +1,6 @@
 -- That what specs/Outside.antt says holds, and what that rests on.
 -- Assumes nothing.
-use Rattle.std.specs.Prelude.{ℕ, ◌<◌, false, ◌&&◌, List, [], ◌≡◌, refl, length, eqb, ltb}
+use Rattle.std.specs.Prelude.{ℕ, ◌<◌, false, ◌&&◌, List, [], ◌≡◌, refl, length, eqb, ltb, Option}
 use Rattle.std.proofs.Math.Bool.{true, not}
 use Rattle.std.proofs.Common.{sym, ◌∙◌, arith}
 use Rattle.std.proofs.Math.ListN.{get_or}
@@ -23,7 +23,6 @@ use Rattle.unit_table.specs.Number.{taken_number}
 use Rattle.unit_table.specs.Own.{due_place, fresh_node}
 use Rattle.unit_store.specs.Row.{store_rows, number_in, octets_in}
 use Rattle.unit_store.specs.Store.{store_ok}
-use Rattle.wire_fields.specs.declared.Recovery.{Recovery}
 use Rattle.wire_requests.specs.declared.Create as C
 use Rattle.call_asked.specs.declared.Asked.{Asked}
 use Rattle.call_asked.specs.declared.Asked.TheVariants as A
@@ -70,7 +69,7 @@ session_lies : (t : List Session) (i : ℕ) → Lies (session_place t i)
 unfolding session_place
 session_lies t i = split (is_free (get_or t i nobody)) (λ e. rw e none_lies) (λ e. rw e (one_lies i))
 
-heard_lies : (r : Recovery) (node : Node) → Lies (heard_places r node)
+heard_lies : (r : Option ℕ) (node : Node) → Lies (heard_places r node)
 unfolding heard_places
 heard_lies r node = split (restarts_by r node) (λ e. rw e all_lies) (λ e. rw e none_lies)
 

@@ -1,6 +1,6 @@
 -- That what specs/Packets.antt says holds, and what that rests on.
 -- Assumes nothing.
-use Rattle.std.specs.Prelude.{ℕ, true, not, List, ◌≢◌, ◌≡◌, length, get_or, eqb, ltb}
+use Rattle.std.specs.Prelude.{ℕ, true, not, List, ◌≢◌, ◌≡◌, length, get_or, eqb, ltb, Option, Some, None}
 use Rattle.std.proofs.Math.Path.{refl}
 use Rattle.std.proofs.Common.{arith}
 use borrow.Author.Tests.{eqb-true, eqb-false, ltb-true, ltb-false, not-true}
@@ -9,8 +9,6 @@ use Rattle.unit_tunnel.specs.Numbering.{places, user_offset}
 use Rattle.unit_tunnel.specs.Tunnel.{user_number}
 use Rattle.unit_session.specs.declared.Session.{Session}
 use Rattle.unit_session.specs.Session.{is_free}
-use Rattle.unit_table.specs.declared.Owner.{Owner}
-use Rattle.unit_table.specs.declared.Owner.TheVariants as F
 use Rattle.unit_table.specs.Rules.{rules_of}
 use Rattle.unit_table.specs.Change.{nobody}
 use Rattle.unit_table.specs.Find.{owner_of, bears, first_is}
@@ -26,7 +24,7 @@ use Rattle.promise_demands.specs.Run.{Kept}
 use Rattle.promise_demands.proofs.Run.{kept_table, kept_store}
 use Rattle.promise_demands.specs.Packets.{took_of, Fairly, LiveOnly, Owns}
 
-owns : (n place : ℕ) (l : List Session) → owner_of user_offset n l ≡ F.At place → Owns n place l
+owns : (n place : ℕ) (l : List Session) → owner_of user_offset n l ≡ Some place → Owns n place l
 unfolding owner_of bears
 owns n place l e =
     let f = first_is (bears user_offset n) place l e in
@@ -51,10 +49,10 @@ module _ (s : State) (k : Kept s) (size : length s.table ≡ places) (d reply : 
   silent_fair : (n : ℕ) → n ≢ 0 → Fairly s d (took n 0 0 reply (length d))
   silent_fair n h = record { handed = λ e f. absurd (h e); refused = λ e. refl; replied = λ e. refl }
 
-  packet_fair : type_of d ≡ 255 → (f : Owner) → owner_of user_offset (user_teid_of d) s.table ≡ f
+  packet_fair : type_of d ≡ 255 → (f : Option ℕ) → owner_of user_offset (user_teid_of d) s.table ≡ f
       → Fairly s d (packet_taken f (user_teid_of d) s.node.plan.user (user_of d).size (length d) reply)
   unfolding packet_taken places
-  packet_fair g (F.At place) e =
+  packet_fair g (Some place) e =
       let o = owns (user_teid_of d) place s.table e in
       let t = o.there in
       record {
@@ -62,7 +60,7 @@ module _ (s : State) (k : Kept s) (size : length s.table ≡ places) (d reply : 
         refused = λ a. absurd (a refl);
         replied = λ a. absurd (a refl);
       }
-  packet_fair g F.Nothing e = record { handed = λ a b. absurd (omega arith); refused = λ a. refl; replied = λ a. refl }
+  packet_fair g None e = record { handed = λ a b. absurd (omega arith); refused = λ a. refl; replied = λ a. refl }
 
   header_fair : refusal_of d ≡ 0 → Fairly s d (header_taken s.node s.table (user_header_of d) (user_of d).size (length d) reply)
   unfolding header_taken

@@ -1,6 +1,6 @@
 -- That what specs/Pairs.antt says holds, and what that rests on.
 -- Assumes nothing.
-use Rattle.std.specs.Prelude.{ℕ, ◌+◌, ◌≤◌, max, Bool, true, false, ◌&&◌, ◌||◌, List, [], ◌∷◌, ◌≡◌, refl, length, get_or, ltb}
+use Rattle.std.specs.Prelude.{ℕ, ◌+◌, ◌≤◌, max, Bool, true, false, ◌&&◌, ◌||◌, List, [], ◌∷◌, ◌≡◌, refl, length, get_or, ltb, Some, None}
 use Rattle.std.proofs.Common.{sym, ◌∙◌, ap, arith, le-ltb}
 use Rattle.base_octets.specs.Overlay.{overlay}
 use Rattle.base_octets.specs.Below.{sum_to}
@@ -15,7 +15,6 @@ use Rattle.wire_header.specs.Header.{version_of}
 use Rattle.wire_header.specs.Gate.{gate_of, control_version}
 use Rattle.unit_plan.specs.Limits.{parties}
 use Rattle.unit_sharing.specs.Sharing.{share, sharable, admitted, admits, guarantee_at, ceiling_at}
-use Rattle.unit_table.specs.declared.Owner.TheVariants as F
 use Rattle.unit_table.specs.Rules.{rules_of}
 use Rattle.unit_table.specs.Find.{owner_of, held_in, owner_is}
 use Rattle.wire_messages.specs.Messages.{version_not_supported, error_indication}
@@ -36,7 +35,7 @@ use Rattle.promise_demands.specs.Pairs.{Lives, Shares, Holds, pairs, AllHold, Pa
 
 -- ---- what shows a row
 -- a control number is nobody's user number
-nobody_has : (s : State) → Kept s → owner_of user_offset 256 s.table ≡ F.Nothing
+nobody_has : (s : State) → Kept s → owner_of user_offset 256 s.table ≡ None
 unfolding holder_of numbersOf held_in places base user_offset
 nobody_has s k = let z = (rules_of s.node s.table (kept_table s k)).size in owner_is user_offset 256 s.table user_fits (omega arith)
 
@@ -47,8 +46,8 @@ handed_up_lem : (d : List ℕ) (start : ℕ) → (user_of d).number ≡ 0 → (u
     → (s : State) (reply : List ℕ) → Lives s reply → user_stored s.node s.table s.store d reply ≡ took 0 0 0 reply start
 unfolding header_taken packet_taken least_reply number_at base user_offset places
 handed_up_lem d start n z q s reply h =
-    let own : owner_of user_offset (user_number (at s 0).usage 0) s.table ≡ F.At 0 = live_owner s h.kept 0 (omega arith) h.live in
-    let o : owner_of user_offset 384 s.table ≡ F.At 0 = rw h.usage at own in
+    let own : owner_of user_offset (user_number (at s 0).usage 0) s.table ≡ Some 0 = live_owner s h.kept 0 (omega arith) h.live in
+    let o : owner_of user_offset 384 s.table ≡ Some 0 = rw h.usage at own in
     sound s h.kept d reply ∙ user_read_lem s.node s.table d reply h.room (kept_table s h.kept) n ∙ rw (q, o, z)
 
 refused_so : (d : List ℕ) (number : ℕ) → (user_of d).number ≡ number → (number ≡ 0 → ⊥) → (s : State) (reply : List ℕ) → Lives s reply
@@ -58,7 +57,7 @@ refused_so d number e n s reply h =
     sound s h.kept d reply ∙ user_unread s.node s.table d reply h.room (kept_table s h.kept) (λ z. n (sym e ∙ z)) ∙ ap (λ (k : ℕ). silent k (length d) reply) e
 
 unknown_so : (d : List ℕ) (teid : ℕ) → (user_of d).number ≡ 0 → user_header_of d ≡ H.Packet (record { 0 = teid })
-    → (s : State) (reply : List ℕ) → Lives s reply → owner_of user_offset teid s.table ≡ F.Nothing
+    → (s : State) (reply : List ℕ) → Lives s reply → owner_of user_offset teid s.table ≡ None
     → user_stored s.node s.table s.store d reply ≡ user_replied 15 (error_indication teid s.node.plan.user) (length d) reply
 unfolding header_taken packet_taken least_reply
 unknown_so d teid n q s reply h o = sound s h.kept d reply ∙ user_read_lem s.node s.table d reply h.room (kept_table s h.kept) n ∙ rw (q, o)

@@ -1,6 +1,6 @@
 -- That what specs/Place.antt says holds, and what that rests on.
 -- Assumes nothing.
-use Rattle.std.specs.Prelude.{ℕ, ◌<◌, true, false, List, ◌≢◌, ◌≡◌, length, get_or, eqb, ltb}
+use Rattle.std.specs.Prelude.{ℕ, ◌<◌, true, false, List, ◌≢◌, ◌≡◌, length, get_or, eqb, ltb, Option, Some, None, Result, Ok, Err}
 use Rattle.std.proofs.Math.Path.{refl}
 use Rattle.std.proofs.Common.{sym, ◌∙◌, arith, ne_eqb}
 use Rattle.std.proofs.lemmas.List.{length-map}
@@ -14,21 +14,14 @@ use Rattle.unit_session.specs.declared.Opening.{Opening}
 use Rattle.unit_session.specs.declared.Peers.{Peers}
 use Rattle.unit_session.specs.Session.{is_free, has_id, waits_for, blank_at, freed, opened, moved}
 use Rattle.unit_table.specs.declared.Node.{Node}
-use Rattle.unit_table.specs.declared.Owner.{Owner}
-use Rattle.unit_table.specs.declared.Owner.TheVariants as F
 use Rattle.unit_table.specs.Rules.{keeps_rules, live}
 use Rattle.unit_table.specs.Change.{at_changed, nobody, changed_at, length_changed}
 use Rattle.unit_table.specs.Find.{place_found, found_in, owner_of}
-use Rattle.wire_fields.specs.declared.Recovery.{Recovery}
-use Rattle.wire_requests.specs.declared.BearerReply.{BearerReply}
-use Rattle.wire_requests.specs.declared.BearerReply.TheVariants as B
 use Rattle.wire_requests.specs.declared.Create as C
 use Rattle.call_own.specs.Outcome.{bare_on, on_owner, least_reply, no_reply}
 use Rattle.call_own.specs.OnSession.{on_at}
 use Rattle.wire_requests.specs.declared.Modify as M
 use Rattle.wire_requests.specs.declared.Delete as D
-use Rattle.wire_requests.specs.declared.Moves.{Moves}
-use Rattle.wire_requests.specs.declared.Moves.TheVariants as N
 use Rattle.wire_requests.specs.Change.{moves_of, means_of}
 use Rattle.call_asked.specs.declared.Concern.{Concern}
 use Rattle.call_asked.specs.declared.Concern.TheVariants as S
@@ -40,6 +33,9 @@ use Rattle.call_control.specs.Amends.{peers_of, cause_taken, cause_on, moved_on,
 use Rattle.call_control.specs.Creates.{opening_of, accepted_taken, opened_at, shared, is_repeat, settled_at, heard_create, create_taken}
 use Rattle.call_control.specs.Control.{asked_taken, control_taken}
 use Rattle.promise_demands.specs.Place.{gone, After}
+use Rattle.wire_requests.specs.declared.Moves.{Moves}
+use Rattle.wire_fields.specs.declared.Refusal.{Refusal}
+use Rattle.wire_requests.specs.declared.Unreadable.{Unreadable}
 
 -- and, so far, no new one has come
 record Left (s x : Session) : Type 0 where
@@ -85,18 +81,18 @@ module _ (s : Session) (seq : ℕ) where
   unfolding modify_on modify_by moved_on cause_on
   modify_after m = by (moves_of m s.ebi)
     where
-      by : (x : Moves) → After s (modify_by x m.context seq s).session
-      by (N.Refused w) = same
-      by (N.To c u) = moved-after s s (peers_of c u s) (left_same s)
+      by : (x : Result Moves Refusal) → After s (modify_by x m.context seq s).session
+      by (Err w) = same
+      by (Ok moves) = moved-after s s (peers_of moves.control moves.user s) (left_same s)
 
   delete_after : (d : D.Delete) → After s (delete_on d seq s).session
   unfolding delete_on freed_on cause_on
   delete_after d = split (means_of d s.ebi) (λ e. rw e (freed-after s s)) (λ e. rw e same)
 
-  bearer_after : (b : BearerReply) → After s (bearer_on b seq s).session
+  bearer_after : (b : Result ℕ Unreadable) → After s (bearer_on b seq s).session
   unfolding bearer_on bare_on
-  bearer_after B.Unreadable = same
-  bearer_after (B.Cause c) = split (waits_for seq s) (λ e. rw e (freed-after s s)) (λ e. rw e same)
+  bearer_after (Err u) = same
+  bearer_after (Ok c) = split (waits_for seq s) (λ e. rw e (freed-after s s)) (λ e. rw e same)
 
   live-after : (x : Concern) → After s (concern_on x seq s).session
   unfolding concern_on cause_on
@@ -124,14 +120,14 @@ module _ (i : ℕ) (l₀ : List Session) where
   freed-at l j h q = at_changed (Left s₀) freed l i j h q (λ e. left-freed s₀ (get_or l i nobody) q.usage)
 
   -- Recovery
-  heard-at : (r : Recovery) (node : Node) (t : List Session) → t ≡ l₀ → i < length l₀ → Left s₀ (get_or (heard_by r node t).table i nobody)
+  heard-at : (r : Option ℕ) (node : Node) (t : List Session) → t ≡ l₀ → i < length l₀ → Left s₀ (get_or (heard_by r node t).table i nobody)
   heard-at r node t e h =
       rw (heard_either r node t)
       (split (restarts_by r node)
       (λ q. rw (q, e, map_at freed l₀ i nobody nobody h) (left-freed s₀ s₀ refl))
       (λ q. rw (q, e) (left_same s₀)))
 
-heard-length : (r : Recovery) (node : Node) (t : List Session) → length (heard_by r node t).table ≡ length t
+heard-length : (r : Option ℕ) (node : Node) (t : List Session) → length (heard_by r node t).table ≡ length t
 heard-length r node t =
     rw (heard_either r node t) (split (restarts_by r node) (λ q. rw (q, length-map t freed)) (λ q. rw q))
 
@@ -140,7 +136,7 @@ module _ (i : ℕ) (node : Node) (t : List Session) (h : i < length t) where
   abbrev here : Session
   here = get_or t i nobody
 
-  echo_reply_at : (r : Recovery) (reply : List ℕ) → After here (get_or (echo_reply_taken node t r reply).table i nobody)
+  echo_reply_at : (r : Option ℕ) (reply : List ℕ) → After here (get_or (echo_reply_taken node t r reply).table i nobody)
   unfolding echo_reply_taken echo_ended no_reply
   echo_reply_at r reply = (heard-at i t r node t refl h).after
 
@@ -151,15 +147,15 @@ module _ (i : ℕ) (node : Node) (t : List Session) (h : i < length t) where
     unfolding shared opened_at accepted_taken cause_taken no_reply
     shared_at n m k q = split (admits n.plan (live m) c.point) (λ a. rw a (place (found_in is_free m))) (λ a. rw a q.after)
       where
-        place : (f : Owner) → After here (get_or (opened_at f c seq n m node t reply).table i nobody)
-        place F.Nothing = (left_same here).after
-        place (F.At j) = at_changed (After here) (opened (opening_of c seq)) m i j k q.after (λ e. opened_after here (get_or m i nobody) (opening_of c seq) q.usage)
+        place : (f : Option ℕ) → After here (get_or (opened_at f c seq n m node t reply).table i nobody)
+        place None = (left_same here).after
+        place (Some j) = at_changed (After here) (opened (opening_of c seq)) m i j k q.after (λ e. opened_after here (get_or m i nobody) (opening_of c seq) q.usage)
 
-    settled_at_lem : (n : Node) (b : List Session) → i < length b → Left here (get_or b i nobody) → (f : Owner)
+    settled_at_lem : (n : Node) (b : List Session) → i < length b → Left here (get_or b i nobody) → (f : Option ℕ)
         → After here (get_or (settled_at f c seq n b node t reply).table i nobody)
     unfolding settled_at accepted_taken
-    settled_at_lem n b k q F.Nothing = shared_at n b k q
-    settled_at_lem n b k q (F.At j) =
+    settled_at_lem n b k q None = shared_at n b k q
+    settled_at_lem n b k q (Some j) =
         split (is_repeat c seq (get_or b j nobody)) (λ x. rw x q.after)
         (λ x. rw x (shared_at n (changed_at freed j b) (let z = length_changed freed j b in omega arith) (freed-at i t b j k q)))
 

@@ -1,6 +1,6 @@
 -- That what specs/Repeats.antt says holds, and what that rests on.
 -- Assumes nothing.
-use Rattle.std.specs.Prelude.{ℕ, ◌%◌, ◌<◌, ◌≤◌, Bool, true, false, List, map, ◌≡◌, length, get_or, drop}
+use Rattle.std.specs.Prelude.{ℕ, ◌%◌, ◌<◌, ◌≤◌, Bool, true, false, List, map, ◌≡◌, length, get_or, drop, Some, Option, Ok}
 use Rattle.std.proofs.Math.Path.{refl, ap}
 use Rattle.std.proofs.Common.{sym, ◌∙◌}
 use native.Mathlib.Omega.{arith}
@@ -10,7 +10,6 @@ use Rattle.base_octets.specs.Search.{first_of, first_passes, first-before}
 use Rattle.base_octets.specs.Sums.{count_of}
 use Rattle.unit_tunnel.specs.Numbering.{places}
 use Rattle.unit_plan.specs.declared.Plan.{Plan}
-use Rattle.wire_fields.specs.declared.Recovery.{Recovery}
 use Rattle.unit_sharing.specs.Sharing.{admits}
 use Rattle.unit_plan.specs.Plan.{accepted, parties_four}
 use Rattle.base_octets.specs.Every.{every}
@@ -26,12 +25,10 @@ use Rattle.call_control.specs.Creates.{opening_of, accepted_taken, is_repeat, se
 use Rattle.call_own.specs.Outcome.{least_reply, no_places, changing, Outcome, Held}
 use Rattle.unit_session.specs.declared.Session.{Session}
 use Rattle.unit_table.specs.declared.Node.{Node}
-use Rattle.unit_table.specs.declared.Owner.TheVariants as F
 use Rattle.unit_table.specs.Rules.{Rules, rules_of}
 use Rattle.unit_table.specs.Find.{found_in, found_only, found_is}
 use Rattle.wire_header.specs.Header.{header_of}
 use Rattle.wire_requests.specs.declared.Create as C
-use Rattle.wire_requests.specs.declared.Decoded.TheVariants as D
 use Rattle.wire_requests.specs.declared.Request.TheVariants as Q
 use Rattle.wire_requests.specs.Create.{create_of}
 use Rattle.call_control.specs.Echoes.{heard_by, heard_node, heard_plan, heard-keeps, restarts_by, heard_either, heard-freed, heard_same, heard_twice, heard_once}
@@ -47,7 +44,7 @@ use Rattle.base_octets.specs.Places.{map_at}
 use Rattle.promise_demands.specs.Repeats.{RepeatsAnswered, AgainTheSame}
 
 -- where one has it at most, who has it is found
-found_it : (p : Session → Bool) (l : List Session) (i : ℕ) → count_of p l ≤ 1 → i < length l → p (get_or l i nobody) ≡ true → found_in p l ≡ F.At i
+found_it : (p : Session → Bool) (l : List Session) (i : ℕ) → count_of p l ≤ 1 → i < length l → p (get_or l i nobody) ≡ true → found_in p l ≡ Some i
 unfolding found_in
 found_it p l i once h e =
     let b = first-before p l i nobody h e in
@@ -56,7 +53,7 @@ found_it p l i once h e =
     rw (lt-ltb (first_of p l) (length l) k, s)
 
 module _ (p : Plan) (s : State) (kept : Kept s) (plan : s.node.plan ≡ p) (d : List ℕ) (c : C.Create) (n : SoundCreate p d c) (reply : List ℕ) (room : least_reply ≤ length reply) where
-  decoded : create_of s.node.plan (drop (header_of d).fields d) ≡ D.Sound (Q.Create c)
+  decoded : create_of s.node.plan (drop (header_of d).fields d) ≡ Ok (Q.Create c)
   decoded = rw plan n.fields
 
   rules : Rules (heard c s).node.plan (heard c s).node.echo (heard c s).node.next (heard c s).table
@@ -67,14 +64,14 @@ module _ (p : Plan) (s : State) (kept : Kept s) (plan : s.node.plan ≡ p) (d : 
   asked_is = rw (n.header, n.kind, decoded)
 
   -- it changes no place: a restart would have left nobody
-  none_restarts : (i : ℕ) → i < length s.table → found_in (has_id c.imsi c.ebi) (heard c s).table ≡ F.At i → restarts_by c.recovery s.node ≡ false
+  none_restarts : (i : ℕ) → i < length s.table → found_in (has_id c.imsi c.ebi) (heard c s).table ≡ Some i → restarts_by c.recovery s.node ≡ false
   none_restarts i h f = split (restarts_by c.recovery s.node)
       (λ q. let same = ap (λ (x : Held). x.table) (heard-freed c.recovery s.node s.table q) in
       let g = found_is (has_id c.imsi c.ebi) (map freed s.table) i (rw same at f) in
       impossible (sym (freed_none c.imsi c.ebi (get_or s.table i nobody)) ∙ rw (map_at freed s.table i nobody nobody h) at g.1.1))
       (λ q. q)
 
-  places_none : (i : ℕ) → i < length s.table → found_in (has_id c.imsi c.ebi) (heard c s).table ≡ F.At i
+  places_none : (i : ℕ) → i < length s.table → found_in (has_id c.imsi c.ebi) (heard c s).table ≡ Some i
       → is_repeat c (header_of d).sequence (get_or (heard c s).table i nobody) ≡ true → create_places c (header_of d).sequence s.node s.table ≡ no_places
   unfolding create_places opened_places
   places_none i h f b =
@@ -124,7 +121,7 @@ kept_same : (a b : State) → a ≡ b → Kept a → Kept b
 kept_same a b e k = rw (← e) k
 
 -- ---- a Recovery value that is stored already does nothing
-heard_again : (r : Recovery) (node : Node) (t t₁ : List Session)
+heard_again : (r : Option ℕ) (node : Node) (t t₁ : List Session)
     → ((heard_by r (heard_by r node t).node t₁).node ≡ (heard_by r node t).node) × ((heard_by r (heard_by r node t).node t₁).table ≡ t₁)
 heard_again r node t t₁ =
     rw (heard_either r node t, heard_either r (heard_node r node) t₁, heard_twice r node, heard_once r node) (refl, refl)

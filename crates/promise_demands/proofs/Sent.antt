@@ -1,22 +1,22 @@
 -- That what specs/Sent.antt says holds, and what that rests on.
 -- Assumes nothing.
-use Rattle.std.specs.Prelude.{ℕ, suc, ◌+◌, ◌%◌, ◌<◌, true, false, ◌&&◌, List, [], ◌∷◌, ◌++◌, ◌≡◌, refl, length, eqb}
+use Rattle.std.specs.Prelude.{ℕ, suc, ◌+◌, ◌%◌, ◌<◌, true, false, ◌&&◌, List, [], ◌∷◌, ◌++◌, ◌≡◌, refl, length, eqb, Some, None, Option}
 use Rattle.std.proofs.Common.{append_assoc, sym, add-zero, add-suc, suc-add, arith, length-append, le-leb, ltb-true}
 use Rattle.std.proofs.Math.Seq.{take-append_seam, drop-append-add}
 use Rattle.base_octets.specs.Choice.{split, and_left, and_right}
 use Rattle.base_octets.specs.Every.{every}
 use Rattle.base_octets.specs.BigEndian.{number_of, octets_of, number_back}
-use Rattle.wire_fields.specs.Walk.{Field, part, fields_from, over_from, fields_of, overruns}
+use Rattle.wire_fields.specs.declared.Field.{Field}
+use Rattle.wire_fields.specs.Walk.{found, part, fields_from, over_from, fields_of, overruns}
 use Rattle.wire_fields.specs.Search.{find, first_in}
-use Rattle.wire_fields.specs.declared.Found.TheVariants as F
-use Rattle.promise_demands.specs.Sent.{Sent, fits, sent_octets, None, Of, first_sent, SentIsFound}
+use Rattle.promise_demands.specs.Sent.{Sent, fits, sent_octets, first_sent, SentIsFound}
 
 -- ---- the walk over the octets of fields: one field after the other
 -- where the fields stand, from a place on
 unfoldable laid : List Sent → ℕ → List Field
 laid [] at = []
 laid (f ∷ l) at =
-    record { kind = f.kind; inst = f.fourth % 16; start = at + 4; size = length f.value } ∷ laid l (at + 4 + length f.value)
+    record { kind = f.kind; instance = f.fourth % 16; found = found (at + 4) (length f.value) } ∷ laid l (at + 4 + length f.value)
 
 -- the octets before a value, and the length that they state
 unfoldable before : Sent → List ℕ
@@ -57,10 +57,10 @@ over-laid (f ∷ l) e =
 -- ---- the search: what is first in the list is found, behind whatever stands before the list
 record Lies (front : List ℕ) (l : List Sent) (kind inst : ℕ) (v : List ℕ) : Type 0 where
   pub start : ℕ
-  pub found : first_in (laid l (length front)) kind inst ≡ F.At start (length v)
+  pub found : first_in (laid l (length front)) kind inst ≡ Some (record { start = start; size = length v })
   pub octets : part (front ++ sent_octets l) start (length v) ≡ v
 
-none_not : {A : Type 0} (v : List ℕ) → None ≡ Of v → A
+none_not : {A : Type 0} (v : List ℕ) → ◌≡◌ {A = Option (List ℕ)} None (Some v) → A
 none_not v e = let z : ◌≡◌ {A = ℕ} 0 1 = cc in absurd (omega arith)
 
 -- the octets in front and those of the first field, as one front
@@ -76,14 +76,14 @@ value_there : (front : List ℕ) (f : Sent) (l : List Sent) → part (front ++ s
 unfolding sent_octets octets_of
 value_there front f l = rw (drop-append-add front (sent_octets (f ∷ l)) 4) (take-append_seam f.value (sent_octets l))
 
-lies : (l : List Sent) (front : List ℕ) (kind inst : ℕ) (v : List ℕ) → first_sent l kind inst ≡ Of v → Lies front l kind inst v
+lies : (l : List Sent) (front : List ℕ) (kind inst : ℕ) (v : List ℕ) → first_sent l kind inst ≡ Some v → Lies front l kind inst v
 unfolding first_sent first_in laid
 lies [] front kind inst v e = none_not v e
 lies (f ∷ l) front kind inst v e = split (eqb f.kind kind && eqb (f.fourth % 16) inst) here (later (λ g h. lies l g kind inst v h))
   where
     here : (eqb f.kind kind && eqb (f.fourth % 16) inst) ≡ true → Lies front (f ∷ l) kind inst v
     here t =
-        let g : Of f.value ≡ Of v = rw t at e in
+        let g : Some f.value ≡ Some v = rw t at e in
         let k : f.value ≡ v = cc in
         record {
           start = length front + 4;
@@ -91,10 +91,10 @@ lies (f ∷ l) front kind inst v e = split (eqb f.kind kind && eqb (f.fourth % 1
           octets = rw (← k) (value_there front f l);
         }
 
-    later : ((g : List ℕ) → first_sent l kind inst ≡ Of v → Lies g l kind inst v) → (eqb f.kind kind && eqb (f.fourth % 16) inst) ≡ false
+    later : ((g : List ℕ) → first_sent l kind inst ≡ Some v → Lies g l kind inst v) → (eqb f.kind kind && eqb (f.fourth % 16) inst) ≡ false
         → Lies front (f ∷ l) kind inst v
     later r t =
-        let g : first_sent l kind inst ≡ Of v = rw t at e in
+        let g : first_sent l kind inst ≡ Some v = rw t at e in
         let q = r (front ++ (before f ++ f.value)) g in
         record {
           start = q.start;
@@ -102,7 +102,7 @@ lies (f ∷ l) front kind inst v e = split (eqb f.kind kind && eqb (f.fourth % 1
           octets = rw (← past front f l) q.octets;
         }
 
-first-lacks : (l : List Sent) (at kind inst : ℕ) → first_sent l kind inst ≡ None → first_in (laid l at) kind inst ≡ F.Missing
+first-lacks : (l : List Sent) (at kind inst : ℕ) → first_sent l kind inst ≡ None → first_in (laid l at) kind inst ≡ None
 unfolding first_sent first_in laid
 first-lacks [] at kind inst e = refl
 first-lacks (f ∷ l) at kind inst e =

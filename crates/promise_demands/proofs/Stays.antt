@@ -1,6 +1,6 @@
 -- The plan stays: no call changes it, so that after any run the unit goes by the plan it was started with, and a further run may start there.
 -- Assumes nothing.
-use Rattle.std.specs.Prelude.{ℕ, true, List, [], ◌∷◌, ◌≡◌, length, get_or, eqb, ltb}
+use Rattle.std.specs.Prelude.{ℕ, true, List, [], ◌∷◌, ◌≡◌, length, get_or, eqb, ltb, Option, Some, None}
 use Rattle.std.proofs.Math.Path.{refl}
 use Rattle.std.proofs.Common.{◌∙◌}
 use Rattle.unit_session.specs.declared.Session.{Session}
@@ -9,8 +9,6 @@ use Rattle.unit_plan.specs.declared.Plan.{Plan}
 use Rattle.unit_sharing.specs.Sharing.{admits}
 use Rattle.unit_session.specs.Session.{is_free, has_id, freed}
 use Rattle.unit_table.specs.declared.Node.{Node}
-use Rattle.unit_table.specs.declared.Owner.{Owner}
-use Rattle.unit_table.specs.declared.Owner.TheVariants as F
 use Rattle.unit_table.specs.Rules.{keeps_rules, live}
 use Rattle.unit_table.specs.Change.{nobody, changed_at}
 use Rattle.unit_table.specs.Find.{found_in}
@@ -24,13 +22,12 @@ use Rattle.call_control.specs.Creates.{accepted_taken, opened_at, shared, is_rep
 use Rattle.call_store.specs.Stored.{State}
 use Rattle.promise_demands.specs.Run.{Event, control, user, down, tick, send, close, line, step, run, of_octets, Start, Run}
 use Rattle.promise_demands.proofs.Run.{line_step, step_keeps, run-keeps, control_either, tick_either, send_either, close_either}
-use Rattle.wire_fields.specs.declared.Recovery.{Recovery}
 use Rattle.call_asked.specs.declared.Asked.{Asked}
 use Rattle.call_asked.specs.declared.Asked.TheVariants as A
 use Rattle.call_asked.specs.Asked.{asked_of}
 use Rattle.call_control.specs.Control.{asked_taken, control_taken}
 
-echo_reply_plan : (node : Node) (t : List Session) (r : Recovery) (reply : List ℕ) → (echo_reply_taken node t r reply).answer.node.plan ≡ node.plan
+echo_reply_plan : (node : Node) (t : List Session) (r : Option ℕ) (reply : List ℕ) → (echo_reply_taken node t r reply).answer.node.plan ≡ node.plan
 unfolding echo_reply_taken echo_ended timed no_reply
 echo_reply_plan node t r reply = heard_plan r node t
 
@@ -40,18 +37,18 @@ module _ {B : Type 0} (f : Node → B) (c : C.Create) (seq : ℕ) (node₀ : Nod
   unfolding shared opened_at accepted_taken cause_taken no_reply
   shared-part node t e = split (admits node.plan (live t) c.point) (λ q. rw q (place (found_in is_free t))) (λ q. rw q e)
     where
-      place : (g : Owner) → f (opened_at g c seq node t node₀ t₀ reply).answer.node ≡ f node₀
-      place F.Nothing = refl
-      place (F.At i) = e
+      place : (g : Option ℕ) → f (opened_at g c seq node t node₀ t₀ reply).answer.node ≡ f node₀
+      place None = refl
+      place (Some i) = e
 
-  pub settled-part : (node : Node) (t : List Session) → f node ≡ f node₀ → (g : Owner) → f (settled_at g c seq node t node₀ t₀ reply).answer.node ≡ f node₀
+  pub settled-part : (node : Node) (t : List Session) → f node ≡ f node₀ → (g : Option ℕ) → f (settled_at g c seq node t node₀ t₀ reply).answer.node ≡ f node₀
   unfolding settled_at accepted_taken
-  settled-part node t e F.Nothing = shared-part node t e
-  settled-part node t e (F.At i) =
+  settled-part node t e None = shared-part node t e
+  settled-part node t e (Some i) =
       split (is_repeat c seq (get_or t i nobody)) (λ x. rw x e) (λ x. rw x (shared-part node (changed_at freed i t) e))
 
 -- ---- a part of the node that no Recovery touches: of all control datagrams only the reply to the unit's own echo can
-module _ {B : Type 0} (f : Node → B) (hears : (r : Recovery) (node : Node) (t : List Session) → f (heard_by r node t).node ≡ f node) where
+module _ {B : Type 0} (f : Node → B) (hears : (r : Option ℕ) (node : Node) (t : List Session) → f (heard_by r node t).node ≡ f node) where
   create-part : (node : Node) (t : List Session) (c : C.Create) (seq : ℕ) (reply : List ℕ) → f (create_taken c seq node t reply).answer.node ≡ f node
   unfolding create_taken heard_create
   create-part node t c seq reply =
@@ -59,7 +56,7 @@ module _ {B : Type 0} (f : Node → B) (hears : (r : Recovery) (node : Node) (t 
       (found_in (has_id c.imsi c.ebi) (heard_by c.recovery node t).table)
 
   pub asked_part : (node : Node) (t : List Session) (a : Asked) (reply : List ℕ)
-      → ((r : Recovery) → a ≡ A.EchoReply r → f (asked_taken node t a reply).answer.node ≡ f node) → f (asked_taken node t a reply).answer.node ≡ f node
+      → ((r : Option ℕ) → a ≡ A.EchoReply r → f (asked_taken node t a reply).answer.node ≡ f node) → f (asked_taken node t a reply).answer.node ≡ f node
   unfolding asked_taken echo_taken cause_taken on_owner on_session no_reply
   asked_part node t (A.Silent number) reply k = refl
   asked_part node t A.Version reply k = refl
@@ -70,7 +67,7 @@ module _ {B : Type 0} (f : Node → B) (hears : (r : Recovery) (node : Node) (t 
   asked_part node t (A.Session teid seq x) reply k = refl
 
   pub control_part : (node : Node) (t : List Session) (d reply : List ℕ)
-      → ((r : Recovery) → asked_of node d ≡ A.EchoReply r → f (asked_taken node t (asked_of node d) reply).answer.node ≡ f node)
+      → ((r : Option ℕ) → asked_of node d ≡ A.EchoReply r → f (asked_taken node t (asked_of node d) reply).answer.node ≡ f node)
       → f (control_taken node t d reply).answer.node ≡ f node
   unfolding control_taken no_reply
   control_part node t d reply k =

@@ -1,7 +1,7 @@
 -- What take user datagram leaves in the reply buffer, for any octets, table and buffer: a message in front, or with a refusal that is silent all
 -- as lent. 15 comes of a G-PDU alone, not of its header nor of extension headers.
 -- Assumes nothing.
-use Rattle.std.specs.Prelude.{ℕ, List, [], ◌≢◌, ◌≡◌, length, eqb, ltb}
+use Rattle.std.specs.Prelude.{ℕ, List, [], ◌≢◌, ◌≡◌, length, eqb, ltb, Option, Some, None}
 use Rattle.std.proofs.Math.Path.{refl}
 use Rattle.std.proofs.Common.{arith, eqb-true}
 use Rattle.std.proofs.lemmas.Bool.{eqb-false}
@@ -10,8 +10,6 @@ use Rattle.base_octets.specs.Overlay.{overlay}
 use Rattle.unit_tunnel.specs.Numbering.{user_offset}
 use Rattle.unit_session.specs.declared.Session.{Session}
 use Rattle.unit_table.specs.declared.Node.{Node}
-use Rattle.unit_table.specs.declared.Owner.{Owner}
-use Rattle.unit_table.specs.declared.Owner.TheVariants as F
 use Rattle.unit_table.specs.Rules.{keeps_rules}
 use Rattle.unit_table.specs.Find.{owner_of}
 use Rattle.unit_store.specs.Store.{store_ok}
@@ -37,10 +35,10 @@ module _ (node : Node) (t : List Session) (d reply : List ℕ) where
   unfolding overlay
   refused_takes n h = record { message = []; over = refl; silent = λ a b. refl; dead = λ e. absurd (h e) }
 
-  packet_takes : (f : Owner) → Takes (packet_taken f (user_teid_of d) node.plan.user (user_of d).size (length d) reply)
+  packet_takes : (f : Option ℕ) → Takes (packet_taken f (user_teid_of d) node.plan.user (user_of d).size (length d) reply)
   unfolding packet_taken overlay
-  packet_takes (F.At i) = record { message = []; over = refl; silent = λ a b. absurd (a refl); dead = λ e. absurd (omega arith) }
-  packet_takes F.Nothing =
+  packet_takes (Some i) = record { message = []; over = refl; silent = λ a b. absurd (a refl); dead = λ e. absurd (omega arith) }
+  packet_takes None =
       record { message = error_indication (user_teid_of d) node.plan.user; over = refl; silent = λ a b. absurd (b refl); dead = λ e. refl }
 
   header_takes : Takes (header_taken node t (user_header_of d) (user_of d).size (length d) reply)

@@ -1,13 +1,11 @@
 -- That what specs/UserNumbers.antt says holds, and what that rests on.
 -- Assumes nothing.
-use Rattle.std.specs.Prelude.{ℕ, zero, suc, ◌+◌, ◌-◌, true, ◌&&◌, List, ◌≡◌, refl, length, drop, eqb, ltb, leb}
+use Rattle.std.specs.Prelude.{ℕ, zero, suc, ◌+◌, ◌-◌, true, ◌&&◌, List, ◌≡◌, refl, length, drop, eqb, ltb, leb, Option, Some, None}
 use Rattle.base_octets.specs.Choice.{split}
 use Rattle.base_octets.specs.Every.{every}
 use Rattle.unit_tunnel.specs.Numbering.{user_offset}
 use Rattle.unit_session.specs.declared.Session.{Session}
 use Rattle.unit_table.specs.declared.Node.{Node}
-use Rattle.unit_table.specs.declared.Owner.{Owner}
-use Rattle.unit_table.specs.declared.Owner.TheVariants as F
 use Rattle.unit_table.specs.Rules.{keeps_rules}
 use Rattle.unit_table.specs.Find.{owner_of, addressee_of}
 use Rattle.wire_header.specs.Types.{among}
@@ -54,10 +52,10 @@ read_number d =
     (λ a. rw a (refusal_number d))
 
 -- by what the header says, a number that is live or not
-packet_number : (f : Owner) (teid addr start end : ℕ) (reply : List ℕ) → among (packet_taken f teid addr start end reply).number user_numbers ≡ true
+packet_number : (f : Option ℕ) (teid addr start end : ℕ) (reply : List ℕ) → among (packet_taken f teid addr start end reply).number user_numbers ≡ true
 unfolding packet_taken user_numbers
-packet_number (F.At place) teid addr start end reply = refl
-packet_number F.Nothing teid addr start end reply = refl
+packet_number (Some place) teid addr start end reply = refl
+packet_number None teid addr start end reply = refl
 
 header_taken_number : (node : Node) (l : List Session) (h : Header) (start end : ℕ) (reply : List ℕ)
     → among (header_taken node l h start end reply).number user_numbers ≡ true
@@ -80,10 +78,10 @@ user_numbers_lem node t w d reply k =
     rw (user_sound node t w (keeps_store node t w k) d reply) (user_number_lem node t d reply (keeps_table node t w k))
 
 -- ---- take downlink packet
-to_number : (f : Owner) (t : List Session) (packet out : List ℕ) → among (down_to f t packet out).written.number down_numbers ≡ true
+to_number : (f : Option ℕ) (t : List Session) (packet out : List ℕ) → among (down_to f t packet out).written.number down_numbers ≡ true
 unfolding down_to down_on down_numbers
-to_number (F.At place) t packet out = split (ltb (length out) (length packet + fixed_size)) (λ a. rw a) (λ a. rw a)
-to_number F.Nothing t packet out = refl
+to_number (Some place) t packet out = split (ltb (length out) (length packet + fixed_size)) (λ a. rw a) (λ a. rw a)
+to_number None t packet out = refl
 
 down_number : (node : Node) (t : List Session) (packet out : List ℕ) → keeps_rules node t ≡ true
     → among (down_taken node t packet out).written.number down_numbers ≡ true

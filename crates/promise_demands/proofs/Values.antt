@@ -1,6 +1,6 @@
 -- That what specs/Values.antt says holds, and what that rests on.
 -- Assumes nothing.
-use Rattle.std.specs.Prelude.{ℕ, suc, ◌+◌, ◌*◌, ◌/◌, ◌%◌, ◌<◌, ◌≤◌, ◌||◌, ◌≡◌, length, take, drop, get_or, leb}
+use Rattle.std.specs.Prelude.{ℕ, suc, ◌+◌, ◌*◌, ◌/◌, ◌%◌, ◌<◌, ◌≤◌, ◌||◌, ◌≡◌, length, take, drop, get_or, leb, Some, None, Ok, Err, Option, List}
 use Rattle.std.proofs.Math.Bool.{true}
 use mathlib.Core.List.{List, [], ◌∷◌, ◌++◌}
 use Rattle.std.proofs.Math.Path.{refl}
@@ -15,20 +15,17 @@ use Rattle.base_octets.specs.BigEndian.{number_of, number_from, octets_of, numbe
 use Rattle.wire_fields.specs.Walk.{part}
 use Rattle.wire_fields.specs.Imsi.{imsi_of, imsi_long, halves, front, last_of, is_half, decimal_from, digits_from}
 use Rattle.wire_fields.specs.Tunnel.{word_at, tunnel_good, tunnel_of, tunnel_good_lem, v4_flag, interfaces}
-use Rattle.wire_fields.specs.declared.Imsi.TheVariants as I
-use Rattle.wire_fields.specs.declared.Tunnel.TheVariants as T
 use Rattle.wire_fields.specs.Kinds.{imsi_kind, rat_kind, tunnel_kind, paa_kind, ebi_kind, qos_kind, recovery_kind}
 use Rattle.wire_fields.specs.Readers.{octet_at, octet_in, rat_in, paa_in, ebi_in, imsi_at, imsi_in, tunnel_at, tunnel_in, recovery_of, recovery_in}
-use Rattle.wire_fields.specs.declared.Octet.TheVariants as O
 use Rattle.unit_plan.specs.declared.Plan.{Plan}
 use Rattle.unit_plan.specs.declared.AccessPoint.{AccessPoint}
-use Rattle.unit_plan.specs.declared.Named.TheVariants as N
 use Rattle.unit_plan.specs.Limits.{used}
 use Rattle.unit_plan.specs.Names.{name_of, same_name, goes_by, names_differ, named_in, named_once}
 use Rattle.unit_plan.specs.Plan.{accepted}
-use Rattle.promise_demands.specs.Sent.{Holds, Sent, fits, sent_octets, Value, Of, None, first_sent, FoundAgain, SentIsFound}
+use Rattle.promise_demands.specs.Sent.{Holds, Sent, fits, sent_octets, first_sent, FoundAgain, SentIsFound}
 use Rattle.promise_demands.proofs.Sent.{sent_is_found}
 use Rattle.promise_demands.specs.Values.{packed, ImsiValue, RatValue, TunnelValue, PaaValue, EbiValue, QosValue, recovery_sent, Has}
+use Rattle.wire_fields.specs.declared.Flaw.TheVariants.{Missing}
 
 -- ---- laws: one value is read
 -- an IMSI
@@ -71,7 +68,7 @@ packed_most [] = omega arith
 packed_most (x ∷ []) = omega arith
 packed_most (x ∷ y ∷ l) = let r = packed_most l in omega arith
 
-imsi-digits : (l behind : List ℕ) → length l ≡ 15 → every is_half l ≡ true → imsi_of (packed l ++ behind) ≡ I.Value (decimal_from 0 l)
+imsi-digits : (l behind : List ℕ) → length l ≡ 15 → every is_half l ≡ true → imsi_of (packed l ++ behind) ≡ Ok (decimal_from 0 l)
 unfolding digits_from
 imsi-digits [] behind n e = absurd (omega arith)
 imsi-digits (x ∷ l) behind n e =
@@ -85,7 +82,7 @@ imsi-digits (x ∷ l) behind n e =
     imsi_long (packed (x ∷ l) ++ behind) (simp length-append (omega arith)) ∙ rw (t, h, f, g, e)
 
 -- an F-TEID
-tunnel_value : (interface teid addr : ℕ) (v : List ℕ) → TunnelValue interface teid addr v → tunnel_of v interface ≡ T.Value teid addr
+tunnel_value : (interface teid addr : ℕ) (v : List ℕ) → TunnelValue interface teid addr v → tunnel_of v interface ≡ Ok (record { teid = teid; address = addr })
 unfolding tunnel_good word_at octets_of number_of number_from
 tunnel_value interface teid addr v r =
     let a = le-leb v4_flag r.flags r.v4 in
@@ -103,7 +100,7 @@ same_itself [] = refl
 same_itself (x ∷ l) = rw (eq-eqb x x refl) (same_itself l)
 
 pub named-point : (l : List AccessPoint) (i : ℕ) (x : AccessPoint) → names_differ l ≡ true → i < length l
-    → named_in l (name_of (get_or l i x)) ≡ N.Point i
+    → named_in l (name_of (get_or l i x)) ≡ Some i
 unfolding named_in goes_by same_name
 named-point l i x n h =
     let d = name_of (get_or l i x) in
@@ -125,7 +122,7 @@ first-octet s a n x v e =
     let f : get_or (part s a (suc n)) 0 0 ≡ x = rw e in
     rw (← z) (sym (get_or-drop a s 0 0) ∙ sym (get_or-take (suc n) (drop a s) 0 0 (omega arith)) ∙ f)
 
-octet_held : (s : List ℕ) (kind x least : ℕ) (v : List ℕ) → Holds s kind 0 (x ∷ v) → least ≤ suc (length v) → octet_in s kind least ≡ O.Value x
+octet_held : (s : List ℕ) (kind x least : ℕ) (v : List ℕ) → Holds s kind 0 (x ∷ v) → least ≤ suc (length v) → octet_in s kind least ≡ Ok x
 unfolding octet_in octet_at
 octet_held s kind x least v r h =
     rw (r.found, le-ltb (suc (length v)) least h, first-octet s r.start (length v) x v r.octets)
@@ -135,54 +132,54 @@ module _ (l : List Sent) (fit : every fits l ≡ true) where
   unfolding SentIsFound
   found = sent_is_found l fit
 
-  pub octet-sent : (kind x least : ℕ) (v w : List ℕ) → first_sent l kind 0 ≡ Of v → v ≡ x ∷ w → least ≤ suc (length w)
-      → octet_in (sent_octets l) kind least ≡ O.Value x
+  pub octet-sent : (kind x least : ℕ) (v w : List ℕ) → first_sent l kind 0 ≡ Some v → v ≡ x ∷ w → least ≤ suc (length w)
+      → octet_in (sent_octets l) kind least ≡ Ok x
   octet-sent kind x least v w e f h = octet_held (sent_octets l) kind x least w (found.held kind 0 (x ∷ w) (rw (← f) e)) h
 
-  pub imsi-sent : (imsi : ℕ) → Has l imsi_kind 0 (ImsiValue imsi) → imsi_in (sent_octets l) ≡ I.Value imsi
+  pub imsi-sent : (imsi : ℕ) → Has l imsi_kind 0 (ImsiValue imsi) → imsi_in (sent_octets l) ≡ Ok imsi
   unfolding imsi_in imsi_at
   imsi-sent imsi h =
       let r = found.held imsi_kind 0 h.value h.first in
       let g = h.good in
       rw (r.found, r.octets, g.octets, ← g.number) (imsi-digits g.digits g.behind g.fifteen g.each)
 
-  pub rat_sent : (h : Has l rat_kind 0 RatValue) → rat_in (sent_octets l) ≡ O.Value h.good.rat
+  pub rat_sent : (h : Has l rat_kind 0 RatValue) → rat_in (sent_octets l) ≡ Ok h.good.rat
   unfolding rat_in
   rat_sent h =
       let k : (eqb h.good.rat 1 || eqb h.good.rat 6) ≡ true = h.good.one_or_six in
       rw (octet-sent rat_kind h.good.rat 1 h.value h.good.behind h.first h.good.octets (omega arith), k)
 
   pub tunnel-sent : (inst interface teid addr : ℕ) → Has l tunnel_kind inst (TunnelValue interface teid addr)
-      → tunnel_in (sent_octets l) inst interface ≡ T.Value teid addr
+      → tunnel_in (sent_octets l) inst interface ≡ Ok (record { teid = teid; address = addr })
   unfolding tunnel_in tunnel_at
   tunnel-sent inst interface teid addr h =
       let r = found.held tunnel_kind inst h.value h.first in
       rw (r.found, r.octets) (tunnel_value interface teid addr h.value h.good)
 
-  pub tunnel-lacks : (inst interface : ℕ) → first_sent l tunnel_kind inst ≡ None → tunnel_in (sent_octets l) inst interface ≡ T.Missing
+  pub tunnel-lacks : (inst interface : ℕ) → first_sent l tunnel_kind inst ≡ None → tunnel_in (sent_octets l) inst interface ≡ Err Missing
   unfolding tunnel_in tunnel_at
   tunnel-lacks inst interface e = rw (found.missing tunnel_kind inst e)
 
-  pub paa_sent : Has l paa_kind 0 PaaValue → paa_in (sent_octets l) ≡ O.Value 1
+  pub paa_sent : Has l paa_kind 0 PaaValue → paa_in (sent_octets l) ≡ Ok 1
   unfolding paa_in
   paa_sent h =
       let k = h.good.long in
       rw (octet-sent paa_kind h.good.type 5 h.value h.good.behind h.first h.good.octets (omega arith), h.good.ipv4)
 
-  pub ebi_octet : (ebi : ℕ) (h : Has l ebi_kind 0 (EbiValue ebi)) → octet_in (sent_octets l) ebi_kind 1 ≡ O.Value h.good.octet
+  pub ebi_octet : (ebi : ℕ) (h : Has l ebi_kind 0 (EbiValue ebi)) → octet_in (sent_octets l) ebi_kind 1 ≡ Ok h.good.octet
   ebi_octet ebi h = octet-sent ebi_kind h.good.octet 1 h.value h.good.behind h.first h.good.octets (omega arith)
 
-  pub ebi_sent : (ebi : ℕ) → 5 ≤ ebi → Has l ebi_kind 0 (EbiValue ebi) → ebi_in (sent_octets l) ≡ O.Value ebi
+  pub ebi_sent : (ebi : ℕ) → 5 ≤ ebi → Has l ebi_kind 0 (EbiValue ebi) → ebi_in (sent_octets l) ≡ Ok ebi
   unfolding ebi_in
   ebi_sent ebi five h = rw (ebi_octet ebi h, h.good.low, le-ltb ebi 5 five)
 
-  pub qos_sent : (h : Has l qos_kind 0 QosValue) → octet_in (sent_octets l) qos_kind 22 ≡ O.Value h.good.first
+  pub qos_sent : (h : Has l qos_kind 0 QosValue) → octet_in (sent_octets l) qos_kind 22 ≡ Ok h.good.first
   qos_sent h =
       let k = h.good.long in
       octet-sent qos_kind h.good.first 22 h.value h.good.behind h.first h.good.octets (omega arith)
 
-  pub recovery_sent_lem : (m : Value) → first_sent l recovery_kind 0 ≡ m → recovery_in (sent_octets l) ≡ recovery_sent m
+  pub recovery_sent_lem : (m : Option (List ℕ)) → first_sent l recovery_kind 0 ≡ m → recovery_in (sent_octets l) ≡ recovery_sent m
   unfolding recovery_in recovery_of recovery_sent octet_in octet_at
   recovery_sent_lem None e = rw (found.missing recovery_kind 0 e)
-  recovery_sent_lem (Of []) e = rw (found.held recovery_kind 0 [] e).found
-  recovery_sent_lem (Of (x ∷ v)) e = rw (octet-sent recovery_kind x 1 (x ∷ v) v e refl (omega arith))
+  recovery_sent_lem (Some []) e = rw (found.held recovery_kind 0 [] e).found
+  recovery_sent_lem (Some (x ∷ v)) e = rw (octet-sent recovery_kind x 1 (x ∷ v) v e refl (omega arith))

@@ -1,6 +1,6 @@
 -- That what specs/Written.antt says holds, and what that rests on.
 -- Assumes nothing.
-use Rattle.std.specs.Prelude.{ℕ, ◌+◌, ◌%◌, ◌<◌, ◌≤◌, true, List, ◌∷◌, ◌++◌, ◌≡◌, refl, length, drop, eqb, leb, ltb}
+use Rattle.std.specs.Prelude.{ℕ, ◌+◌, ◌%◌, ◌<◌, ◌≤◌, true, List, ◌∷◌, ◌++◌, ◌≡◌, refl, length, drop, eqb, leb, ltb, Some, Result, Ok, Err}
 use Rattle.std.proofs.Common.{arith, lt-ltb, le-ltb}
 use Rattle.base_octets.specs.Choice.{pick}
 use Rattle.base_octets.specs.BigEndian.{number_of, number_from, octets_of, number_back}
@@ -12,19 +12,18 @@ use Rattle.wire_header.specs.Types.{bare_types, tunnel_types, not_taken, flag_of
 use Rattle.wire_header.specs.Header.{version_of, flag_p, flag_t, kind_of, length_of, with_teid, teid_octets}
 use Rattle.wire_header.specs.Header.{teid_of, sequence_of, sequence_behind, sequence_bare, header_size, header_of}
 use Rattle.wire_header.specs.Gate.{gate_of, control_version}
-use Rattle.wire_fields.specs.declared.Found.TheVariants as F
 use Rattle.wire_fields.specs.Walk.{part, fields_from, over_from, fields_of, overruns}
 use Rattle.wire_fields.specs.Search.{find, first_in}
 use Rattle.wire_fields.specs.Overrun.{over_in, over_within}
-use Rattle.wire_fields.specs.declared.Tunnel.{Tunnel}
-use Rattle.wire_fields.specs.declared.Tunnel.TheVariants as T
 use Rattle.wire_fields.specs.Tunnel.{tunnel_size, word_at, tunnel_good, tunnel_of, v4_flag, interfaces}
-use Rattle.wire_fields.specs.declared.Octet.TheVariants as O
 use Rattle.wire_fields.specs.Kinds.{tunnel_kind}
 use Rattle.wire_fields.specs.Readers.{octet_at, octet_in, paa_in, ebi_in, tunnel_at, tunnel_in, recovery_of, recovery_in}
 use Rattle.wire_requests.specs.Carried as carried
 use Rattle.wire_user.specs.Header as user
 use Rattle.promise_demands.specs.Written.{HeaderRead, Seq, Word, VersionRead, EchoRead, CauseRead, CreateRead, ModifyRead, DeleteBearerRead, UserEchoRead, ErrorRead, WrittenIsRead}
+use Rattle.wire_fields.specs.declared.Flaw.{Flaw}
+use Rattle.wire_fields.specs.declared.Tunnel.{Tunnel}
+use Rattle.wire_fields.specs.declared.Flaw.TheVariants.{Wrong}
 
 -- ---- laws
 -- a header with a TEID, whatever follows
@@ -64,17 +63,17 @@ bare_headed type seq recovery h = record {
 }
 
 tunnel-back : (flags interface teid addr : ℕ) → leb v4_flag flags ≡ true → eqb (flags % interfaces) interface ≡ true → 0 < teid → Word teid → Word addr
-    → tunnel_of (flags ∷ octets_of 4 teid ++ octets_of 4 addr) interface ≡ T.Value teid addr
+    → tunnel_of (flags ∷ octets_of 4 teid ++ octets_of 4 addr) interface ≡ Ok (record { teid = teid; address = addr })
 unfolding tunnel_of tunnel_size tunnel_good word_at octets_of number_of number_from
 tunnel-back flags interface teid addr f i z h k = rw (f, i, number_back 4 teid h, number_back 4 addr k, lt-ltb 0 teid z)
 
-tunnel_found : (s : List ℕ) (instance interface start size : ℕ) (v : List ℕ) (r : Tunnel) → find s tunnel_kind instance ≡ F.At start size
+tunnel_found : (s : List ℕ) (instance interface start size : ℕ) (v : List ℕ) (r : Result Tunnel Flaw) → find s tunnel_kind instance ≡ Some (record { start = start; size = size })
     → part s start size ≡ v → tunnel_of v interface ≡ r
     → tunnel_in s instance interface ≡ r
 unfolding tunnel_in tunnel_at
 tunnel_found s instance interface start size v r e f g = rw (e, f) g
 
-ebi_back : (ebi : ℕ) → 5 ≤ ebi → ebi ≤ 15 → pick (ltb (ebi % 16) 5) O.Wrong (O.Value (ebi % 16)) ≡ O.Value ebi
+ebi_back : (ebi : ℕ) → 5 ≤ ebi → ebi ≤ 15 → pick (ltb (ebi % 16) 5) (Err Wrong) (Ok (ebi % 16)) ≡ Ok ebi
 ebi_back ebi a b = let m : ebi % 16 ≡ ebi = omega arith in rw (m, le-ltb ebi 5 a)
 
 echo-read : (seq recovery : ℕ) → Seq seq → EchoRead seq recovery
@@ -138,7 +137,7 @@ create-read teid seq control controladdr address ebi user useraddr recovery h k 
   header = headed create_reply_type teid seq 74 rest h k refl;
   runs = refl;
   cause = refl;
-  control_tunnel = tunnel_found rest 1 7 10 9 (0x87 ∷ octets_of 4 control ++ octets_of 4 controladdr) (T.Value control controladdr) refl refl
+  control_tunnel = tunnel_found rest 1 7 10 9 (0x87 ∷ octets_of 4 control ++ octets_of 4 controladdr) (Ok (record { teid = control; address = controladdr })) refl refl
       (tunnel-back 0x87 7 control controladdr refl refl zc hc ha);
   paa = refl;
   paa_at = refl;
@@ -147,7 +146,7 @@ create-read teid seq control controladdr address ebi user useraddr recovery h k 
   bearer_at = refl;
   bearer_ebi = ebi_back ebi a b;
   bearer_cause = refl;
-  user_tunnel = tunnel_found (part rest 37 24) 2 5 15 9 (0x85 ∷ octets_of 4 user ++ octets_of 4 useraddr) (T.Value user useraddr) refl refl
+  user_tunnel = tunnel_found (part rest 37 24) 2 5 15 9 (0x85 ∷ octets_of 4 user ++ octets_of 4 useraddr) (Ok (record { teid = user; address = useraddr })) refl refl
       (tunnel-back 0x85 5 user useraddr refl refl zu hu hv);
   recovery_value = refl;
 }

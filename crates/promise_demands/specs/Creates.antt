@@ -1,7 +1,7 @@
 -- A sound new Create after any run: 73 exactly when the sharing rule says so, and accepted otherwise; so accepted always for an access point
 -- under its guarantee, and for one that has just lost a session.
 -- Assumes nothing.
-use Rattle.std.specs.Prelude.{ℕ, Bool, not, ◌&&◌, List, ◌≡◌, get_or, drop}
+use Rattle.std.specs.Prelude.{ℕ, Bool, not, ◌&&◌, List, ◌≡◌, get_or, drop, Ok}
 use Rattle.std.proofs.Math.Bool.{true}
 use Rattle.base_octets.specs.Every.{every}
 use Rattle.unit_plan.specs.declared.Plan.{Plan}
@@ -14,7 +14,6 @@ use Rattle.unit_table.specs.Room.{free_place}
 use Rattle.wire_header.specs.Header.{header_of}
 use Rattle.wire_header.specs.Gate.{gate_of}
 use Rattle.wire_requests.specs.declared.Create as C
-use Rattle.wire_requests.specs.declared.Decoded.TheVariants as D
 use Rattle.wire_requests.specs.declared.Request.TheVariants as Q
 use Rattle.wire_requests.specs.Create.{create_of}
 use Rattle.call_own.specs.Outcome.{Outcome, changing, Held}
@@ -37,7 +36,7 @@ repeats c seq s = has_id c.imsi c.ebi s && is_repeat c seq s
 pub record SoundCreate (p : Plan) (d : List ℕ) (c : C.Create) : Type 0 where
   pub header : gate_of d ≡ 0
   pub kind : (header_of d).kind ≡ 32
-  pub fields : create_of p (drop (header_of d).fields d) ≡ D.Sound (Q.Create c)
+  pub fields : create_of p (drop (header_of d).fields d) ≡ Ok (Q.Create c)
 
 -- and it is new: no session, as they are after Recovery, is the one that it repeats
 pub record NewCreate (p : Plan) (s : State) (d : List ℕ) (c : C.Create) : Type 0 where

@@ -1,7 +1,7 @@
 -- Every request in range has octets that are read as that request: those of the encoder, and unknown fields may stand anywhere among them, in the
 -- message and in the Bearer Context.
 -- Assumes nothing.
-use Rattle.std.specs.Prelude.{ℕ, ◌%◌, Bool, true, false, ◌&&◌, ◌||◌, List, [], ◌∷◌, ◌≡◌, eqb}
+use Rattle.std.specs.Prelude.{ℕ, ◌%◌, Bool, true, false, ◌&&◌, ◌||◌, List, [], ◌∷◌, ◌≡◌, eqb, Ok}
 use Rattle.base_octets.specs.Choice.{pick}
 use Rattle.base_octets.specs.Every.{every}
 use Rattle.wire_fields.specs.Kinds.{imsi_kind, rat_kind, tunnel_kind, apn_kind, paa_kind, bearer_kind, ebi_kind, qos_kind, recovery_kind}
@@ -11,7 +11,6 @@ use Rattle.wire_requests.specs.declared.Create as C
 use Rattle.wire_requests.specs.declared.Modify as M
 use Rattle.wire_requests.specs.declared.Delete as D
 use Rattle.wire_requests.specs.declared.Request.TheVariants.{Create, Modify, Delete}
-use Rattle.wire_requests.specs.declared.Decoded.TheVariants.{Sound}
 use Rattle.wire_requests.specs.Create.{create_of}
 use Rattle.wire_requests.specs.Change.{modify_of, delete_of}
 use Rattle.promise_demands.specs.Sent.{Sent, fits, sent_octets}
@@ -61,15 +60,15 @@ pub record Mixed (names within : List Name) (fields bearer l b : List Sent) : Ty
 -- ---- the promise: what the encoder writes of a request in range is read as that request; so is what it writes mixed with unknown fields
 pub record EncodedIsRead : Type 0 where
   pub create : (plan : Plan) (c : C.Create) (x : Besides) → accepted plan ≡ true → CreateInRange plan c x → Short x
-      → create_of plan (encoded_create plan c x) ≡ Sound (Create c)
-  pub modify : (m : M.Modify) (x : Besides) → ModifyInRange m → Short x → modify_of (encoded_modify m x) ≡ Sound (Modify m)
-  pub delete : (d : D.Delete) (x : Besides) → EbiInRange d.ebi → Short x → delete_of (encoded_delete d x) ≡ Sound (Delete d)
+      → create_of plan (encoded_create plan c x) ≡ Ok (Create c)
+  pub modify : (m : M.Modify) (x : Besides) → ModifyInRange m → Short x → modify_of (encoded_modify m x) ≡ Ok (Modify m)
+  pub delete : (d : D.Delete) (x : Besides) → EbiInRange d.ebi → Short x → delete_of (encoded_delete d x) ≡ Ok (Delete d)
   pub create_mixed : (plan : Plan) (c : C.Create) (x : Besides) (l b : List Sent) → accepted plan ≡ true → CreateInRange plan c x
       → Mixed create_names create_within (create_fields plan c x b) (create_bearer c x) l b
-      → create_of plan (sent_octets l) ≡ Sound (Create c)
+      → create_of plan (sent_octets l) ≡ Ok (Create c)
   pub modify_mixed : (m : M.Modify) (x : Besides) (l b : List Sent) → ModifyInRange m
       → Mixed modify_names modify_within (modify_fields m x b) (context_bearer m.context x) l b
-      → modify_of (sent_octets l) ≡ Sound (Modify m)
+      → modify_of (sent_octets l) ≡ Ok (Modify m)
   pub delete_mixed : (d : D.Delete) (x : Besides) (l : List Sent) → EbiInRange d.ebi
       → every fits l ≡ true → known_of delete_names l ≡ delete_fields d.ebi x
-      → delete_of (sent_octets l) ≡ Sound (Delete d)
+      → delete_of (sent_octets l) ≡ Ok (Delete d)

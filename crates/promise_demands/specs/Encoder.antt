@@ -1,30 +1,24 @@
 -- An encoder for Create, Modify and Delete: every request in range as fields in the order of document 01's list, with any octets behind the
 -- values; and each value that it writes fits the 2 octets of its length.
 -- Assumes nothing.
-use Rattle.std.specs.Prelude.{ℕ, zero, suc, ◌/◌, ◌%◌, ◌<◌, ◌≤◌, ◌||◌, List, [], ◌∷◌, ◌++◌, ◌≡◌, length, get_or, eqb}
+use Rattle.std.specs.Prelude.{ℕ, zero, suc, ◌/◌, ◌%◌, ◌<◌, ◌≤◌, ◌||◌, List, [], ◌∷◌, ◌++◌, ◌≡◌, length, get_or, eqb, Option, Some, None, Result, Ok, Err}
 use Rattle.std.proofs.Math.Bool.{true}
 use Rattle.base_octets.specs.BigEndian.{octets_of}
-use Rattle.wire_fields.specs.declared.Tunnel.{Tunnel}
-use Rattle.wire_fields.specs.declared.Tunnel.TheVariants as T
 use Rattle.wire_fields.specs.Kinds.{imsi_kind, rat_kind, tunnel_kind, apn_kind, paa_kind, bearer_kind, ebi_kind, qos_kind, recovery_kind}
-use Rattle.wire_fields.specs.declared.Recovery.{Recovery}
-use Rattle.wire_fields.specs.declared.Recovery.TheVariants as R
 use Rattle.unit_plan.specs.declared.Plan.{Plan}
 use Rattle.unit_plan.specs.Limits.{used, parties, no_point}
 use Rattle.unit_plan.specs.Names.{name_of}
 use Rattle.wire_requests.specs.declared.Create as C
 use Rattle.wire_requests.specs.declared.Modify as M
 use Rattle.wire_requests.specs.declared.Delete as D
-use Rattle.wire_requests.specs.declared.Peer.{Peer}
-use Rattle.wire_requests.specs.declared.Peer.TheVariants as P
-use Rattle.wire_requests.specs.declared.Context.{Context}
-use Rattle.wire_requests.specs.declared.Context.TheVariants as X
-use Rattle.wire_requests.specs.declared.Ebi.{Ebi}
-use Rattle.wire_requests.specs.declared.Ebi.TheVariants as E
 use Rattle.wire_requests.specs.Create.{CreateSound}
 use Rattle.promise_demands.specs.Sent.{Sent, sent_octets}
 use Rattle.promise_demands.specs.Values.{packed}
 use Rattle.promise_demands.specs.Written.{Word}
+use Rattle.wire_fields.specs.declared.Flaw.{Flaw}
+use Rattle.wire_fields.specs.declared.Tunnel.{Tunnel}
+use Rattle.wire_requests.specs.declared.Context.{Context}
+use Rattle.wire_fields.specs.declared.Flaw.TheVariants as Flaw
 
 -- ---- fields
 abbrev pub field : ℕ → ℕ → List ℕ → Sent
@@ -68,9 +62,9 @@ create_bearer c x =
     ∷ field qos_kind 0 x.qos
     ∷ []
 
-unfoldable pub recovery_field : Recovery → Besides → List Sent
-recovery_field R.None x = []
-recovery_field (R.Value r) x = field recovery_kind 0 (r ∷ x.behind recovery_kind) ∷ []
+unfoldable pub recovery_field : Option ℕ → Besides → List Sent
+recovery_field None x = []
+recovery_field (Some r) x = field recovery_kind 0 (r ∷ x.behind recovery_kind) ∷ []
 
 -- with the fields b in its Bearer Context
 unfoldable pub create_fields : Plan → C.Create → Besides → List Sent → List Sent
@@ -94,23 +88,23 @@ pub record CreateInRange (plan : Plan) (c : C.Create) (x : Besides) : Type 0 whe
   pub qos : 22 ≤ length x.qos
 
 -- ---- Modify
-unfoldable pub control_field : Peer → Besides → List Sent
-control_field P.Same x = []
-control_field (P.New teid addr) x = field tunnel_kind 0 (tunnel_octets control_flags teid addr (x.behind tunnel_kind)) ∷ []
+unfoldable pub control_field : Option Tunnel → Besides → List Sent
+control_field None x = []
+control_field (Some end) x = field tunnel_kind 0 (tunnel_octets control_flags end.teid end.address (x.behind tunnel_kind)) ∷ []
 
-unfoldable pub user_field : Tunnel → Besides → List Sent
-user_field (T.Value teid addr) x = field tunnel_kind 1 (tunnel_octets user_flags teid addr (x.within tunnel_kind)) ∷ []
-user_field T.Missing x = []
-user_field T.Short x = []
-user_field T.Wrong x = []
+unfoldable pub user_field : Result Tunnel Flaw → Besides → List Sent
+user_field (Ok end) x = field tunnel_kind 1 (tunnel_octets user_flags end.teid end.address (x.within tunnel_kind)) ∷ []
+user_field (Err Flaw.Missing) x = []
+user_field (Err Flaw.Short) x = []
+user_field (Err Flaw.Wrong) x = []
 
-unfoldable pub context_field : Context → List Sent → List Sent
-context_field X.Absent b = []
-context_field (X.Present ebi user) b = field bearer_kind 0 (sent_octets b) ∷ []
+unfoldable pub context_field : Option Context → List Sent → List Sent
+context_field None b = []
+context_field (Some context) b = field bearer_kind 0 (sent_octets b) ∷ []
 
-unfoldable pub context_bearer : Context → Besides → List Sent
-context_bearer X.Absent x = []
-context_bearer (X.Present ebi user) x = field ebi_kind 0 (ebi ∷ x.within ebi_kind) ∷ user_field user x
+unfoldable pub context_bearer : Option Context → Besides → List Sent
+context_bearer None x = []
+context_bearer (Some context) x = field ebi_kind 0 (context.ebi ∷ x.within ebi_kind) ∷ user_field context.user x
 
 unfoldable pub modify_fields : M.Modify → Besides → List Sent → List Sent
 modify_fields m x b = control_field m.control x ++ context_field m.context b
@@ -120,32 +114,32 @@ pub record EndInRange (teid addr : ℕ) : Type 0 where
   pub teid_fits : Word teid
   pub addr_fits : Word addr
 
-unfoldable pub PeerInRange : Peer → Type 0
-PeerInRange P.Same = Unit {0}
-PeerInRange (P.New teid addr) = EndInRange teid addr
+unfoldable pub PeerInRange : Option Tunnel → Type 0
+PeerInRange None = Unit {0}
+PeerInRange (Some end) = EndInRange end.teid end.address
 
-unfoldable pub UserInRange : Tunnel → Type 0
-UserInRange (T.Value teid addr) = EndInRange teid addr
-UserInRange T.Missing = Unit {0}
-UserInRange T.Short = ⊥
-UserInRange T.Wrong = ⊥
+unfoldable pub UserInRange : Result Tunnel Flaw → Type 0
+UserInRange (Ok end) = EndInRange end.teid end.address
+UserInRange (Err Flaw.Missing) = Unit {0}
+UserInRange (Err Flaw.Short) = ⊥
+UserInRange (Err Flaw.Wrong) = ⊥
 
-unfoldable pub ContextInRange : Context → Type 0
-ContextInRange X.Absent = Unit {0}
-ContextInRange (X.Present ebi user) = (5 ≤ ebi) × (ebi ≤ 15) × UserInRange user
+unfoldable pub ContextInRange : Option Context → Type 0
+ContextInRange None = Unit {0}
+ContextInRange (Some context) = (5 ≤ context.ebi) × (context.ebi ≤ 15) × UserInRange context.user
 
 pub record ModifyInRange (m : M.Modify) : Type 0 where
   pub control : PeerInRange m.control
   pub context : ContextInRange m.context
 
 -- ---- Delete
-unfoldable pub delete_fields : Ebi → Besides → List Sent
-delete_fields E.Absent x = []
-delete_fields (E.Given ebi) x = field ebi_kind 0 (ebi ∷ x.behind ebi_kind) ∷ []
+unfoldable pub delete_fields : Option ℕ → Besides → List Sent
+delete_fields None x = []
+delete_fields (Some ebi) x = field ebi_kind 0 (ebi ∷ x.behind ebi_kind) ∷ []
 
-unfoldable pub EbiInRange : Ebi → Type 0
-EbiInRange E.Absent = Unit {0}
-EbiInRange (E.Given ebi) = ebi ≤ 15
+unfoldable pub EbiInRange : Option ℕ → Type 0
+EbiInRange None = Unit {0}
+EbiInRange (Some ebi) = ebi ≤ 15
 
 -- ---- the octets behind the header, with these fields and no other
 unfoldable pub encoded_create : Plan → C.Create → Besides → List ℕ

@@ -1,10 +1,9 @@
 -- Examples with which the impossible is shown impossible: a plan of one access point with one place, two Creates for it that differ in their IMSI,
 -- and Echo Requests.
 -- Assumes nothing.
-use Rattle.std.specs.Prelude.{ℕ, List, [], ◌∷◌, replicate}
+use Rattle.std.specs.Prelude.{ℕ, List, [], ◌∷◌, replicate, None}
 use Rattle.unit_plan.specs.declared.Plan.{Plan}
 use Rattle.unit_plan.specs.Limits.{no_point}
-use Rattle.wire_fields.specs.declared.Recovery.TheVariants as R
 use Rattle.wire_requests.specs.declared.Create as C
 
 -- one access point, "data", with one place guaranteed and no more than one
@@ -45,7 +44,7 @@ create_of_imsi imsi = record {
   user = 0x2222;
   useraddr = 0x0A010009;
   point = 0;
-  recovery = R.None;
+  recovery = None;
 }
 
 abbrev pub first : List ℕ

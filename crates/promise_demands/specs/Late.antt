@@ -1,7 +1,7 @@
 -- What a Recovery value of the exchange does after any run, by how far it is ahead of the stored one, modulo 256. One that came late is
 -- thrown away: the datagram is answered as if it carried none, and no session goes. After a restart all are gone, and no reply is kept.
 -- Assumes nothing.
-use Rattle.std.specs.Prelude.{ℕ, ◌<◌, ◌≤◌, Bool, true, List, ◌≡◌, length, get_or}
+use Rattle.std.specs.Prelude.{ℕ, ◌<◌, ◌≤◌, Bool, true, List, ◌≡◌, length, get_or, Some, None}
 use Rattle.std.proofs.Math.Bool.{false}
 use Rattle.base_octets.specs.Every.{every}
 use Rattle.unit_plan.specs.declared.Plan.{Plan}
@@ -11,7 +11,6 @@ use Rattle.unit_table.specs.Change.{nobody}
 use Rattle.unit_table.specs.Recovery.{turned}
 use Rattle.unit_store.specs.Row.{is_unused}
 use Rattle.unit_store.specs.Store.{emptied}
-use Rattle.wire_fields.specs.declared.Recovery.TheVariants as R
 use Rattle.wire_requests.specs.declared.Create as C
 use Rattle.call_asked.specs.declared.Asked.{Asked}
 use Rattle.call_asked.specs.declared.Asked.TheVariants as A
@@ -33,14 +32,14 @@ create_without c = record {
   user = c.user;
   useraddr = c.useraddr;
   point = c.point;
-  recovery = R.None;
+  recovery = None;
 }
 
 unfoldable pub without : Asked → Asked
 without (A.Silent number) = A.Silent number
 without A.Version = A.Version
-without (A.Echo r seq) = A.Echo R.None seq
-without (A.EchoReply r) = A.EchoReply R.None
+without (A.Echo r seq) = A.Echo None seq
+without (A.EchoReply r) = A.EchoReply None
 without (A.Create c seq) = A.Create (create_without c) seq
 without (A.Refused w to seq) = A.Refused w to seq
 without (A.Session teid seq x) = A.Session teid seq x
@@ -57,7 +56,7 @@ is_for (A.Session teid seq x) y = false
 
 -- the datagram carries the value, and one is stored
 pub record Carries (s : State) (d : List ℕ) (value : ℕ) : Type 0 where
-  pub carried : recovery_in (asked_of s.node d) ≡ R.Value value
+  pub carried : recovery_in (asked_of s.node d) ≡ Some value
   pub stored : 1 ≤ s.node.heard
 
 -- received minus stored, modulo 256

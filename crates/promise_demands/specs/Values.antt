@@ -1,7 +1,7 @@
 -- The values of the fields of a Create, Modify and Delete as document 01 asks for them, with any octets behind; and what each reader makes of a
 -- message whose first field of that type and instance has such a value.
 -- Assumes nothing.
-use Rattle.std.specs.Prelude.{ℕ, ◌+◌, ◌*◌, ◌%◌, ◌<◌, ◌≤◌, ◌||◌, ◌≡◌, length, get_or}
+use Rattle.std.specs.Prelude.{ℕ, ◌+◌, ◌*◌, ◌%◌, ◌<◌, ◌≤◌, ◌||◌, ◌≡◌, length, get_or, Option, Some, None, List}
 use Rattle.std.proofs.Math.Bool.{true}
 use mathlib.Core.List.{List, [], ◌∷◌, ◌++◌}
 use Rattle.std.proofs.Math.Dec.{eqb}
@@ -9,12 +9,10 @@ use Rattle.base_octets.specs.Every.{every}
 use Rattle.base_octets.specs.BigEndian.{octets_of}
 use Rattle.wire_fields.specs.Imsi.{is_half, decimal_from}
 use Rattle.wire_fields.specs.Tunnel.{v4_flag, interfaces}
-use Rattle.wire_fields.specs.declared.Recovery.{Recovery}
-use Rattle.wire_fields.specs.declared.Recovery.TheVariants as R
 use Rattle.unit_plan.specs.declared.Plan.{Plan}
 use Rattle.unit_plan.specs.Limits.{used, parties, no_point}
 use Rattle.unit_plan.specs.Names.{name_of}
-use Rattle.promise_demands.specs.Sent.{Sent, Value, Of, None, first_sent}
+use Rattle.promise_demands.specs.Sent.{Sent, first_sent}
 use Rattle.promise_demands.specs.Written.{Word}
 
 -- ---- values, as document 01 asks for them; what stands behind them is ignored
@@ -79,13 +77,13 @@ pub record QosValue (v : List ℕ) : Type 0 where
   pub octets : v ≡ first ∷ behind
 
 -- Recovery: absent or empty is none
-unfoldable pub recovery_sent : Value → Recovery
-recovery_sent None = R.None
-recovery_sent (Of []) = R.None
-recovery_sent (Of (x ∷ v)) = R.Value x
+unfoldable pub recovery_sent : Option (List ℕ) → Option ℕ
+recovery_sent None = None
+recovery_sent (Some []) = None
+recovery_sent (Some (x ∷ v)) = Some x
 
 -- the first field of a type and instance has a value that is good
 pub record Has (l : List Sent) (kind inst : ℕ) (Good : List ℕ → Type 0) : Type 0 where
   pub value : List ℕ
-  pub first : first_sent l kind inst ≡ Of value
+  pub first : first_sent l kind inst ≡ Some value
   pub good : Good value

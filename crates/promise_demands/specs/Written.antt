@@ -1,7 +1,7 @@
 -- Reading what is written gives back what was meant: every message that is written, read with the readers of this house, has the type, TEID,
 -- sequence number and each field that it was written with, and none runs past its end.
 -- Assumes nothing.
-use Rattle.std.specs.Prelude.{ℕ, ◌+◌, ◌-◌, ◌%◌, ◌<◌, ◌≤◌, true, false, List, [], ◌∷◌, ◌≡◌, length, drop, get_or}
+use Rattle.std.specs.Prelude.{ℕ, ◌+◌, ◌-◌, ◌%◌, ◌<◌, ◌≤◌, true, false, List, [], ◌∷◌, ◌≡◌, length, drop, get_or, Some, Ok}
 use Rattle.base_octets.specs.Number.{taken}
 use Rattle.base_octets.specs.BigEndian.{number_of}
 use Rattle.wire_messages.specs.Types.{echo_type, echo_reply_type, version_type, create_reply_type, modify_reply_type, bearer_type}
@@ -11,19 +11,13 @@ use Rattle.wire_messages.specs.Messages.{fault_reply, create_accepted, modify_be
 use Rattle.wire_header.specs.Header.{version_of, flag_p, length_of}
 use Rattle.wire_header.specs.Header.{header_of}
 use Rattle.wire_header.specs.Gate.{gate_of}
-use Rattle.wire_fields.specs.declared.Found.TheVariants as F
 use Rattle.wire_fields.specs.Walk.{part}
 use Rattle.wire_fields.specs.Search.{find}
 use Rattle.wire_fields.specs.Overrun.{over_in}
-use Rattle.wire_fields.specs.declared.Tunnel.TheVariants as T
 use Rattle.wire_fields.specs.Tunnel.{word_at}
-use Rattle.wire_fields.specs.declared.Octet.TheVariants as O
-use Rattle.wire_fields.specs.declared.Recovery.TheVariants as R
 use Rattle.wire_fields.specs.Kinds.{cause_kind, paa_kind, bearer_kind}
 use Rattle.wire_fields.specs.Readers.{octet_in, paa_in, ebi_in, tunnel_in, recovery_in}
 use Rattle.wire_requests.specs.Carried as carried
-use Rattle.wire_requests.specs.declared.EchoReply.TheVariants as E
-use Rattle.wire_requests.specs.declared.BearerReply.TheVariants as B
 use Rattle.wire_user.specs.Header as user
 use Rattle.promise_demands.specs.Sent.{Holds}
 
@@ -58,8 +52,8 @@ pub record EchoRead (seq recovery : ℕ) : Type 0 where
   pub answers_taken : gate_of (messages.echo_of echo_reply_type seq recovery) ≡ taken
   pub asks_runs : over_in (drop 8 (messages.echo_of echo_type seq recovery)) ≡ false
   pub answers_runs : over_in (drop 8 (messages.echo_of echo_reply_type seq recovery)) ≡ false
-  pub asks_carries : carried.echo_read (drop 8 (messages.echo_of echo_type seq recovery)) ≡ R.Value recovery
-  pub answers_carries : carried.echo_reply_read (drop 8 (messages.echo_of echo_reply_type seq recovery)) ≡ E.Carries (R.Value recovery)
+  pub asks_carries : carried.echo_read (drop 8 (messages.echo_of echo_type seq recovery)) ≡ Some recovery
+  pub answers_carries : carried.echo_reply_read (drop 8 (messages.echo_of echo_reply_type seq recovery)) ≡ Ok (Some recovery)
 
 -- ---- a reply with a cause, alone or with the field at fault: its type, 00 00, its instance
 pub record CauseRead (type teid seq cause field instance : ℕ) : Type 0 where
@@ -67,8 +61,8 @@ pub record CauseRead (type teid seq cause field instance : ℕ) : Type 0 where
   pub named : HeaderRead (fault_reply type teid seq cause field instance) type teid seq 12
   pub bare_runs : over_in (drop 12 (cause_reply type teid seq cause)) ≡ false
   pub named_runs : over_in (drop 12 (fault_reply type teid seq cause field instance)) ≡ false
-  pub bare_cause : carried.bearer_reply_read (drop 12 (cause_reply type teid seq cause)) ≡ B.Cause cause
-  pub named_cause : carried.bearer_reply_read (drop 12 (fault_reply type teid seq cause field instance)) ≡ B.Cause cause
+  pub bare_cause : carried.bearer_reply_read (drop 12 (cause_reply type teid seq cause)) ≡ Ok cause
+  pub named_cause : carried.bearer_reply_read (drop 12 (fault_reply type teid seq cause field instance)) ≡ Ok cause
   pub bare_value : Holds (drop 12 (cause_reply type teid seq cause)) cause_kind 0 (cause ∷ 0 ∷ [])
   pub named_field : Holds (drop 12 (fault_reply type teid seq cause field instance)) cause_kind 0 (cause ∷ 0 ∷ field ∷ 0 ∷ 0 ∷ instance ∷ [])
 
@@ -80,31 +74,31 @@ restriction_kind = 127
 pub record CreateRead (d : List ℕ) (teid seq control controladdr address ebi user useraddr recovery : ℕ) : Type 0 where
   pub header : HeaderRead d create_reply_type teid seq 12
   pub runs : over_in (drop 12 d) ≡ false
-  pub cause : octet_in (drop 12 d) cause_kind 2 ≡ O.Value 16
-  pub control_tunnel : tunnel_in (drop 12 d) 1 7 ≡ T.Value control controladdr
-  pub paa : paa_in (drop 12 d) ≡ O.Value 1
-  pub paa_at : find (drop 12 d) paa_kind 0 ≡ F.At 23 5
+  pub cause : octet_in (drop 12 d) cause_kind 2 ≡ Ok 16
+  pub control_tunnel : tunnel_in (drop 12 d) 1 7 ≡ Ok (record { teid = control; address = controladdr })
+  pub paa : paa_in (drop 12 d) ≡ Ok 1
+  pub paa_at : find (drop 12 d) paa_kind 0 ≡ Some (record { start = 23; size = 5 })
   pub pdn_address : word_at (part (drop 12 d) 23 5) 1 ≡ address
   pub restriction : Holds (drop 12 d) restriction_kind 0 (0 ∷ [])
-  pub bearer_at : find (drop 12 d) bearer_kind 0 ≡ F.At 37 24
-  pub bearer_ebi : ebi_in (part (drop 12 d) 37 24) ≡ O.Value ebi
-  pub bearer_cause : octet_in (part (drop 12 d) 37 24) cause_kind 2 ≡ O.Value 16
-  pub user_tunnel : tunnel_in (part (drop 12 d) 37 24) 2 5 ≡ T.Value user useraddr
-  pub recovery_value : recovery_in (drop 12 d) ≡ R.Value recovery
+  pub bearer_at : find (drop 12 d) bearer_kind 0 ≡ Some (record { start = 37; size = 24 })
+  pub bearer_ebi : ebi_in (part (drop 12 d) 37 24) ≡ Ok ebi
+  pub bearer_cause : octet_in (part (drop 12 d) 37 24) cause_kind 2 ≡ Ok 16
+  pub user_tunnel : tunnel_in (part (drop 12 d) 37 24) 2 5 ≡ Ok (record { teid = user; address = useraddr })
+  pub recovery_value : recovery_in (drop 12 d) ≡ Some recovery
 
 -- ---- the accepted reply to a Modify with a Bearer Context, and the unit's own Delete Bearer
 pub record ModifyRead (teid seq ebi : ℕ) : Type 0 where
   pub header : HeaderRead (modify_bearer teid seq ebi) modify_reply_type teid seq 12
   pub runs : over_in (drop 12 (modify_bearer teid seq ebi)) ≡ false
-  pub cause : octet_in (drop 12 (modify_bearer teid seq ebi)) cause_kind 2 ≡ O.Value 16
-  pub bearer_at : find (drop 12 (modify_bearer teid seq ebi)) bearer_kind 0 ≡ F.At 10 11
-  pub bearer_ebi : ebi_in (part (drop 12 (modify_bearer teid seq ebi)) 10 11) ≡ O.Value ebi
-  pub bearer_cause : octet_in (part (drop 12 (modify_bearer teid seq ebi)) 10 11) cause_kind 2 ≡ O.Value 16
+  pub cause : octet_in (drop 12 (modify_bearer teid seq ebi)) cause_kind 2 ≡ Ok 16
+  pub bearer_at : find (drop 12 (modify_bearer teid seq ebi)) bearer_kind 0 ≡ Some (record { start = 10; size = 11 })
+  pub bearer_ebi : ebi_in (part (drop 12 (modify_bearer teid seq ebi)) 10 11) ≡ Ok ebi
+  pub bearer_cause : octet_in (part (drop 12 (modify_bearer teid seq ebi)) 10 11) cause_kind 2 ≡ Ok 16
 
 pub record DeleteBearerRead (teid seq ebi : ℕ) : Type 0 where
   pub header : HeaderRead (delete_bearer teid seq ebi) bearer_type teid seq 12
   pub runs : over_in (drop 12 (delete_bearer teid seq ebi)) ≡ false
-  pub bearer_ebi : ebi_in (drop 12 (delete_bearer teid seq ebi)) ≡ O.Value ebi
+  pub bearer_ebi : ebi_in (drop 12 (delete_bearer teid seq ebi)) ≡ Ok ebi
 
 -- ---- the two replies of the user side: version 1 and PT 1; S is set, E and PN are not; the length is the size less 8; TEID 0; the type and the
 -- sequence number; no extension header

@@ -5,14 +5,13 @@ use Rattle.std.proofs.Common.{sym, ◌∙◌, ap}
 use Rattle.unit_session.specs.declared.Session.{Session}
 use Rattle.call_own.specs.declared.Answer.{Answer}
 use Rattle.call_own.specs.Outcome.{Outcome, outcome}
-use Rattle.promise_hosts.specs.declared.Two.{Two}
-use Rattle.promise_hosts.specs.Agreement.{two, Agreed}
+use Rattle.promise_hosts.specs.Agreement.{Agreed}
 
 -- f is the call's definition, of the records and of the reply buffer
-pub agrees : (f : List Session → List ℕ → Outcome) (l m l' m' : List Session) (x y x' y' : List ℕ) (a b : Answer) (r : Two)
-    → outcome a l' x' ≡ f l x → outcome b m' y' ≡ f m y → r ≡ two a b → Agreed l m x y r l' m' x' y'
-unfolding two Agreed
-agrees f l m l' m' x y x' y' a b r e g h p q =
+pub agrees : (f : List Session → List ℕ → Outcome) (l m l' m' : List Session) (x y x' y' : List ℕ) (a b : Answer)
+    → outcome a l' x' ≡ f l x → outcome b m' y' ≡ f m y → Agreed l m x y (a, b) l' m' x' y'
+unfolding Agreed
+agrees f l m l' m' x y x' y' a b e g p q =
     let t : f l x ≡ f m y = rw (p, q) in
     let s : outcome a l' x' ≡ outcome b m' y' = e ∙ t ∙ sym g in
-    record { answer = rw h (ap (λ (o : Outcome). o.answer) s); records = ap (λ (o : Outcome). o.table) s; reply = ap (λ (o : Outcome). o.reply) s }
+    record { answer = ap (λ (o : Outcome). o.answer) s; records = ap (λ (o : Outcome). o.table) s; reply = ap (λ (o : Outcome). o.reply) s }

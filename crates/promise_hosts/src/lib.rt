@@ -3,7 +3,7 @@
 #![tactic(auto)]
 
 ghost use Rattle.std.specs.Prelude.{[], ◌≡◌};
-ghost use Rattle.promise_hosts.specs.Agreement.{two, twins, both_written, Agreed, AgreedStored, AgreedHanded, AgreedWritten};
+ghost use Rattle.promise_hosts.specs.Agreement.{Agreed, AgreedStored, AgreedHanded, AgreedWritten};
 ghost use Rattle.promise_demands.specs.Run.{control, user, down, tick, send, close, line};
 ghost use Rattle.promise_demands.specs.Hosts.{Called};
 ghost use Rattle.promise_hosts.specs.Known.{holding, storing, StartedFrom};
@@ -16,63 +16,18 @@ use unit_session::Session;
 use unit_store::Kept;
 use unit_table::Node;
 
-#[derive(Clone, Copy)]
-pub struct Two {
-    pub first: Answer,
-    pub second: Answer,
-}
-
-#[derive(Clone, Copy)]
-pub struct Twins {
-    pub first: Handed,
-    pub second: Handed,
-}
-
-#[derive(Clone, Copy)]
-pub struct BothWritten {
-    pub first: Written,
-    pub second: Written,
-}
-
-fn both(a: Answer, b: Answer) -> Two
-    ensures { result ≡ two a b }
-{
-    Two {
-        first: a,
-        second: b,
-    }
-}
-
-fn both_handed(a: Handed, b: Handed) -> Twins
-    ensures { result ≡ twins a b }
-{
-    Twins {
-        first: a,
-        second: b,
-    }
-}
-
-fn both_written(a: Written, b: Written) -> BothWritten
-    ensures { result ≡ both_written a b }
-{
-    BothWritten {
-        first: a,
-        second: b,
-    }
-}
-
 pub fn fresh_agrees(
     plan: Plan,
     recs: &mut [Session],
     other: &mut [Session],
     store: &mut [[u8; Kept::OCTETS]],
     kept: &mut [[u8; Kept::OCTETS]],
-) -> Two
+) -> (Answer, Answer)
     ensures { AgreedStored recs.old other.old store.old kept.old [] [] result recs.new other.new store.new kept.new [] [] }
 {
     let a = lent_fresh::grugavorn_fresh(plan, recs, store);
     let b = lent_fresh::grugavorn_fresh(plan, other, kept);
-    both(a, b)
+    (a, b)
 }
 
 pub fn tick_agrees(
@@ -81,12 +36,12 @@ pub fn tick_agrees(
     other: &mut [Session],
     store: &mut [[u8; Kept::OCTETS]],
     kept: &mut [[u8; Kept::OCTETS]],
-) -> Two
+) -> (Answer, Answer)
     ensures { AgreedStored recs.old other.old store.old kept.old [] [] result recs.new other.new store.new kept.new [] [] }
 {
     let a = lent_own::grugavorn_tick(node, recs, store);
     let b = lent_own::grugavorn_tick(node, other, kept);
-    both(a, b)
+    (a, b)
 }
 
 pub fn close_agrees(
@@ -95,12 +50,12 @@ pub fn close_agrees(
     other: &mut [Session],
     store: &[[u8; Kept::OCTETS]],
     place: usize,
-) -> Two
+) -> (Answer, Answer)
     ensures { Agreed recs.old other.old [] [] result recs.new other.new [] [] }
 {
     let a = lent_own::grugavorn_close(node, recs, store, place);
     let b = lent_own::grugavorn_close(node, other, store, place);
-    both(a, b)
+    (a, b)
 }
 
 pub fn send_agrees(
@@ -110,12 +65,12 @@ pub fn send_agrees(
     store: &[[u8; Kept::OCTETS]],
     reply: &mut [u8],
     buffer: &mut [u8],
-) -> Two
+) -> (Answer, Answer)
     ensures { Agreed recs.old other.old reply.old buffer.old result recs.new other.new reply.new buffer.new }
 {
     let a = lent_own::grugavorn_send(node, recs, store, reply);
     let b = lent_own::grugavorn_send(node, other, store, buffer);
-    both(a, b)
+    (a, b)
 }
 
 pub fn control_agrees(
@@ -127,12 +82,12 @@ pub fn control_agrees(
     d: &[u8],
     reply: &mut [u8],
     buffer: &mut [u8],
-) -> Two
+) -> (Answer, Answer)
     ensures { AgreedStored recs.old other.old store.old kept.old reply.old buffer.old result recs.new other.new store.new kept.new reply.new buffer.new }
 {
     let a = lent_control::grugavorn_control(node, recs, store, d, reply);
     let b = lent_control::grugavorn_control(node, other, kept, d, buffer);
-    both(a, b)
+    (a, b)
 }
 
 pub fn line_agrees(
@@ -142,12 +97,12 @@ pub fn line_agrees(
     place: usize,
     reply: &mut [u8],
     buffer: &mut [u8],
-) -> Two
+) -> (Answer, Answer)
     ensures { Agreed recs.now recs.now reply.old buffer.old result recs.now recs.now reply.new buffer.new }
 {
     let a = lent_line::grugavorn_line(node, recs, store, place, reply);
     let b = lent_line::grugavorn_line(node, recs, store, place, buffer);
-    both(a, b)
+    (a, b)
 }
 
 pub fn user_agrees(
@@ -157,12 +112,12 @@ pub fn user_agrees(
     d: &[u8],
     reply: &mut [u8],
     buffer: &mut [u8],
-) -> Twins
+) -> (Handed, Handed)
     ensures { AgreedHanded reply.old buffer.old result reply.new buffer.new }
 {
     let a = lent_user::grugavorn_user(node, recs, store, d, reply);
     let b = lent_user::grugavorn_user(node, recs, store, d, buffer);
-    both_handed(a, b)
+    (a, b)
 }
 
 pub fn down_agrees(
@@ -172,12 +127,12 @@ pub fn down_agrees(
     packet: &[u8],
     out: &mut [u8],
     buffer: &mut [u8],
-) -> BothWritten
+) -> (Written, Written)
     ensures { AgreedWritten out.old buffer.old result out.new buffer.new }
 {
     let a = lent_down::grugavorn_down(node, recs, store, packet, out);
     let b = lent_down::grugavorn_down(node, recs, store, packet, buffer);
-    both_written(a, b)
+    (a, b)
 }
 
 // Fresh state from a plan.

@@ -1,12 +1,15 @@
 -- The places that are looked for among the digests beside the summary: that of a key, the first free one and the first whose request is due.
 -- Free places at the end change nothing of the summary.
 -- Assumes nothing.
-use Rattle.std.specs.Prelude.{◌≡◌, ℕ, ◌+◌, ◌-◌, ◌<◌, ◌≤◌, Bool, true, false, not, ◌&&◌, List, [], ◌∷◌, length, drop, replicate, ◌==◌, bit_or, nat_eq, slice_index, refl}
-use Rattle.std.proofs.Common.{ap, arith, drop_of_length-le, eqb-true}
+use Rattle.std.specs.Prelude.{◌≡◌, ℕ, ◌+◌, ◌-◌, ◌<◌, ◌≤◌, Bool, true, false, not, ◌&&◌, List, [], ◌∷◌, length, drop, replicate, ◌==◌, bit_or, nat_eq, slice_index, suc, refl, Some, None, cond, ltb}
+use Rattle.std.proofs.Common.{sym, ap, arith, ltb-false, drop_of_length-le, eqb-true}
 use Rattle.std.proofs.lemmas.List.{length-replicate}
-use Rattle.base_octets.specs.Choice.{pick, and_left, and_right}
+use Rattle.std.specs.List.{position, position_or_len}
+use Rattle.std.specs.Option.{unwrap_or}
+use Rattle.std.proofs.lemmas.List.Recursion.{is_position_or_len}
+use Rattle.base_octets.specs.Choice.{pick, split, and_left, and_right}
 use Rattle.base_octets.specs.Every.{every}
-use Rattle.base_octets.specs.Search.{first_of, first_hit, first_miss, first_end}
+use Rattle.base_octets.specs.Search.{first_of, first_most}
 use Rattle.unit_tunnel.specs.Numbering.{places}
 use Rattle.unit_session.specs.Wide.{or_none}
 use Rattle.step_check.specs.declared.Findings.{Findings}
@@ -33,16 +36,20 @@ findings_of key ds = record {
   due = pick {A = ℕ} (summary_of ds).idle places (first_of due_in ds);
 }
 
--- ---- laws of a search that has come to place i
-module _ (p : ℕ → Bool) (ds : List ℕ) (i : ℕ) (came : first_of p ds ≡ i + first_of p (drop i ds)) where
-  pub search_hit : i < length ds → p (slice_index ds i) ≡ true → i ≡ first_of p ds
-  search_hit h e = let z = first_hit p ds i 0 h e in omega arith
+-- ---- the first place of a list, as the library has it
+pub first_len : (p : ℕ → Bool) (ds : List ℕ) → position_or_len p ds ≡ first_of p ds
+unfolding first_of
+first_len p ds = sym (is_position_or_len (first_of p) p refl (λ d es. split (p d) (λ e. rw e) (λ e. rw (e, suc_one (first_of p es)))) ds)
+  where
+    suc_one : (n : ℕ) → suc n ≡ 1 + n
+    suc_one n = omega arith
 
-  pub search_on : i < length ds → p (slice_index ds i) ≡ false → first_of p ds ≡ i + 1 + first_of p (drop (i + 1) ds)
-  search_on h e = let z = first_miss p ds i 0 h e in omega arith
-
-  pub search_end : length ds ≤ i → i ≡ first_of p ds
-  search_end h = let z = first_end p ds i h in omega arith
+pub first_found : (p : ℕ → Bool) (ds : List ℕ) (n : ℕ) → length ds ≡ n → unwrap_or (position p ds) n ≡ first_of p ds
+first_found p ds n same = rw (first_len p ds) (by (ltb (first_of p ds) (length ds)) refl)
+  where
+    by : (b : Bool) → ltb (first_of p ds) (length ds) ≡ b → unwrap_or (cond b (Some (first_of p ds)) None) n ≡ first_of p ds
+    by true e = refl
+    by false e = let past = ltb-false (first_of p ds) (length ds) e in let most = first_most p ds in omega arith
 
 -- ---- from a place on all are free
 unfoldable pub free_above : List ℕ → ℕ → Bool

@@ -21,6 +21,8 @@ use Rattle.step_keys.specs.Survey.{key_of, wait_of, weight_of, awaits_none, wait
 use Rattle.unit_plan.specs.Plan.{parties_four}
 use Rattle.step_keys.specs.Check.{unpacked_of, waits_keys, survey_keeps, survey_is, survey_bad, survey_quiet}
 use Rattle.step_check.specs.declared.Summary.{Summary}
+use Rattle.step_check.specs.declared.Standing.{Standing}
+use Rattle.step_check.specs.declared.Standing.TheVariants.{Broken, Quiet, Awaiting}
 use Rattle.step_check.specs.declared.Findings.{Findings}
 use Rattle.step_check.specs.declared.Checked.{Checked}
 use Rattle.step_check.specs.Digest.{digest_of, key_in, weight_in, quiet_in, idle_in, good_in, key_in_lem, quiet_in_lem, idle_in_lem, weight_in_lem, good_in_lem}
@@ -57,23 +59,23 @@ kept_of count node g waits =
     (pick g.quiet (from_counts node g.counts) (from_counts node g.counts && (none_clash same_key (wait_of node.echo) waits && pairwise same_key waits)))
     false
 
--- 0: a rule is broken; 1: all are kept, and no place awaits a number; 2: all are kept
-unfoldable pub standing_of : ℕ → Node → Summary → List ℕ → ℕ
-standing_of count node g waits = pick {A = ℕ} (kept_of count node g waits) (pick {A = ℕ} g.quiet 1 2) 0
+-- a rule is broken; or all are kept, and no place awaits a number, or one does
+unfoldable pub standing_of : ℕ → Node → Summary → List ℕ → Standing
+standing_of count node g waits = pick {A = Standing} (kept_of count node g waits) (pick {A = Standing} g.quiet Quiet Awaiting) Broken
 
 -- with what was read for it
-unfoldable pub checked_as : ℕ → Findings → Checked
+unfoldable pub checked_as : Standing → Findings → Checked
 checked_as how findings = record { how = how; findings = findings }
 
 -- the two ways to it
-pub quiet_way : (count : ℕ) (node : Node) (g : Summary) (waits : List ℕ) → waiting_of g ≡ false → pick {A = ℕ} (kept_but count node g) 1 0 ≡ standing_of count node g waits
+pub quiet_way : (count : ℕ) (node : Node) (g : Summary) (waits : List ℕ) → waiting_of g ≡ false → pick {A = Standing} (kept_but count node g) Quiet Broken ≡ standing_of count node g waits
 unfolding kept_but standing_of kept_of waiting_of
 quiet_way count node g waits e = split g.good
     (λ h. let q : g.quiet ≡ true = not-false g.quiet (rw h at e) in rw (h, q))
     (λ h. rw (h, and_no (accepted node.plan && count == places)))
 
 pub awaiting_way : (count : ℕ) (node : Node) (g : Summary) (waits : List ℕ) → waiting_of g ≡ true
-    → pick {A = ℕ} (kept_but count node g && waits_apart node waits) 2 0 ≡ standing_of count node g waits
+    → pick {A = Standing} (kept_but count node g && waits_apart node waits) Awaiting Broken ≡ standing_of count node g waits
 unfolding kept_but waits_apart standing_of kept_of waiting_of
 awaiting_way count node g waits e =
     let h = and_left g.good (not g.quiet) e in
@@ -81,11 +83,19 @@ awaiting_way count node g waits e =
     rw (h, q) (split (accepted node.plan && count == places && true) (λ f. rw f) (λ f. rw f))
 
 -- the same of a list of records
-unfoldable pub stands_of : Node → List Session → ℕ
-stands_of node l = pick {A = ℕ} (keeps_rules node l) (pick {A = ℕ} (every awaits_none l) 1 2) 0
+unfoldable pub stands_of : Node → List Session → Standing
+stands_of node l = pick {A = Standing} (keeps_rules node l) (pick {A = Standing} (every awaits_none l) Quiet Awaiting) Broken
 
-unfoldable pub stands_by : ℕ → Bool
-stands_by how = not (how == 0)
+unfoldable pub stands_by : Standing → Bool
+stands_by Broken = false
+stands_by Quiet = true
+stands_by Awaiting = true
+
+-- a place awaits a number
+unfoldable pub awaits : Standing → Bool
+awaits Broken = false
+awaits Quiet = false
+awaits Awaiting = true
 
 pub stands_kept : (node : Node) (l : List Session) → stands_by (stands_of node l) ≡ keeps_rules node l
 unfolding stands_by stands_of

@@ -3,16 +3,15 @@
 // digests, and so are searches for a place.
 #![tactic(auto)]
 
-ghost use Rattle.std.specs.Prelude.{◌≡◌, ℕ, ◌-◌, ◌<◌, ◌≤◌, true, false, not, ◌&&◌, map, length, drop, ◌==◌};
+ghost use Rattle.std.specs.Prelude.{◌≡◌, ℕ, ◌-◌, ◌<◌, ◌≤◌, true, false, not, ◌&&◌, map, length, drop, ◌==◌, position};
 ghost use Rattle.base_octets.specs.Choice.{pick};
-ghost use Rattle.unit_table.specs.Rules.{bounds_of};
-ghost use Rattle.step_keys.specs.Survey.{wait_of};
 ghost use Rattle.base_distinct.specs.Lacks.{lacks};
 ghost use Rattle.step_check.specs.Digest.{free_digest, taken_digest, key_in, idle_in, mark_of};
-ghost use Rattle.step_check.specs.Summary.{no_summary, summary_of, kept_but, waits_apart, checked_as, stands_by, waiting_of};
-ghost use Rattle.base_octets.specs.Search.{first_of};
+ghost use Rattle.step_check.specs.Summary.{summary_of, kept_but, waits_apart, checked_as, stands_by, waiting_of};
 ghost use Rattle.unit_tunnel.specs.Numbering.{places};
-ghost use Rattle.step_check.specs.Findings.{key_place, free_in, due_in, findings_of, free_above};
+ghost use Rattle.step_check.specs.Findings.{due_in, findings_of, free_above};
+ghost use Rattle.step_check.specs.declared.Standing.{Standing};
+ghost use Rattle.step_check.specs.declared.Standing.TheVariants.{Broken, Quiet, Awaiting};
 ghost use Rattle.step_check.specs.Over.{enters_of, marks_of, flags_in, tallied_in, packed_in};
 
 use step_keys::Parts;
@@ -31,6 +30,7 @@ pub struct Summary {
 
 // With it the places that are looked for: that of a key and the first free one, where a key is asked for, and the first whose request is
 // due; past the last where there is none.
+// Kept: at a place past the last `lent_records` reads and puts nothing: an Option would be turned into that place wherever it is used.
 #[derive(Clone, Copy)]
 pub struct Findings {
     pub summary: Summary,
@@ -39,6 +39,16 @@ pub struct Findings {
     pub due: usize,
 }
 
+// How a table stands: a rule is broken; or all are kept, and no place awaits a number; or all are kept, and one awaits.
+#[derive(Clone, Copy, Debug, PartialEq, Eq)]
+pub enum Standing {
+    Broken,
+    Quiet,
+    Awaiting,
+}
+
+// Kept: key, flags and access point are one number: so a G-PDU with 64 live sessions costs 4,200 instructions, 0.94 of the plain
+// implementation in C, where the aim is 1.0 (docs/SPEED.md).
 impl Summary {
     // the bits of a digest: the key has the low ones, the access point the top two
     pub const KEYS: u64 = 288230376151711744;
@@ -57,14 +67,14 @@ impl Summary {
 
     // the digest of a record that is not as the rules want it
     pub const SPOILT: u64 = 18446744073709551615;
-}
 
-// What the records are held to of a node's plan.
-pub fn bounds_of(node: Node) -> Bounds
-    ensures { result ≡ bounds_of node.plan }
-{
-    let plan = node.plan;
-    step_keys::bounds(plan)
+    // Whether the awaited numbers are still to be read.
+    #[tactic(auto, unfolding(crate::specs::Summary::waiting_of))]
+    pub fn waiting(self) -> bool
+        ensures { result ≡ waiting_of self }
+    {
+        self.good & !self.quiet
+    }
 }
 
 // The digest of a free record, by whether it is as a free one has to be.
@@ -112,14 +122,6 @@ pub fn taken_digest(b: Bounds, s: Session) -> u64
     std::num::wrapping_add_u64(quiet, Summary::AWAITS)
 }
 
-// What a record's own request awaits, as a key.
-pub fn wait_of(s: Session) -> u64
-    ensures { result ≡ wait_of s.own }
-{
-    let own = s.own;
-    step_keys::wait(own)
-}
-
 // The key in a digest; 0 is none.
 pub fn key_in(d: u64) -> u64
     ensures { result ≡ key_in d }
@@ -139,13 +141,10 @@ pub fn due_in(d: u64) -> bool
 fn lacks(ds: &[u64], x: u64, from: usize) -> bool
     ensures { result ≡ lacks x (drop from (map key_in ds.now)) }
 {
-    let mut i: usize = 0;
-    while i < ds.len() {
-        let k = key_in(ds[i]);
-        if (from <= i) & (x == k) {
+    for (i, d) in ds.iter().enumerate() {
+        if (from <= i) & (x == key_in(*d)) {
             return false;
         }
-        i += 1;
     }
     true
 }
@@ -158,8 +157,8 @@ fn mark(x: u64) -> usize
 }
 
 // Whether a digest's key is none of those from a place on; it is marked. It is looked for only where its mark was met before.
-fn enters(ds: &[u64], d: u64, from: usize, marks: &mut [u8]) -> bool
-    requires { (length marks.old ≡ 1024) × ((key_in d == 0) ≡ false) }
+fn enters(ds: &[u64], d: u64, from: usize, marks: &mut [u8; 1024]) -> bool
+    requires { (key_in d == 0) ≡ false }
     ensures { (result ≡ enters_of (key_in d) (drop from (map key_in ds.now)) marks.old)
         × (marks.new ≡ marks_of (key_in d) marks.old) }
 {
@@ -178,11 +177,10 @@ fn note(
     ds: &[u64],
     d: u64,
     from: usize,
-    marks: &mut [u8],
+    marks: &mut [u8; 1024],
     flags: &mut u64,
-    tallies: &mut [u64],
+    tallies: &mut [u64; 4],
 ) -> bool
-    requires { (length marks.old ≡ 1024) × (length tallies.old ≡ 4) }
     ensures { (result ≡ enters_of (key_in d) (drop from (map key_in ds.now)) marks.old)
         × ((marks.new ≡ marks_of (key_in d) marks.old)
         × ((flags.new ≡ flags_in d flags.old) × (tallies.new ≡ tallied_in d tallies.old))) }
@@ -207,20 +205,9 @@ fn packed_in(tallies: [u64; 4]) -> u64
         + tallies[3] % 65536 * Parts::FOURTH_UNIT
 }
 
-fn no_summary() -> Summary
-    ensures { result ≡ no_summary }
-{
-    Summary {
-        good: false,
-        quiet: false,
-        idle: false,
-        counts: 0,
-    }
-}
-
 // How many of the digests below n are passed over at once: eight or one, where they are those of free places.
-fn passed(ds: &[u64], n: usize) -> usize
-    requires { (length ds.now ≡ places) × ((0 < n) × (n ≤ places)) }
+fn passed(ds: &[u64; Unit::PLACES], n: usize) -> usize
+    requires { (0 < n) × (n ≤ length ds.now) }
     ensures { (result ≤ n) × (free_above ds.now n ≡ true → free_above ds.now (n - result) ≡ true) }
 {
     if 8 <= n {
@@ -237,9 +224,10 @@ fn passed(ds: &[u64], n: usize) -> usize
 }
 
 // A place from which on all are free. The steps are uneven, so that the loop stays a loop in the machine's code.
-fn used(ds: &[u64]) -> usize
-    requires { length ds.now ≡ places }
-    ensures { (result ≤ places) × (free_above ds.now result ≡ true) }
+// Kept: `rposition` takes 171 instructions where no place is taken, this 129 (with 32 taken 91 and 83, with 64 taken 14 and 39); with none
+// taken a G-PDU with a full store is above its aim, 1.2 of the plain implementation, as it is (docs/SPEED.md).
+fn used(ds: &[u64; Unit::PLACES]) -> usize
+    ensures { (result ≤ length ds.now) × (free_above ds.now result ≡ true) }
 {
     let mut n: usize = Unit::PLACES;
     while 0 < n {
@@ -253,21 +241,23 @@ fn used(ds: &[u64]) -> usize
 }
 
 // One pass over the digests below n, from the last to the first; those from there on are of free places.
-fn summary_below(ds: &[u64], n: usize) -> Summary
-    requires { (length ds.now ≡ places) × ((n ≤ places) × (free_above ds.now n ≡ true)) }
+fn summary_below(ds: &[u64; Unit::PLACES], n: usize) -> Summary
+    requires { (n ≤ length ds.now) × (free_above ds.now n ≡ true) }
     ensures { result ≡ summary_of ds.now }
 {
     let mut marks = [0u8; 1024];
     let mut flags: u64 = 0;
     let mut tallies = [0u64; 4];
-    let mut i = n;
-    while 0 < i {
-        let d = ds[i - 1];
-        let new = note(ds, d, i, &mut marks, &mut flags, &mut tallies);
+    for i in (0..n).rev() {
+        let new = note(ds, ds[i], i + 1, &mut marks, &mut flags, &mut tallies);
         if !new {
-            return no_summary();
+            return Summary {
+                good: false,
+                quiet: false,
+                idle: false,
+                counts: 0,
+            };
         }
-        i -= 1;
     }
     let counts = packed_in(tallies);
     Summary {
@@ -279,8 +269,7 @@ fn summary_below(ds: &[u64], n: usize) -> Summary
 }
 
 // The summary of all digests; where there is no session, nothing is left to be found.
-fn summary_of(ds: &[u64]) -> Summary
-    requires { length ds.now ≡ places }
+fn summary_of(ds: &[u64; Unit::PLACES]) -> Summary
     ensures { result ≡ summary_of ds.now }
 {
     let n = used(ds);
@@ -296,58 +285,34 @@ fn summary_of(ds: &[u64]) -> Summary
 }
 
 // The first digest with a key.
-fn key_place(ds: &[u64], k: u64) -> usize
-    ensures { result ≡ key_place ds.now k }
+fn key_place(ds: &[u64], k: u64) -> Option<usize>
+    ensures { result ≡ position (λ d. key_in d == k) ds.now }
 {
-    let mut i: usize = 0;
-    while i < ds.len() {
-        let x = key_in(ds[i]);
-        if x == k {
-            return i;
-        }
-        i += 1;
-    }
-    i
+    ds.iter().position(|d| key_in(*d) == k)
 }
 
 // The first digest of a free record.
-fn free_in(ds: &[u64]) -> usize
-    ensures { result ≡ free_in ds.now }
+fn free_in(ds: &[u64]) -> Option<usize>
+    ensures { result ≡ position (λ d. d == 0) ds.now }
 {
-    let mut i: usize = 0;
-    while i < ds.len() {
-        if ds[i] == 0 {
-            return i;
-        }
-        i += 1;
-    }
-    i
+    ds.iter().position(|d| *d == 0)
 }
 
-// The first digest of a record whose request is due; none is looked for where nothing is due.
-fn due_place(ds: &[u64], idle: bool) -> usize
-    ensures { result ≡ pick {A = ℕ} idle places (first_of due_in ds.now) }
+// The first digest of a record whose request is due.
+fn due_place(ds: &[u64]) -> Option<usize>
+    ensures { result ≡ position due_in ds.now }
 {
-    if idle {
-        return Unit::PLACES;
-    }
-    let mut i: usize = 0;
-    while i < ds.len() {
-        let due = due_in(ds[i]);
-        if due {
-            return i;
-        }
-        i += 1;
-    }
-    i
+    ds.iter().position(|d| due_in(*d))
 }
 
-// What the digests say, with the place of a key and the first free one where the key is not 0.
+// What the digests say, with the place of a key and the first free one where the key is not 0. None that is due is looked for where nothing
+// is due.
 pub fn findings_of(ds: [u64; Unit::PLACES], key: u64) -> Findings
     ensures { result ≡ findings_of key ds }
 {
     let summary = summary_of(&ds);
-    let due = due_place(&ds, summary.idle);
+    let due = if summary.idle { None } else { due_place(&ds) };
+    let due = due.unwrap_or(Unit::PLACES);
     if key == 0 {
         return Findings {
             summary,
@@ -356,8 +321,8 @@ pub fn findings_of(ds: [u64; Unit::PLACES], key: u64) -> Findings
             due,
         };
     }
-    let old = key_place(&ds, key);
-    let free = free_in(&ds);
+    let old = key_place(&ds, key).unwrap_or(Unit::PLACES);
+    let free = free_in(&ds).unwrap_or(Unit::PLACES);
     Findings {
         summary,
         old,
@@ -366,44 +331,38 @@ pub fn findings_of(ds: [u64; Unit::PLACES], key: u64) -> Findings
     }
 }
 
-// Whether the awaited numbers are still to be read.
-pub fn waiting(v: Findings) -> bool
-    ensures { result ≡ waiting_of v.summary }
-{
-    let g = v.summary;
-    g.good & !g.quiet
-}
-
 // Whether a table of so many records keeps every rule but that awaited numbers differ, by the summary of it.
 pub fn kept_but(count: usize, node: Node, v: Findings) -> bool
     ensures { result ≡ kept_but count node v.summary }
 {
     let g = v.summary;
-    let plan = node.plan;
-    let planned = plan.accepted();
+    let planned = node.plan.accepted();
     if !(planned & (count == Unit::PLACES) & g.good) {
         return false;
     }
     let live = step_keys::unpacked(g.counts);
+    let plan = node.plan;
     let shared = unit_sharing::within(plan, live);
-    let echo = node.echo;
-    let echoes = echo.fits(plan.interval, plan.resend, plan.sends);
+    let echoes = node.echo.fits(plan.interval, plan.resend, plan.sends);
     shared & echoes & (node.next <= OwnRequest::LAST_NUMBER)
 }
 
 // What the check of a table has found: how it stands, and what its digests say.
 #[derive(Clone, Copy)]
 pub struct Checked {
-    // 0 where a rule is broken, 1 where all are kept and no place awaits a number, else 2
-    pub how: u8,
+    pub how: Standing,
     pub findings: Findings,
 }
 
 // The table where no place awaits a number, or where it is broken anyway.
 pub fn checked_quiet(kept: bool, findings: Findings) -> Checked
-    ensures { result ≡ checked_as (pick {A = ℕ} kept 1 0) findings }
+    ensures { result ≡ checked_as (pick {A = Standing} kept Quiet Broken) findings }
 {
-    let how = if kept { 1 } else { 0 };
+    let how = if kept {
+        Standing::Quiet
+    } else {
+        Standing::Broken
+    };
     Checked { how, findings }
 }
 
@@ -414,24 +373,27 @@ pub fn checked_awaiting(
     findings: Findings,
     waits: [u64; Unit::PLACES],
 ) -> Checked
-    ensures { result ≡ checked_as (pick {A = ℕ} (kept && waits_apart node waits) 2 0) findings }
+    ensures { result ≡ checked_as (pick {A = Standing} (kept && waits_apart node waits) Awaiting Broken) findings }
 {
     let w = step_keys::wait(node.echo);
     let apart = base_distinct::absent(&waits, w);
     let each = base_distinct::distinct(&waits);
-    let how = if kept & (apart & each) { 2 } else { 0 };
+    let how = if kept & (apart & each) {
+        Standing::Awaiting
+    } else {
+        Standing::Broken
+    };
     Checked { how, findings }
 }
 
-pub fn how_of(v: Checked) -> u8
-    ensures { result ≡ v.how }
-{
-    v.how
-}
-
 // Whether it stands by every rule.
-pub fn stands_by(how: u8) -> bool
+#[tactic(auto, unfolding(crate::specs::Summary::stands_by))]
+pub fn stands_by(how: Standing) -> bool
     ensures { result ≡ stands_by how }
 {
-    how != 0
+    match how {
+        Standing::Broken => false,
+        Standing::Quiet => true,
+        Standing::Awaiting => true,
+    }
 }

@@ -1,7 +1,7 @@
 -- A way to compute the control call on the two records that it can concern: which record is asked about, whether a place is opened, what becomes
 -- of the two and what is put back. Nothing here is to be believed: crate step_whole shows that this is `control_taken` of the whole table.
 -- Assumes nothing.
-use Rattle.std.specs.Prelude.{◌≡◌, ℕ, ◌+◌, ◌-◌, ◌%◌, ◌<◌, ◌≤◌, Bool, true, false, ◌&&◌, List, length, ◌==◌, nat_lt, slice_index, slice_index_or, slice_set}
+use Rattle.std.specs.Prelude.{◌≡◌, ℕ, ◌+◌, ◌-◌, ◌%◌, ◌<◌, ◌≤◌, Bool, true, false, ◌&&◌, List, length, ◌==◌, nat_lt, slice_index, slice_index_or, slice_set, Option, None}
 use Rattle.std.proofs.Common.{sym, arith, lt-ltb, le-ltb}
 use Rattle.std.proofs.Math.Path.{ap}
 use Rattle.base_octets.specs.Choice.{pick}
@@ -20,8 +20,6 @@ use Rattle.unit_table.specs.Own.{rested}
 use Rattle.wire_messages.specs.Messages.{echo_of, version_not_supported}
 use Rattle.step_keys.specs.Survey.{id_key, weight_of, weight_most}
 use Rattle.step_keys.specs.Check.{unpacked_of}
-use Rattle.wire_fields.specs.declared.Recovery.{Recovery}
-use Rattle.wire_fields.specs.declared.Recovery.TheVariants as R
 use Rattle.wire_requests.specs.declared.Create as C
 use Rattle.call_own.specs.declared.Span.{Span}
 use Rattle.call_own.specs.Outcome.{Outcome, outcome, least_reply, no_places, all_places, one_place, two_places}
@@ -42,7 +40,6 @@ use Rattle.wire_messages.specs.Types.{create_reply_type, echo_reply_type}
 use Rattle.call_asked.specs.declared.Concern.{Concern}
 use Rattle.call_asked.specs.declared.Asked.{Asked}
 use Rattle.call_asked.specs.declared.Asked.TheVariants as A
-use Rattle.step_control.specs.declared.Target.{Target}
 use Rattle.step_control.specs.declared.Verdict.{Verdict}
 use Rattle.step_control.specs.declared.Verdict.TheVariants as Y
 use Rattle.unit_session.specs.Wide.{long_words}
@@ -52,22 +49,26 @@ use Rattle.unit_session.specs.Wide.{long_words}
 unfoldable pub restarts_now : ℕ → Asked → Node → Bool
 restarts_now room a node = pick (nat_lt room least_reply) false (restarts_in a node)
 
-abbrev pub at_place : ℕ → Target
-at_place place = record { key = 0; place = place }
-
-unfoldable pub target_of : Asked → Target
-target_of (A.Silent number) = at_place places
-target_of A.Version = at_place places
-target_of (A.Echo recovery seq) = at_place places
-target_of (A.EchoReply recovery) = at_place places
-target_of (A.Create c seq) = record { key = id_key c.imsi c.ebi; place = places }
-target_of (A.Refused w to seq) = at_place places
-target_of (A.Session teid seq x) = at_place (control_place teid.0)
+-- the key of IMSI and EBI that is asked for; 0, which no session has, where none is
+unfoldable pub key_of : Asked → ℕ
+key_of (A.Silent number) = 0
+key_of A.Version = 0
+key_of (A.Echo recovery seq) = 0
+key_of (A.EchoReply recovery) = 0
+key_of (A.Create c seq) = id_key c.imsi c.ebi
+key_of (A.Refused w to seq) = 0
+key_of (A.Session teid seq x) = 0
 
 -- ---- what is seen of the records
--- the place of the record that it is about
-unfoldable pub old_by : Findings → Target → ℕ
-old_by findings a = pick {A = ℕ} (a.key == 0) a.place findings.old
+-- the place of the record that it is about: that of the session with the key, or the one that is named; past the last where there is none
+unfoldable pub old_of : Findings → Asked → ℕ
+old_of findings (A.Silent number) = places
+old_of findings A.Version = places
+old_of findings (A.Echo recovery seq) = places
+old_of findings (A.EchoReply recovery) = places
+old_of findings (A.Create c seq) = pick {A = ℕ} (id_key c.imsi c.ebi == 0) places findings.old
+old_of findings (A.Refused w to seq) = places
+old_of findings (A.Session teid seq x) = control_place teid.0
 
 -- after a restart no record is taken
 unfoldable pub basis_by : Bool → ℕ → ℕ → ℕ → Bool → Basis
@@ -77,7 +78,7 @@ basis_by kept counts old free restart =
 
 unfoldable pub basis_of : Checked → Node → Asked → ℕ → Basis
 basis_of v node a room =
-    basis_by (stands_by v.how) v.findings.summary.counts (old_by v.findings (target_of a)) v.findings.free (restarts_now room a node)
+    basis_by (stands_by v.how) v.findings.summary.counts (old_of v.findings a) v.findings.free (restarts_now room a node)
 
 -- ---- the place that is opened
 -- a repeat of the Create that made the session of a place
@@ -88,10 +89,10 @@ repeats_at place c seq s = nat_lt place places && is_repeat c seq s
 unfoldable pub counts_less : ℕ → Session → ℕ
 counts_less counts s = (counts + long_words - weight_of s) % long_words
 
--- in the words of the code: what gives the counts with the record's share
-pub counts_less_lem : (r counts : ℕ) (s : Session) → r < long_words → (r + weight_of s) % long_words ≡ counts → r ≡ counts_less counts s
+-- in the words of the code: a difference that wraps
+pub counts_less_lem : (counts : ℕ) (s : Session) → (counts + (long_words - weight_of s)) % long_words ≡ counts_less counts s
 unfolding counts_less
-counts_less_lem r counts s h e = let w = weight_most s in omega arith
+counts_less_lem counts s = let w = weight_most s in omega arith
 
 unfoldable pub room_for : Plan → ℕ → Session → ℕ → Bool
 room_for plan counts s point = admits plan (λ a. slice_index (unpacked_of (counts_less counts s)) a) point
@@ -139,11 +140,11 @@ abbrev pub taken_with : Taken → List ℕ → TakenWith
 taken_with a reply = record { answer = a; reply = reply }
 
 -- both records as they were
-unfoldable pub unmoved_on : ℕ → ℕ → Bool → Recovery → Concerned → Taken
+unfoldable pub unmoved_on : ℕ → ℕ → Bool → Option ℕ → Concerned → Taken
 unmoved_on number size ended heard p = record { number = number; size = size; ended = ended; heard = heard; old = p.oldrecord; new = p.newrecord; span = no_places }
 
 -- the same, with a message that answers
-abbrev pub still_on : ℕ → Recovery → Concerned → List ℕ → List ℕ → TakenWith
+abbrev pub still_on : ℕ → Option ℕ → Concerned → List ℕ → List ℕ → TakenWith
 still_on number heard p m reply = taken_with (unmoved_on number (length m) false heard p) (overlay m reply)
 
 -- no room: 73, and the replaced session is gone
@@ -198,44 +199,44 @@ named_places has i = pick has (one_place i) no_places
 
 unfoldable pub named_with : Span → AmendedWith → Concerned → TakenWith
 named_with span q p = taken_with
-    (record { number = q.answer.number; size = q.answer.size; ended = false; heard = R.None; old = q.answer.session; new = p.newrecord; span = span })
+    (record { number = q.answer.number; size = q.answer.size; ended = false; heard = None; old = q.answer.session; new = p.newrecord; span = span })
     q.reply
 
 unfoldable pub named_on : ℕ → Concern → ℕ → Concerned → List ℕ → TakenWith
 named_on teid x seq p reply = named_with (named_places (has_control p.oldrecord teid) p.old) (done_with (of_number teid x seq p.oldrecord) reply) p
 
 unfoldable pub asked_on : Node → Asked → Concerned → List ℕ → TakenWith
-asked_on node (A.Silent number) p reply = taken_with (unmoved_on number 0 false R.None p) reply
-asked_on node A.Version p reply = still_on 5 R.None p version_not_supported reply
+asked_on node (A.Silent number) p reply = taken_with (unmoved_on number 0 false None p) reply
+asked_on node A.Version p reply = still_on 5 None p version_not_supported reply
 asked_on node (A.Echo recovery seq) p reply = still_on 0 recovery p (echo_of echo_reply_type seq node.plan.recovery) reply
 asked_on node (A.EchoReply recovery) p reply = taken_with (unmoved_on 0 0 true recovery p) reply
 asked_on node (A.Create c seq) p reply = open_on c seq node p reply
-asked_on node (A.Refused w to seq) p reply = still_on w.cause R.None p (cause_octets create_reply_type to seq w) reply
+asked_on node (A.Refused w to seq) p reply = still_on w.cause None p (cause_octets create_reply_type to seq w) reply
 asked_on node (A.Session teid seq x) p reply = named_on teid.0 x seq p reply
 
 -- in document 01's order: 1, 2, then what is asked
 unfoldable pub taken_on : Node → Asked → Concerned → List ℕ → TakenWith
 taken_on node a p reply =
-    pick (nat_lt (length reply) least_reply) (taken_with (unmoved_on 1 0 false R.None p) reply)
-    (pick p.kept (asked_on node a p reply) (taken_with (unmoved_on 2 0 false R.None p) reply))
+    pick (nat_lt (length reply) least_reply) (taken_with (unmoved_on 1 0 false None p) reply)
+    (pick p.kept (asked_on node a p reply) (taken_with (unmoved_on 2 0 false None p) reply))
 
 module _ (node : Node) (a : Asked) (p : Concerned) (reply : List ℕ) where
-  pub taken-short : length reply < least_reply → taken_with (unmoved_on 1 0 false R.None p) reply ≡ taken_on node a p reply
+  pub taken-short : length reply < least_reply → taken_with (unmoved_on 1 0 false None p) reply ≡ taken_on node a p reply
   unfolding taken_on
   taken-short h = rw (lt-ltb (length reply) least_reply h)
 
   module _ (room : least_reply ≤ length reply) where
-    pub taken_broken : p.kept ≡ false → taken_with (unmoved_on 2 0 false R.None p) reply ≡ taken_on node a p reply
+    pub taken_broken : p.kept ≡ false → taken_with (unmoved_on 2 0 false None p) reply ≡ taken_on node a p reply
     unfolding taken_on
     taken_broken e =
         rw (le-ltb (length reply) least_reply room)
-        (ap (λ (t : Bool). pick t (asked_on node a p reply) (taken_with (unmoved_on 2 0 false R.None p) reply)) (sym e))
+        (ap (λ (t : Bool). pick t (asked_on node a p reply) (taken_with (unmoved_on 2 0 false None p) reply)) (sym e))
 
     pub taken_kept : p.kept ≡ true → asked_on node a p reply ≡ taken_on node a p reply
     unfolding taken_on
     taken_kept e =
         rw (le-ltb (length reply) least_reply room)
-        (ap (λ (t : Bool). pick t (asked_on node a p reply) (taken_with (unmoved_on 2 0 false R.None p) reply)) (sym e))
+        (ap (λ (t : Bool). pick t (asked_on node a p reply) (taken_with (unmoved_on 2 0 false None p) reply)) (sym e))
 
 -- ---- what is put back
 -- an echo that ended is due again after E ticks

@@ -1,8 +1,8 @@
 -- One pass over the records: each held to its rules, its key (IMSI and EBI), whether it awaits a number, and its share of four counts
 -- that are packed into one number. Where nobody awaits one, the whole check needs no more of the records.
 -- Assumes nothing.
-use Rattle.std.specs.Prelude.{ℕ, zero, suc, ◌+◌, ◌*◌, ◌%◌, ◌^◌, ◌<◌, ◌≤◌, Bool, true, false, ◌&&◌, List, map, ◌≡◌, refl, replicate, eqb}
-use Rattle.std.proofs.Common.{arith, ne_eqb}
+use Rattle.std.specs.Prelude.{ℕ, ◌+◌, ◌*◌, ◌%◌, ◌≤◌, Bool, true, false, ◌&&◌, List, map, ◌≡◌, refl, replicate, eqb}
+use Rattle.std.proofs.Common.{arith}
 use Rattle.base_octets.specs.Choice.{pick, split}
 use Rattle.base_octets.specs.Every.{every}
 use Rattle.base_octets.specs.Sums.{sum_of}
@@ -10,7 +10,6 @@ use Rattle.unit_session.specs.declared.OwnRequest.{OwnRequest}
 use Rattle.unit_session.specs.declared.Session.{Session}
 use Rattle.unit_session.specs.declared.Bounds.{Bounds}
 use Rattle.unit_session.specs.Session.{is_free, record_ok}
-use Rattle.unit_session.specs.Wide.{long_words}
 use Rattle.unit_tunnel.specs.Numbering.{places}
 
 -- an IMSI has less than 55 bits, so that IMSI and EBI fit one number of 64
@@ -40,19 +39,6 @@ fourth_unit = 281474976710656
 
 unfoldable pub point_unit : ℕ → ℕ
 point_unit a = pick {A = ℕ} (eqb a 0) 1 (pick {A = ℕ} (eqb a 1) second_unit (pick {A = ℕ} (eqb a 2) third_unit (pick {A = ℕ} (eqb a 3) fourth_unit 0)))
-
--- the same as a shift
-pub unit_shift : (a : ℕ) → a < 4 → 1 * 2 ^ (a * 16) % long_words ≡ point_unit a
-unfolding point_unit
-unit_shift zero h = refl
-unit_shift (suc zero) h = refl
-unit_shift (suc (suc zero)) h = refl
-unit_shift (suc (suc (suc zero))) h = refl
-unit_shift (suc (suc (suc (suc a)))) h = absurd (omega arith)
-
-pub unit_none : (a : ℕ) → 4 ≤ a → 0 ≡ point_unit a
-unfolding point_unit
-unit_none a h = rw (ne_eqb a 0 (λ e. omega arith), ne_eqb a 1 (λ e. omega arith), ne_eqb a 2 (λ e. omega arith), ne_eqb a 3 (λ e. omega arith))
 
 unfoldable pub weight_of : Session → ℕ
 weight_of s = pick {A = ℕ} (is_free s) 0 (point_unit s.point)

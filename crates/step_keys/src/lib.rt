@@ -42,25 +42,30 @@ pub fn key(s: Session) -> u64
 pub fn id_key(imsi: u64, ebi: u8) -> u64
     ensures { result ≡ id_key imsi ebi }
 {
-    imsi % Parts::IMSI_PART * 256 + ebi as u64
+    imsi % Parts::IMSI_PART * 256 + u64::from(ebi)
 }
 
+#[tactic(auto, unfolding(crate::specs::Survey::wait_of))]
 pub fn wait(r: OwnRequest) -> u64
     ensures { result ≡ wait_of r }
 {
     if r.sends == 0 {
         return 0;
     }
-    r.number as u64 + 1
+    u64::from(r.number) + 1
 }
 
+#[tactic(auto, unfolding(crate::specs::Survey::point_unit))]
 fn point_unit(point: u8) -> u64
     ensures { result ≡ point_unit point }
 {
-    if point < 4 {
-        return 1u64 << (point * 16);
+    match point {
+        0 => 1,
+        1 => Parts::SECOND_UNIT,
+        2 => Parts::THIRD_UNIT,
+        3 => Parts::FOURTH_UNIT,
+        _ => 0,
     }
-    0
 }
 
 pub fn weight(s: Session) -> u64
@@ -77,10 +82,10 @@ pub fn unpacked(counts: u64) -> [u16; 4]
     ensures { result ≡ unpacked_of counts }
 {
     [
-        (counts % 65536) as u16,
-        (counts / 65536 % 65536) as u16,
-        (counts / 65536 / 65536 % 65536) as u16,
-        (counts / 65536 / 65536 / 65536 % 65536) as u16,
+        (counts % Parts::SECOND_UNIT) as u16,
+        (counts / Parts::SECOND_UNIT % Parts::SECOND_UNIT) as u16,
+        (counts / Parts::THIRD_UNIT % Parts::SECOND_UNIT) as u16,
+        (counts / Parts::FOURTH_UNIT % Parts::SECOND_UNIT) as u16,
     ]
 }
 
@@ -88,9 +93,8 @@ pub fn unpacked(counts: u64) -> [u16; 4]
 pub fn bounds(plan: Plan) -> Bounds
     ensures { result ≡ bounds_of plan }
 {
-    let parties = plan.parties();
     Bounds {
-        parties,
+        parties: plan.parties(),
         resend: plan.resend,
         sends: plan.sends,
     }
@@ -100,7 +104,7 @@ pub fn bounds(plan: Plan) -> Bounds
 fn unclaimed(k: u32, echo: u64, keys: &[u64]) -> bool
     ensures { result ≡ unclaimed k echo keys.now }
 {
-    let key = k as u64 + 1;
+    let key = u64::from(k) + 1;
     let apart = base_distinct::absent(keys, key);
     !((key != 0) & (key == echo)) & apart
 }
@@ -110,14 +114,11 @@ pub fn free_among(next: u32, echo: u64, keys: &[u64]) -> u32
     ensures { result ≡ free_among (places + 2) next echo keys.now }
 {
     let mut k = next;
-    let mut tries: usize = Unit::PLACES + 2;
-    while 0 < tries {
-        let ok = unclaimed(k, echo, keys);
-        if ok {
+    for _ in 0..Unit::PLACES + 2 {
+        if unclaimed(k, echo, keys) {
             return k;
         }
         k = unit_table::after(k);
-        tries -= 1;
     }
     k
 }

@@ -1,7 +1,7 @@
 -- A way to compute a send: who is sent next, what becomes of the record, what is answered. Nothing here is to be believed: lent_own shows that
 -- these steps are `send_of`.
 -- Assumes nothing.
-use Rattle.std.specs.Prelude.{ℕ, ◌+◌, Bool, List, length, eqb, ltb}
+use Rattle.std.specs.Prelude.{ℕ, ◌+◌, Bool, true, false, List, length, eqb, ltb}
 use Rattle.base_octets.specs.Number.{taken, reply_short, rules_broken, nothing_due}
 use Rattle.base_octets.specs.Choice.{pick}
 use Rattle.base_octets.specs.Overlay.{overlay}
@@ -17,6 +17,7 @@ use Rattle.wire_messages.specs.Messages.{echo_of, delete_bearer}
 use Rattle.call_own.specs.Outcome.{least_reply, no_places, one_place, bare, Back, back}
 use Rattle.call_own.specs.Calls.{timed, stepped}
 use Rattle.step_check.specs.declared.Checked.{Checked}
+use Rattle.step_check.specs.Summary.{stands_by, awaits}
 use Rattle.step_own.specs.declared.Sending.{Sending}
 use Rattle.step_own.specs.declared.Sending.TheVariants.{Nothing, Echo, At}
 
@@ -26,15 +27,16 @@ taken_among node waits = free_among (places + 2) node.next (wait_of node.echo) w
 
 -- a place awaits a number
 unfoldable pub awaiting_in : Checked → Bool
-awaiting_in v = eqb v.how 2
+awaiting_in v = awaits v.how
 
 -- who is sent next
 unfoldable pub next_due : ℕ → Node → Checked → List ℕ → Sending
 next_due room node v waits =
     pick (ltb room least_reply) (Nothing reply_short)
-    (pick (eqb v.how 0) (Nothing rules_broken)
+    (pick (stands_by v.how)
     (pick (eqb node.echo.timer 0) (Echo (taken_among node waits))
-    (pick (ltb v.findings.due places) (At v.findings.due (taken_among node waits)) (Nothing nothing_due))))
+    (pick (ltb v.findings.due places) (At v.findings.due (taken_among node waits)) (Nothing nothing_due)))
+    (Nothing rules_broken))
 
 -- nobody where the store breaks its rules
 unfoldable pub due_with : Bool → ℕ → Sending → Sending

@@ -1,7 +1,7 @@
 -- A way to compute a tick and a close: the change and how many records it is made of, what becomes of one record, what is answered. Nothing here is to
 -- be believed: the laws show that these steps are `tick_of` and `close_of`.
 -- Assumes nothing.
-use Rattle.std.specs.Prelude.{ℕ, Bool, true, false, not, ◌&&◌, ◌||◌, List, [], ◌∷◌, map, ◌≡◌, refl, length, get_or, set, eqb}
+use Rattle.std.specs.Prelude.{ℕ, Bool, true, false, not, ◌&&◌, List, [], ◌≡◌, refl, length, get_or, set, eqb}
 use Rattle.std.proofs.Common.{sym, ◌∙◌, arith, eqb-true}
 use Rattle.std.proofs.lemmas.List.{set-get_or}
 use Rattle.base_octets.specs.Overlay.{overlay}
@@ -21,7 +21,10 @@ use Rattle.unit_table.specs.Become.{changed_by}
 use Rattle.unit_table.specs.Change.{nobody, changed_at}
 use Rattle.unit_table.specs.Own.{echo_ticked, all_ticked}
 use Rattle.step_keys.specs.Survey.{awaits_none}
-use Rattle.step_check.specs.Summary.{stands_of}
+use Rattle.step_check.specs.declared.Standing.{Standing}
+use Rattle.step_check.specs.declared.Standing.TheVariants.{Broken, Quiet, Awaiting}
+use Rattle.step_check.specs.Summary.{stands_of, stands_by}
+use Rattle.unit_store.specs.Row.{store_rows}
 use Rattle.call_own.specs.Outcome.{outcome, first_places, no_places, one_place, session_place, bare, spanning, bare_on, on_session, no_reply}
 use Rattle.call_own.specs.Calls.{timed, quiet, tick_places, tick_of, close_on, close_of}
 use Rattle.call_own.specs.Outside.{all_still}
@@ -32,13 +35,22 @@ use Rattle.call_own.specs.Others.{rules_other}
 unfoldable pub tick_change : Node → Change
 tick_change node = pick (spent node.plan.sends node.echo) C.Free (C.Tick node.plan.sends)
 
-unfoldable pub tick_count : ℕ → Node → ℕ
-tick_count how node = pick {A = ℕ} (eqb how 0 || eqb how 1 && not (spent node.plan.sends node.echo)) 0 places
+unfoldable pub tick_count : Standing → Node → ℕ
+tick_count Broken node = 0
+tick_count Quiet node = pick {A = ℕ} (spent node.plan.sends node.echo) places 0
+tick_count Awaiting node = places
 
-unfoldable pub tick_answer : ℕ → ℕ → Node → Answer
+unfoldable pub aged_count : Standing → ℕ
+aged_count how = pick {A = ℕ} (stands_by how) store_rows 0
+
+unfoldable pub tick_answer : Standing → ℕ → Node → Answer
 tick_answer how n node =
-    pick (eqb how 0) (bare rules_broken node)
-    (spanning (first_places n) (bare taken (timed (echo_ticked node.plan node.echo) node.next node)))
+    pick (stands_by how) (spanning (first_places n) (bare taken (timed (echo_ticked node.plan node.echo) node.next node)))
+    (bare rules_broken node)
+
+-- how the table with its store stands, of how the records stand
+unfoldable pub how_with : Bool → Standing → Standing
+how_with sound how = pick {A = Standing} sound how Broken
 
 -- ---- close: what is said of the record, where the rules are kept
 unfoldable pub closed_by : Bool → Session → Session
@@ -65,10 +77,10 @@ unfolding quiet awaits_none
 quiet_is l = refl
 
 -- the steps of a tick are a tick of the lent list
-pub lent_tick : (node : Node) (l zs : List Session) (how : ℕ) (c : Change) (n : ℕ) (r : Answer)
+pub lent_tick : (node : Node) (l zs : List Session) (how : Standing) (c : Change) (n : ℕ) (r : Answer)
     → how ≡ stands_of node l → c ≡ tick_change node → n ≡ tick_count how node → zs ≡ map_first (changed_by c) n l → r ≡ tick_answer how n node
     → outcome r zs [] ≡ tick_of node l
-unfolding tick_change tick_count tick_answer no_reply tick_of tick_places all_ticked changed_by places stands_of
+unfolding tick_change tick_count tick_answer no_reply tick_of tick_places all_ticked changed_by places stands_of stands_by
 lent_tick node l zs how c n r e-h e-c e-n e-z e-r = split (keeps_rules node l)
     (λ t. let m = kept_long node l t in
     let w = quiet_is l in

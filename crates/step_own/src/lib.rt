@@ -5,12 +5,13 @@
 ghost use Rattle.std.specs.Prelude.{◌≡◌};
 ghost use Rattle.call_own.specs.Outcome.{back};
 ghost use Rattle.step_own.specs.Send.{taken_among, awaiting_in, next_due, due_with, place_of, sent_by, echo_answer, place_answer, send_answer};
-ghost use Rattle.step_own.specs.Step.{tick_change, tick_count, tick_answer, closed_by, close_answer};
+ghost use Rattle.step_own.specs.Step.{how_with, tick_change, tick_count, aged_count, tick_answer, closed_by, close_answer};
 
 use base_octets::Number;
 use call_own::{Answer, Span};
-use step_check::Checked;
+use step_check::{Checked, Standing};
 use unit_session::Session;
+use unit_store::Kept;
 use unit_table::{Change, Node};
 use unit_tunnel::Unit;
 use wire_messages::MessageType;
@@ -27,49 +28,61 @@ pub enum Sending {
 pub fn tick_change(node: Node) -> Change
     ensures { result ≡ tick_change node }
 {
-    let plan = node.plan;
-    let echo = node.echo;
-    let over = echo.spent(plan.sends);
-    if over {
+    if node.echo.spent(node.plan.sends) {
         return Change::Free;
     }
-    Change::Tick(plan.sends)
+    Change::Tick(node.plan.sends)
 }
 
 // How many records a tick changes, by how they stand: none where a rule is broken, and none where no place awaits a number, since then no
 // timer runs; unless the echo is given up, which frees all.
-pub fn tick_count(how: u8, node: Node) -> usize
+pub fn tick_count(how: Standing, node: Node) -> usize
     ensures { result ≡ tick_count how node }
 {
-    let plan = node.plan;
-    let echo = node.echo;
-    let over = echo.spent(plan.sends);
-    if (how == 0) | (how == 1) & !over {
-        return 0;
+    let over = node.echo.spent(node.plan.sends);
+    match how {
+        Standing::Broken => 0,
+        Standing::Quiet => if over { Unit::PLACES } else { 0 },
+        Standing::Awaiting => Unit::PLACES,
     }
-    Unit::PLACES
+}
+
+// How many rows it takes life from: none where a rule is broken.
+pub fn aged_count(how: Standing) -> usize
+    ensures { result ≡ aged_count how }
+{
+    if step_check::stands_by(how) {
+        return Kept::ROWS;
+    }
+    0
+}
+
+// How a table with its store stands, of how the records stand and whether the store keeps its rules.
+pub fn how_with(sound: bool, how: Standing) -> Standing
+    ensures { result ≡ how_with sound how }
+{
+    if sound {
+        return how;
+    }
+    Standing::Broken
 }
 
 // What goes back of a tick by value, where so many records were changed.
-pub fn tick_answer(how: u8, n: usize, mut node: Node) -> Answer
+pub fn tick_answer(how: Standing, n: usize, mut node: Node) -> Answer
     ensures { result ≡ tick_answer how n node }
 {
-    if how == 0 {
+    if !step_check::stands_by(how) {
         return Answer::bare(Number::RULES_BROKEN, node);
     }
-    let next = node.echo_ticked();
-    node.echo = next;
-    let changed = call_own::first_places(n);
-    let ticked = Answer::bare(Number::TAKEN, node);
-    ticked.spanning(changed)
+    node.echo = node.echo_ticked();
+    Answer::bare(Number::TAKEN, node).spanning(Span::first_places(n))
 }
 
 // The record of a place to close: a free one stays as it is, and so does every one where the rules fail.
 pub fn closed_by(kept: bool, s: Session) -> Session
     ensures { result ≡ closed_by kept s }
 {
-    let free = s.is_free();
-    if kept & !free {
+    if kept & !s.is_free() {
         return s.closed();
     }
     s
@@ -81,13 +94,10 @@ pub fn close_answer(kept: bool, node: Node, place: usize, s: Session) -> Answer
     if !kept {
         return Answer::bare(Number::RULES_BROKEN, node);
     }
-    let free = s.is_free();
-    if free {
+    if s.is_free() {
         return Answer::bare(Number::NO_PLACE, node);
     }
-    let changed = call_own::one_place(place);
-    let closed = Answer::bare(Number::TAKEN, node);
-    closed.spanning(changed)
+    Answer::bare(Number::TAKEN, node).spanning(Span::one_place(place))
 }
 
 // The number that a first send takes, by what is awaited.
@@ -102,7 +112,11 @@ fn taken_among(node: Node, waits: &[u64]) -> u32
 pub fn awaiting_in(checked: Checked) -> bool
     ensures { result ≡ awaiting_in checked }
 {
-    checked.how == 2
+    match checked.how {
+        Standing::Broken => false,
+        Standing::Quiet => false,
+        Standing::Awaiting => true,
+    }
 }
 
 // Who is sent next, by what was seen of the records and what they await: the echo first, then places upward.
@@ -112,7 +126,7 @@ pub fn next_due(room: usize, node: Node, checked: Checked, waits: [u64; Unit::PL
     if room < Answer::LEAST_REPLY {
         return Sending::Nothing(Number::REPLY_SHORT);
     }
-    if checked.how == 0 {
+    if !step_check::stands_by(checked.how) {
         return Sending::Nothing(Number::RULES_BROKEN);
     }
     let echo = node.echo;
@@ -120,8 +134,7 @@ pub fn next_due(room: usize, node: Node, checked: Checked, waits: [u64; Unit::PL
         let number = taken_among(node, &waits);
         return Sending::Echo(number);
     }
-    let findings = checked.findings;
-    let place = findings.due;
+    let place = checked.findings.due;
     if Unit::PLACES <= place {
         return Sending::Nothing(Number::NOTHING_DUE);
     }
@@ -157,11 +170,10 @@ pub fn place_of(p: Sending) -> usize
 pub fn sent_by(p: Sending, node: Node, s: Session) -> Session
     ensures { result ≡ sent_by p node s }
 {
-    let plan = node.plan;
     match p {
         Sending::Nothing(_) => s,
         Sending::Echo(_) => s,
-        Sending::At { place: _, number } => s.sent(plan.resend, number),
+        Sending::At { place: _, number } => s.sent(node.plan.resend, number),
     }
 }
 
@@ -172,16 +184,14 @@ fn echo_answer(mut node: Node, k: u32, reply: &mut [u8]) -> Answer
     let plan = node.plan;
     let echo = node.echo;
     let sent = echo.sent_once(plan.resend, k);
-    let next = call_own::stepped(echo.sends, k, node.next);
+    node.next = call_own::stepped(echo.sends, k, node.next);
     node.echo = sent;
-    node.next = next;
     let size = wire_messages::echo_of(reply, MessageType::ECHO, sent.number, plan.recovery);
-    let span = Span { from: 0, to: 0 };
     Answer {
         number: Number::TAKEN,
         size,
         node,
-        span,
+        span: Span::NONE,
     }
 }
 
@@ -189,18 +199,15 @@ fn echo_answer(mut node: Node, k: u32, reply: &mut [u8]) -> Answer
 fn place_answer(mut node: Node, k: u32, place: usize, s: Session, reply: &mut [u8]) -> Answer
     ensures { back result reply.new ≡ place_answer node k place s reply.old }
 {
-    let span = call_own::one_place(place);
-    let plan = node.plan;
     let own = s.own;
-    let sent = own.sent_once(plan.resend, k);
-    let next = call_own::stepped(own.sends, k, node.next);
-    node.next = next;
+    let sent = own.sent_once(node.plan.resend, k);
+    node.next = call_own::stepped(own.sends, k, node.next);
     let size = wire_messages::delete_bearer(reply, s.control, sent.number, s.ebi);
     Answer {
         number: Number::TAKEN,
         size,
         node,
-        span,
+        span: Span::one_place(place),
     }
 }
 

@@ -1,19 +1,17 @@
 -- A way to compute what concerns one session, from the record of the place that its control TEID names: that record is the session, or the number
 -- has none. Nothing here is to be believed: call_control has the sentences, and step_whole shows that this is what they come to.
 -- Assumes nothing.
-use Rattle.std.specs.Prelude.{ℕ, List, [], ◌≡◌, refl, length}
+use Rattle.std.specs.Prelude.{ℕ, List, [], ◌≡◌, refl, length, Result, Ok, Err}
 use Rattle.base_octets.specs.Choice.{pick, split}
 use Rattle.base_octets.specs.Overlay.{overlay}
 use Rattle.unit_session.specs.declared.Session.{Session}
 use Rattle.unit_table.specs.Find.{has_control}
 use Rattle.call_asked.specs.declared.Concern.{Concern}
-use Rattle.call_asked.specs.declared.Concern.TheVariants as S
-use Rattle.wire_requests.specs.declared.BearerReply.{BearerReply}
-use Rattle.wire_requests.specs.declared.BearerReply.TheVariants as B
 use Rattle.unit_session.specs.Session.{waits_for}
 use Rattle.call_own.specs.Outcome.{Done, bare_on}
-use Rattle.call_control.specs.Amends.{cause_on, bearer_on, concern_on, none_on}
+use Rattle.call_control.specs.Amends.{bearer_on, concern_on, none_on}
 use Rattle.step_session.specs.declared.Amended.{Amended}
+use Rattle.wire_requests.specs.declared.Unreadable.{Unreadable}
 
 -- ---- what is done, with the reply buffer as it is left
 pub record AmendedWith : Type 0 where
@@ -38,10 +36,10 @@ pub bare_is : (d : Done) (reply : List ℕ) → d.message ≡ [] → amended_wit
 unfolding done_with amended overlay
 bare_is d reply e = rw e
 
-pub bearer_bare : (b : BearerReply) (seq : ℕ) (s : Session) → (bearer_on b seq s).message ≡ []
+pub bearer_bare : (b : Result ℕ Unreadable) (seq : ℕ) (s : Session) → (bearer_on b seq s).message ≡ []
 unfolding bearer_on bare_on
-bearer_bare B.Unreadable seq s = refl
-bearer_bare (B.Cause cause) seq s = split (waits_for seq s) (λ e. rw e) (λ e. rw e)
+bearer_bare (Err u) seq s = refl
+bearer_bare (Ok cause) seq s = split (waits_for seq s) (λ e. rw e) (λ e. rw e)
 
 pub bare_on_lem : (number : ℕ) (s : Session) → (bare_on number s).message ≡ []
 unfolding bare_on

@@ -13,7 +13,7 @@ use unit_session::Session;
 use unit_tunnel::ControlTeid;
 use wire_fields::Refusal;
 use wire_messages::MessageType;
-use wire_requests::{BearerReply, Delete, Modify, Moves};
+use wire_requests::{Delete, Modify, Unreadable};
 
 // Document 01's number, the reply's length, and the session's record as it is then.
 #[derive(Clone, Copy)]
@@ -24,6 +24,7 @@ pub struct Amended {
 }
 
 // A number alone: no reply.
+#[tactic(auto, unfolding(crate::specs::Amended::amended, call_own::specs::Outcome::bare_on))]
 fn bare_on(number: u8, s: Session) -> Amended
     ensures { result ≡ amended (bare_on number s) }
 {
@@ -35,41 +36,40 @@ fn bare_on(number: u8, s: Session) -> Amended
 }
 
 // A reply with a cause; the record as it was.
+#[tactic(auto, unfolding(crate::specs::Amended::amended, crate::specs::Amended::done_with, call_control::specs::Amends::cause_on))]
 fn cause_on(kind: u8, teid: u32, seq: u32, w: Refusal, s: Session, reply: &mut [u8]) -> Amended
     ensures { amended_with result reply.new ≡ done_with (cause_on kind teid seq w s) reply.old }
 {
-    let size = call_control::write_cause(kind, teid, seq, w, reply);
     Amended {
         number: w.cause,
-        size,
+        size: call_control::write_cause(kind, teid, seq, w, reply),
         session: s,
     }
 }
 
 // Modify: all tests pass, or nothing changes.
+#[tactic(auto, unfolding(crate::specs::Amended::amended, crate::specs::Amended::done_with, call_control::specs::Amends::modify_on, call_control::specs::Amends::modify_by, call_control::specs::Amends::moved_on))]
 fn modify_on(m: Modify, seq: u32, s: Session, reply: &mut [u8]) -> Amended
     ensures { amended_with result reply.new ≡ done_with (modify_on m seq s) reply.old }
 {
-    let context = m.context;
     match wire_requests::moves_of(m, s.ebi) {
-        Moves::Refused(w) => cause_on(MessageType::MODIFY_REPLY, s.control, seq, w, s, reply),
-        Moves::To { control, user } => {
-            let peers = call_control::peers_of(control, user, s);
-            let moved = s.moved(peers);
-            let size = call_control::write_modify(context, peers.control, seq, s.ebi, reply);
+        Err(w) => cause_on(MessageType::MODIFY_REPLY, s.control, seq, w, s, reply),
+        Ok(moves) => {
+            let peers = call_control::peers_of(moves.control, moves.user, s);
+            let size = call_control::write_modify(m.context, peers.control, seq, s.ebi, reply);
             Amended {
                 number: Number::TAKEN,
                 size,
-                session: moved,
+                session: s.moved(peers),
             }
         }
     }
 }
 
+#[tactic(auto, unfolding(crate::specs::Amended::amended, crate::specs::Amended::done_with, call_control::specs::Amends::freed_on, call_control::specs::Amends::cause_octets, call_control::specs::Amends::fault_octets))]
 fn freed_on(seq: u32, s: Session, reply: &mut [u8]) -> Amended
     ensures { amended_with result reply.new ≡ done_with (freed_on seq s) reply.old }
 {
-    let freed = s.freed();
     let accepted = Refusal::bare(Refusal::ACCEPTED);
     let size = call_control::write_cause(
         MessageType::DELETE_REPLY,
@@ -81,16 +81,16 @@ fn freed_on(seq: u32, s: Session, reply: &mut [u8]) -> Amended
     Amended {
         number: Number::TAKEN,
         size,
-        session: freed,
+        session: s.freed(),
     }
 }
 
 // Delete: another EBI than the session's is NOT_LIVE.
+#[tactic(auto, unfolding(call_control::specs::Amends::delete_on))]
 fn delete_on(d: Delete, seq: u32, s: Session, reply: &mut [u8]) -> Amended
     ensures { amended_with result reply.new ≡ done_with (delete_on d seq s) reply.old }
 {
-    let means = wire_requests::means_of(d, s.ebi);
-    if means {
+    if wire_requests::means_of(d, s.ebi) {
         return freed_on(seq, s, reply);
     }
     let w = call_control::not_live();
@@ -98,21 +98,18 @@ fn delete_on(d: Delete, seq: u32, s: Session, reply: &mut [u8]) -> Amended
 }
 
 // The reply to a Delete Bearer: with the awaited number it frees the session.
-fn bearer_on(answer: BearerReply, seq: u32, s: Session) -> Amended
+#[tactic(auto, unfolding(call_control::specs::Amends::bearer_on))]
+fn bearer_on(answer: Result<u8, Unreadable>, seq: u32, s: Session) -> Amended
     ensures { result ≡ amended (bearer_on answer seq s) }
 {
-    let BearerReply::Cause(_) = answer else {
-        return bare_on(Number::NOT_AWAITED, s);
-    };
-    let awaited = s.waits_for(seq);
-    if awaited {
-        let freed = s.freed();
-        return bare_on(Number::TAKEN, freed);
+    match answer {
+        Ok(_) if s.waits_for(seq) => bare_on(Number::TAKEN, s.freed()),
+        _ => bare_on(Number::NOT_AWAITED, s),
     }
-    bare_on(Number::NOT_AWAITED, s)
 }
 
 // Of a live session.
+#[tactic(auto, using(crate::specs::Amended::bare_is, crate::specs::Amended::bearer_bare), unfolding(call_control::specs::Amends::concern_on))]
 fn concern_on(x: Concern, seq: u32, s: Session, reply: &mut [u8]) -> Amended
     ensures { amended_with result reply.new ≡ done_with (concern_on x seq s) reply.old }
 {
@@ -125,27 +122,25 @@ fn concern_on(x: Concern, seq: u32, s: Session, reply: &mut [u8]) -> Amended
 }
 
 // Where the number is no live session's: NOT_LIVE, to nobody.
+#[tactic(auto, using(crate::specs::Amended::bare_is, crate::specs::Amended::bare_on_lem), unfolding(call_control::specs::Amends::none_on))]
 fn none_on(x: Concern, seq: u32, s: Session, reply: &mut [u8]) -> Amended
     ensures { amended_with result reply.new ≡ done_with (none_on x seq s) reply.old }
 {
-    let w = call_control::not_live();
-    match x {
-        Concern::Modify(_) => cause_on(MessageType::MODIFY_REPLY, 0, seq, w, s, reply),
-        Concern::Delete(_) => cause_on(MessageType::DELETE_REPLY, 0, seq, w, s, reply),
-        Concern::Refused {
-            reply: kind,
-            why: _,
-        } => cause_on(kind, 0, seq, w, s, reply),
-        Concern::Bearer(_) => bare_on(Number::NOT_AWAITED, s),
-    }
+    let kind = match x {
+        Concern::Modify(_) => MessageType::MODIFY_REPLY,
+        Concern::Delete(_) => MessageType::DELETE_REPLY,
+        Concern::Refused { reply: kind, .. } => kind,
+        Concern::Bearer(_) => return bare_on(Number::NOT_AWAITED, s),
+    };
+    cause_on(kind, 0, seq, call_control::not_live(), s, reply)
 }
 
 // The record is the session of the number, or there is none and it stays.
+#[tactic(auto, unfolding(crate::specs::Amended::of_number))]
 pub fn of_number(teid: ControlTeid, x: Concern, seq: u32, s: Session, reply: &mut [u8]) -> Amended
     ensures { amended_with result reply.new ≡ done_with (of_number teid.0 x seq s) reply.old }
 {
-    let owned = unit_table::has_control(s, teid);
-    if owned {
+    if unit_table::has_number(s, teid) {
         return concern_on(x, seq, s, reply);
     }
     none_on(x, seq, s, reply)

@@ -18,7 +18,6 @@ use Rattle.wire_requests.specs.Create.{CreateSound}
 use Rattle.call_own.specs.Outcome.{least_reply}
 use Rattle.call_control.specs.Control.{restarts_in}
 use Rattle.step_check.specs.Summary.{stands_by}
-use Rattle.step_check.specs.declared.Findings.{Findings}
 use Rattle.step_check.specs.declared.Checked.{Checked}
 use Rattle.unit_tunnel.specs.declared.ControlTeid.{ControlTeid}
 use Rattle.call_asked.specs.declared.Concern.{Concern}
@@ -26,7 +25,7 @@ use Rattle.call_asked.specs.declared.Asked.{Asked}
 use Rattle.call_asked.specs.declared.Asked.TheVariants as A
 use Rattle.call_asked.specs.Sound.{AskedSound}
 use Rattle.step_control.specs.declared.Basis.{Basis}
-use Rattle.step_control.specs.Step.{restarts_now, at_place, target_of, old_by, basis_by, basis_of}
+use Rattle.step_control.specs.Step.{restarts_now, key_of, old_of, basis_by, basis_of}
 use Rattle.step_control.specs.Places.{key_place_lem, free_place_lem}
 use Rattle.step_whole.specs.Basis.{Known, Cleared, Sees, CheckTold}
 
@@ -53,23 +52,18 @@ module _ (kept : Bool) (counts old free : ℕ) (restart : Bool) where
   unfolding basis_by
   basis_still e = rw e
 
--- what no key is asked for has the place that it names
-old_named : (findings : Findings) (i : ℕ) → old_by findings (at_place i) ≡ i
-unfolding old_by
-old_named findings i = refl
-
 -- a sound Create's key is not 0
 not-zero : (c : C.Create) → 5 ≤ c.ebi → eqb (id_key c.imsi c.ebi) 0 ≡ false
 not-zero c h = ne_eqb (c.imsi % imsi_part * 256 + c.ebi) 0 (λ q. omega arith)
 
 module _ (node : Node) (l : List Session) (k : keeps_rules node l ≡ true) (c : C.Create) (seq : ℕ) (s : CreateSound (parties node.plan) c)
-    (v : Checked) (told : CheckTold node (target_of (A.Create c seq)).key l v) where
-  asked : eqb (target_of (A.Create c seq)).key 0 ≡ false
-  unfolding target_of
+    (v : Checked) (told : CheckTold node (key_of (A.Create c seq)) l v) where
+  asked : eqb (key_of (A.Create c seq)) 0 ≡ false
+  unfolding key_of
   asked = not-zero c s.low
 
-  old_open : old_by v.findings (target_of (A.Create c seq)) ≡ first_of (has_id c.imsi c.ebi) l
-  unfolding old_by target_of
+  old_open : old_of v.findings (A.Create c seq) ≡ first_of (has_id c.imsi c.ebi) l
+  unfolding old_of key_of
   old_open =
       rw asked
       (told.old k asked ∙ key_place_lem (bounds_of node.plan) l (rules_of node l k).each c.imsi c.ebi s.imsi s.low s.high)
@@ -82,12 +76,12 @@ off true = refl
 off false = refl
 
 -- ---- what was seen says what is gone by
-module _ (node : Node) (l : List Session) (v : Checked) (w : Asked) (room : ℕ) (told : CheckTold node (target_of w).key l v) (sound : AskedSound node.plan w) where
+module _ (node : Node) (l : List Session) (v : Checked) (w : Asked) (room : ℕ) (told : CheckTold node (key_of w) l v) (sound : AskedSound node.plan w) where
   abbrev kept : Bool
   kept = stands_by v.how
 
   abbrev old : ℕ
-  old = old_by v.findings (target_of w)
+  old = old_of v.findings w
 
   abbrev free : ℕ
   free = v.findings.free
@@ -109,8 +103,8 @@ module _ (node : Node) (l : List Session) (v : Checked) (w : Asked) (room : ℕ)
   no_restart teid seq x e = rw e (split (ltb room least_reply) (λ b. rw b (off kept)) (λ b. rw b (off kept)))
 
   named_is : (teid : ControlTeid) (seq : ℕ) (x : Concern) → w ≡ A.Session teid seq x → g.old ≡ control_place teid.0
-  unfolding target_of
-  named_is teid seq x e = ap (λ (y : Basis). y.old) (basis_is (no_restart teid seq x e)) ∙ rw e (old_named v.findings (control_place teid.0))
+  unfolding old_of
+  named_is teid seq x e = ap (λ (y : Basis). y.old) (basis_is (no_restart teid seq x e)) ∙ rw e
 
   sound_open : (c : C.Create) (seq : ℕ) → w ≡ A.Create c seq → CreateSound (parties node.plan) c
   unfolding AskedSound
@@ -135,7 +129,7 @@ module _ (node : Node) (l : List Session) (v : Checked) (w : Asked) (room : ℕ)
     known = known_is;
   }
 
-pub basis_sees : (node : Node) (l : List Session) (v : Checked) (w : Asked) (room : ℕ) → AskedSound node.plan w → CheckTold node (target_of w).key l v
+pub basis_sees : (node : Node) (l : List Session) (v : Checked) (w : Asked) (room : ℕ) → AskedSound node.plan w → CheckTold node (key_of w) l v
     → Sees node l w room (basis_of v node w room)
 unfolding basis_of
 basis_sees node l v w room sound told = sees_by node l v w room told sound

@@ -1,6 +1,6 @@
 -- The laws of what specs/Whole.antt says.
 -- Assumes nothing.
-use Rattle.std.specs.Prelude.{ℕ, Bool, ◌&&◌, List, map, ◌≡◌, length, get_or, set, ltb}
+use Rattle.std.specs.Prelude.{ℕ, Bool, ◌&&◌, List, map, ◌≡◌, length, get_or, set, ltb, Option, None}
 use Rattle.std.proofs.Math.Bool.{true, false}
 use Rattle.std.proofs.Math.Path.{refl, sym, ap}
 use Rattle.std.proofs.Common.{◌∙◌, arith, ltb-true, ltb-false}
@@ -19,8 +19,6 @@ use Rattle.unit_table.specs.Change.{nobody}
 use Rattle.unit_table.specs.Find.{has_control}
 use Rattle.wire_messages.specs.Messages.{version_not_supported, echo_of}
 use Rattle.wire_messages.specs.Types.{echo_reply_type}
-use Rattle.wire_fields.specs.declared.Recovery.{Recovery}
-use Rattle.wire_fields.specs.declared.Recovery.TheVariants as R
 use Rattle.wire_requests.specs.declared.Create as C
 use Rattle.call_asked.specs.declared.Concern.{Concern}
 use Rattle.call_asked.specs.declared.Asked.{Asked}
@@ -44,7 +42,7 @@ use Rattle.step_whole.specs.Whole.{InPlace}
 -- ---- on two records
 -- the two put back as they were, the others freed or as they were
 module _ (l : List Session) (p : Concerned) (e-old : p.oldrecord ≡ get_or l p.old nobody) (e-new : p.newrecord ≡ get_or l p.new nobody)
-    (number size : ℕ) (ended : Bool) (heard : Recovery) where
+    (number size : ℕ) (ended : Bool) (heard : Option ℕ) where
   put_still : p.all ≡ false → concerned_put l p (unmoved_on number size ended heard p) ≡ l
   unfolding unmoved_on
   put_still a = put_none l p (unmoved_on number size ended heard p) a ∙ rw (e-old, e-new) (stays l p.old p.new)
@@ -101,15 +99,15 @@ module _ (node : Node) (l : List Session) (reply : List ℕ) (g : Basis) where
   -- nothing moves
   still_same : (w : Asked) (number size : ℕ) (left : List ℕ) → g.all ≡ false
       → outcome (record { number = number; size = size; node = node; span = no_places }) l left
-      ≡ placed_concerned node (concerned_for w) l (taken_with (unmoved_on number size false R.None (concerned_for w)) left)
+      ≡ placed_concerned node (concerned_for w) l (taken_with (unmoved_on number size false None (concerned_for w)) left)
   unfolding unmoved_on node_after heard_node changed_places
   still_same w number size left a =
-      sym (placed_by node (concerned_for w) l (taken_with (unmoved_on number size false R.None (concerned_for w)) left) l
-      (put_still l (concerned_for w) (old_at w) (new_at w) number size false R.None (all_at w ∙ a))
+      sym (placed_by node (concerned_for w) l (taken_with (unmoved_on number size false None (concerned_for w)) left) l
+      (put_still l (concerned_for w) (old_at w) (new_at w) number size false None (all_at w ∙ a))
       ∙ ap (λ (y : Span). outcome (record { number = number; size = size; node = node; span = y }) l left) (all_span (concerned_for w) no_places (all_at w ∙ a)))
 
   -- a Recovery is stored, and all are freed or nothing moves
-  put_heard : (w : Asked) (size : ℕ) (ended : Bool) (heard : Recovery) → length l ≡ places → (concerned_for w).new ≡ places → (g.all ≡ true → Cleared g)
+  put_heard : (w : Asked) (size : ℕ) (ended : Bool) (heard : Option ℕ) → length l ≡ places → (concerned_for w).new ≡ places → (g.all ≡ true → Cleared g)
       → concerned_put l (concerned_for w) (unmoved_on 0 size ended heard (concerned_for w)) ≡ pick g.all (map freed l) l
   put_heard w size ended heard n j clear = by g.all refl
     where
@@ -125,7 +123,7 @@ module _ (node : Node) (l : List Session) (reply : List ℕ) (g : Basis) where
     none : (w : Asked) → Sees node l w (length reply) g → restarts_in w node ≡ false → g.all ≡ false
     none w sees e = all_of w sees ∙ e
 
-    echo_same : (r : Recovery) (seq : ℕ) → Sees node l (A.Echo r seq) (length reply) g → echo_taken node l seq r reply ≡ comes_to (A.Echo r seq)
+    echo_same : (r : Option ℕ) (seq : ℕ) → Sees node l (A.Echo r seq) (length reply) g → echo_taken node l seq r reply ≡ comes_to (A.Echo r seq)
     unfolding echo_taken heard_places asked_on unmoved_on node_after restarts_in verdict_in opens_at concerned_in concerned_of changed_places
     echo_same r seq sees =
         let w = A.Echo r seq in
@@ -133,7 +131,7 @@ module _ (node : Node) (l : List Session) (reply : List ℕ) (g : Basis) where
         (sym (placed_by node (concerned_for w) l (asked_on node w (concerned_for w) reply) (pick g.all (map freed l) l)
         (put_heard w (length (echo_of echo_reply_type seq node.plan.recovery)) false r (rules_of node l k).size refl sees.cleared)))
 
-    ended_same : (r : Recovery) → Sees node l (A.EchoReply r) (length reply) g → echo_reply_taken node l r reply ≡ comes_to (A.EchoReply r)
+    ended_same : (r : Option ℕ) → Sees node l (A.EchoReply r) (length reply) g → echo_reply_taken node l r reply ≡ comes_to (A.EchoReply r)
     unfolding echo_reply_taken heard_places changed_places no_reply echo_ended asked_on unmoved_on node_after rested_node restarts_in verdict_in opens_at concerned_in concerned_of
     ended_same r sees =
         let w = A.EchoReply r in

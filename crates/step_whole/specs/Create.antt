@@ -1,6 +1,6 @@
 -- A Create comes to the same on two records as on the whole table, whatever records were lent.
 -- Assumes nothing.
-use Rattle.std.specs.Prelude.{ℕ, ◌<◌, ◌≤◌, true, false, ◌≡◌, refl, length, get_or, set, eqb, ltb}
+use Rattle.std.specs.Prelude.{ℕ, ◌<◌, ◌≤◌, true, false, ◌≡◌, refl, length, get_or, set, eqb, ltb, Some, None}
 use mathlib.Core.List.{List}
 use Rattle.std.proofs.Common.{sym, ◌∙◌, arith, get_or-set_same, get_or-set_other}
 use Rattle.std.proofs.Math.Path.{ap}
@@ -17,7 +17,6 @@ use Rattle.unit_session.specs.declared.Session.{Session}
 use Rattle.unit_session.specs.declared.Opening.{Opening}
 use Rattle.unit_session.specs.Session.{is_free, has_id, freed, opened, blank_at}
 use Rattle.unit_table.specs.declared.Node.{Node}
-use Rattle.unit_table.specs.declared.Owner.TheVariants as F
 use Rattle.unit_table.specs.Rules.{keeps_rules, Rules, rules_of, live}
 use Rattle.unit_table.specs.Change.{nobody, changed_at, rules-freed, changed_out}
 use Rattle.unit_table.specs.Find.{found_in}
@@ -169,11 +168,11 @@ module _ (node : Node) (l : List Session) (k : keeps_rules node l ≡ true) (c :
   unfolding repeats_at
   unmet e = let n = rules.size in let h = ltb-false g.old (length l) e in rw (le-ltb g.old places (omega arith))
 
-  found_at : ltb g.old (length l) ≡ true → found_in (has_id c.imsi c.ebi) l ≡ F.At g.old
+  found_at : ltb g.old (length l) ≡ true → found_in (has_id c.imsi c.ebi) l ≡ Some g.old
   unfolding found_in
   found_at e = rw (← old, e)
 
-  found_no : ltb g.old (length l) ≡ false → found_in (has_id c.imsi c.ebi) l ≡ F.Nothing
+  found_no : ltb g.old (length l) ≡ false → found_in (has_id c.imsi c.ebi) l ≡ None
   unfolding found_in
   found_no e = rw (← old, e)
 

@@ -3,18 +3,13 @@
 // what the fields give, as numbers, under the trial plan and for a session of EBI 5.
 #![tactic(auto)]
 
-ghost use Rattle.std.specs.Prelude.{◌≡◌, ◌<◌, ◌≤◌, length, IfOk};
-
 use base_octets::Number;
 use std::io;
-use std::io::Read;
 use trial_readers::{Carried, Decoding};
 use wire_messages::MessageType;
 
 // The EBI of the session that a Modify or a Delete is for.
-fn session_ebi() -> u8 {
-    5
-}
+const SESSION_EBI: u8 = 5;
 
 fn show_row(rt: &impl Print, row: &[u64]) -> io::Result<()> {
     for n in row {
@@ -24,129 +19,65 @@ fn show_row(rt: &impl Print, row: &[u64]) -> io::Result<()> {
 }
 
 fn show_answer(rt: &impl Print, a: Decoding) -> io::Result<()> {
-    let row = trial_readers::answer_row(a);
-    show_row(rt, &row)
+    show_row(rt, &trial_readers::answer_row(a))
 }
 
 fn show_carried(rt: &impl Print, c: Carried) -> io::Result<()> {
-    let row = trial_readers::carried_row(c);
-    show_row(rt, &row)
+    show_row(rt, &trial_readers::carried_row(c))
 }
 
 fn show_fields(rt: &impl Print, kind: u32, s: &[u8]) -> io::Result<()> {
-    if kind == MessageType::CREATE as u32 {
-        return show_answer(rt, trial_readers::requests_create(s));
+    match u8::try_from(kind) {
+        Ok(MessageType::CREATE) => show_answer(rt, trial_readers::requests_create(s)),
+        Ok(MessageType::MODIFY) => show_answer(rt, trial_readers::requests_modify(s, SESSION_EBI)),
+        Ok(MessageType::DELETE) => show_answer(rt, trial_readers::requests_delete(s, SESSION_EBI)),
+        _ => show_carried(rt, trial_readers::requests_carried(s)),
     }
-    if kind == MessageType::MODIFY as u32 {
-        return show_answer(rt, trial_readers::requests_modify(s, session_ebi()));
-    }
-    if kind == MessageType::DELETE as u32 {
-        return show_answer(rt, trial_readers::requests_delete(s, session_ebi()));
-    }
-    show_carried(rt, trial_readers::requests_carried(s))
 }
 
 fn show(rt: &impl Print, d: &[u8]) -> io::Result<()> {
     let h = trial_readers::requests_head(d);
     rt.print(h.number)?;
-    if h.number == Number::TAKEN as u32 {
-        let head = [h.kind as u64, h.teid as u64, h.sequence as u64];
-        show_row(rt, &head)?;
-        let at = h.fields as usize;
-        if at <= d.len() {
-            show_fields(rt, h.kind, &d[at..])?;
+    if h.number == u32::from(Number::TAKEN) {
+        show_row(
+            rt,
+            &[u64::from(h.kind), u64::from(h.teid), u64::from(h.sequence)],
+        )?;
+        if let Some(fields) = d.get(h.fields as usize..) {
+            show_fields(rt, h.kind, fields)?;
         }
     }
     rt.write_all(b"\n")
 }
 
 // The half octet that a capital hex digit writes.
-fn half(b: u8) -> u8
-    ensures { result < 16 }
-{
-    if b < 58 { b % 16 } else { (b % 16 + 9) % 16 }
-}
-
-// The octets that hex writes: how many.
-fn octets_of(hex: &[u8], out: &mut [u8]) -> usize {
-    let mut n: usize = 0;
-    let mut i: usize = 0;
-    while n < out.len() {
-        if hex.len() < 2 {
-            return n;
-        }
-        if hex.len() - 2 < i {
-            return n;
-        }
-        out[n] = half(hex[i]) * 16 + half(hex[i + 1]);
-        n += 1;
-        i += 2;
-    }
-    n
+fn half(b: u8) -> u8 {
+    if b <= b'9' { b % 16 } else { (b % 16 + 9) % 16 }
 }
 
 fn show_line(rt: &impl Print, line: &[u8]) -> io::Result<()> {
-    if line.len() == 0 {
-        return Ok(());
-    }
-    if line[0] == b'#' {
-        rt.write_all(line)?;
-        return rt.write_all(b"\n");
-    }
-    let mut d = [0u8; 2048];
-    let n = octets_of(line, &mut d);
-    if n <= 2048 {
-        show(rt, &d[0..n])?;
-    }
-    Ok(())
-}
-
-// Where the line that starts at a place ends.
-fn line_end(s: &[u8], from: usize) -> usize
-    ensures { from ≤ result }
-{
-    let mut i = from;
-    while i < s.len() {
-        if s[i] == b'\n' {
-            return i;
+    match line {
+        [] => Ok(()),
+        [b'#', ..] => {
+            rt.write_all(line)?;
+            rt.write_all(b"\n")
         }
-        i += 1;
-    }
-    i
-}
-
-fn each(rt: &impl Print, s: &[u8]) -> io::Result<()> {
-    let mut p: usize = 0;
-    while p < s.len() {
-        let e = line_end(s, p);
-        if e < s.len() {
-            show_line(rt, &s[p..e])?;
-            p = e + 1;
-        } else {
-            return Ok(());
+        _ => {
+            let mut d = [0u8; 2048];
+            let n = trial_input::spelled(line, &mut d, half);
+            show(rt, &d[..n])
         }
     }
-    Ok(())
-}
-
-// Reads until the buffer is full or the input ends: how many octets were put at its start.
-fn read_full(input: &mut impl Read, buf: &mut [u8]) -> io::Result<usize>
-    ensures room { IfOk result (λ n. n ≤ length buf.new) }
-    ensures left { length buf.new ≡ length buf.old }
-{
-    let mut done: usize = 0;
-    while done < buf.len() {
-        let n = input.read(&mut buf[done..])?;
-        if n == 0 {
-            break;
-        }
-        done += n;
-    }
-    Ok(done)
 }
 
 fn main(rt: HostRuntime) -> io::Result<()> {
     let mut text = [0u8; 65536];
-    let n = read_full(&mut rt.stdin(), &mut text)?;
-    each(&rt, &text[..n])
+    let n = trial_input::read_full(&mut rt.stdin(), &mut text)?;
+    for ended in text[..n].split_inclusive(|b| *b == b'\n') {
+        // what no line feed ends is no line
+        if let Some(line) = ended.strip_suffix(b"\n") {
+            show_line(&rt, line)?;
+        }
+    }
+    Ok(())
 }

@@ -11,34 +11,49 @@ use call_own::Answer;
 use std::io;
 use unit_session::OwnRequest;
 use wire_fields::Refusal;
+use wire_messages::{Accepted, MessageType};
 
-fn put_hex(rt: &impl Print, part: &[u8]) -> io::Result<()> {
-    for b in part {
-        print!(rt; "{:02x}", *b)?;
+// The peer's control and user TEIDs, and the unit's.
+const PEER_CONTROL: u32 = 0x11223344;
+
+const PEER_USER: u32 = 0x55667788;
+
+const OWN_CONTROL: u32 = 261;
+
+const OWN_USER: u32 = 389;
+
+// The unit's addresses for control and for user packets, and the session's.
+const CONTROL_ADDRESS: u32 = 0x0A000001;
+
+const USER_ADDRESS: u32 = 0x0A000002;
+
+const SESSION_ADDRESS: u32 = 0x64400006;
+
+const SEQUENCE: u32 = 0x0A0B0C;
+
+// The least packet: a header alone, of protocol 254, from 192.0.2.1 to the session's address.
+const PACKET: [u8; 20] = [
+    0x45, 0, 0, 20, 0, 0, 0, 0, 64, 254, 0x53, 0xa5, 192, 0, 2, 1, 100, 64, 0, 6,
+];
+
+// A line: the kind, and the octets of the message that is written into a buffer, which is longer than any message.
+fn show<F: FnOnce(&mut [u8]) -> usize>(rt: &impl Print, kind: &[u8], write: F) -> io::Result<()>
+    requires { F.IsAlwaysCallable write }
+{
+    let mut m = [0xEEu8; Answer::LEAST_REPLY];
+    let n = write(&mut m);
+    if let Some(message) = m.get(..n) {
+        rt.write_all(kind)?;
+        for octet in message {
+            print!(rt; "{:02x}", *octet)?;
+        }
+        rt.write_all(b"\n")?;
     }
     Ok(())
 }
 
-// A line: the kind, and the octets of a message of n octets in a buffer, which is longer than any message.
-fn show(rt: &impl Print, kind: &[u8], buffer: &[u8], n: usize) -> io::Result<()> {
-    if buffer.len() < n {
-        return Ok(());
-    }
-    rt.write_all(kind)?;
-    put_hex(rt, &buffer[0..n])?;
-    rt.write_all(b"\n")
-}
-
-fn version_not_supported(rt: &impl Print) -> io::Result<()> {
-    let mut m = [0xEEu8; Answer::LEAST_REPLY];
-    let n = wire_messages::version_not_supported(&mut m);
-    show(rt, b"version_not_supported ", &m, n)
-}
-
 fn echo(rt: &impl Print, kind: &[u8], number: u8, seq: u32) -> io::Result<()> {
-    let mut m = [0xEEu8; Answer::LEAST_REPLY];
-    let n = wire_messages::echo_of(&mut m, number, seq, 7);
-    show(rt, kind, &m, n)
+    show(rt, kind, |m| wire_messages::echo_of(m, number, seq, 7))
 }
 
 // A reply with a cause alone, and one that names a field.
@@ -50,9 +65,11 @@ fn cause(
     seq: u32,
     value: u8,
 ) -> io::Result<()> {
-    let mut m = [0xEEu8; Answer::LEAST_REPLY];
-    let n = wire_messages::cause_reply(&mut m, number, teid, seq, value);
-    show(rt, kind, &m, n)
+    show(
+        rt,
+        kind,
+        |m| wire_messages::cause_reply(m, number, teid, seq, value),
+    )
 }
 
 fn fault(
@@ -64,87 +81,102 @@ fn fault(
     field: u8,
     instance: u8,
 ) -> io::Result<()> {
-    let mut m = [0xEEu8; Answer::LEAST_REPLY];
-    let n = wire_messages::fault_reply(&mut m, number, 287454020, seq, value, field, instance);
-    show(rt, kind, &m, n)
+    show(rt, kind, |m| {
+        wire_messages::fault_reply(m, number, PEER_CONTROL, seq, value, field, instance)
+    })
 }
 
 fn create_accepted(rt: &impl Print) -> io::Result<()> {
-    let mut m = [0xEEu8; Answer::LEAST_REPLY];
-    let n = wire_messages::create_accepted(
-        &mut m,
-        wire_messages::Accepted {
-            teid: 287454020,
-            sequence: 658188,
-            control: 261,
-            controladdr: 167772161,
-            address: 1681915910,
-            user: 389,
-            useraddr: 167772162,
-            ebi: 5,
-            recovery: 7,
-        },
-    );
-    show(rt, b"create_accepted ", &m, n)
+    let accepted = Accepted {
+        teid: PEER_CONTROL,
+        sequence: SEQUENCE,
+        control: OWN_CONTROL,
+        controladdr: CONTROL_ADDRESS,
+        address: SESSION_ADDRESS,
+        user: OWN_USER,
+        useraddr: USER_ADDRESS,
+        ebi: 5,
+        recovery: 7,
+    };
+    show(
+        rt,
+        b"create_accepted ",
+        |m| wire_messages::create_accepted(m, accepted),
+    )
 }
 
-fn modify_bearer(rt: &impl Print) -> io::Result<()> {
-    let mut m = [0xEEu8; Answer::LEAST_REPLY];
-    let n = wire_messages::modify_bearer(&mut m, 287454020, 658189, 5);
-    show(rt, b"modify_bearer ", &m, n)
-}
-
-fn delete_bearer(rt: &impl Print) -> io::Result<()> {
-    let mut m = [0xEEu8; Answer::LEAST_REPLY];
-    let n = wire_messages::delete_bearer(&mut m, 287454020, OwnRequest::LAST_NUMBER, 15);
-    show(rt, b"delete_bearer ", &m, n)
-}
-
-fn user_echo(rt: &impl Print) -> io::Result<()> {
-    let mut m = [0xEEu8; Answer::LEAST_REPLY];
-    let n = wire_messages::user_echo(&mut m, 4660);
-    show(rt, b"user_echo ", &m, n)
-}
-
-fn error_indication(rt: &impl Print) -> io::Result<()> {
-    let mut m = [0xEEu8; Answer::LEAST_REPLY];
-    let n = wire_messages::error_indication(&mut m, 389, 167772162);
-    show(rt, b"error_indication ", &m, n)
-}
-
-// The packet is the least one: a header alone, of protocol 254, from 192.0.2.1 to the session's address.
-fn gpdu(rt: &impl Print) -> io::Result<()> {
-    let packet = [
-        0x45u8, 0, 0, 20, 0, 0, 0, 0, 64, 254, 0x53, 0xa5, 192, 0, 2, 1, 100, 64, 0, 6,
-    ];
-    let mut m = [0xEEu8; Answer::LEAST_REPLY];
-    let n = wire_messages::gpdu_of(&mut m, 1432778632, &packet);
-    show(rt, b"gpdu ", &m, n)
+// The messages without a cause, but for those of an echo and of an accepted Create.
+fn others(rt: &impl Print) -> io::Result<()> {
+    show(
+        rt,
+        b"delete_bearer ",
+        |m| wire_messages::delete_bearer(m, PEER_CONTROL, OwnRequest::LAST_NUMBER, 15),
+    )?;
+    show(rt, b"user_echo ", |m| wire_messages::user_echo(m, 0x1234))?;
+    show(
+        rt,
+        b"error_indication ",
+        |m| wire_messages::error_indication(m, OWN_USER, USER_ADDRESS),
+    )?;
+    show(
+        rt,
+        b"gpdu ",
+        |m| wire_messages::gpdu_of(m, PEER_USER, &PACKET),
+    )
 }
 
 fn main(rt: HostRuntime) -> io::Result<()> {
-    version_not_supported(&rt)?;
-    echo(&rt, b"echo_response ", 2, 658188)?;
-    echo(&rt, b"own_echo ", 1, 5)?;
+    show(
+        &rt,
+        b"version_not_supported ",
+        |m| wire_messages::version_not_supported(m),
+    )?;
+    echo(&rt, b"echo_response ", MessageType::ECHO_REPLY, SEQUENCE)?;
+    echo(&rt, b"own_echo ", MessageType::ECHO, 5)?;
     create_accepted(&rt)?;
-    cause(&rt, b"create_cause ", 33, 287454020, 658188, 73)?;
-    fault(&rt, b"create_fault ", 33, 658188, 70, 87, 2)?;
-    cause(&rt, b"modify_accepted ", 35, 287454020, 658189, 16)?;
-    modify_bearer(&rt)?;
-    cause(&rt, b"modify_cause ", 35, 0, 658189, Refusal::NOT_LIVE)?;
-    fault(&rt, b"modify_fault ", 35, 658189, 69, 73, 0)?;
-    cause(&rt, b"delete_accepted ", 37, 287454020, 658190, 16)?;
+    let create = MessageType::CREATE_REPLY;
+    cause(&rt, b"create_cause ", create, PEER_CONTROL, SEQUENCE, 73)?;
+    fault(&rt, b"create_fault ", create, SEQUENCE, 70, 87, 2)?;
+    let modify = MessageType::MODIFY_REPLY;
+    cause(
+        &rt,
+        b"modify_accepted ",
+        modify,
+        PEER_CONTROL,
+        SEQUENCE + 1,
+        16,
+    )?;
+    show(
+        &rt,
+        b"modify_bearer ",
+        |m| wire_messages::modify_bearer(m, PEER_CONTROL, SEQUENCE + 1, 5),
+    )?;
+    cause(
+        &rt,
+        b"modify_cause ",
+        modify,
+        0,
+        SEQUENCE + 1,
+        Refusal::NOT_LIVE,
+    )?;
+    fault(&rt, b"modify_fault ", modify, SEQUENCE + 1, 69, 73, 0)?;
+    let delete = MessageType::DELETE_REPLY;
+    cause(
+        &rt,
+        b"delete_accepted ",
+        delete,
+        PEER_CONTROL,
+        SEQUENCE + 2,
+        16,
+    )?;
     cause(
         &rt,
         b"delete_cause ",
-        37,
-        287454020,
-        658190,
+        delete,
+        PEER_CONTROL,
+        SEQUENCE + 2,
         Refusal::NOT_LIVE,
     )?;
-    fault(&rt, b"delete_fault ", 37, 658190, 67, 73, 0)?;
-    delete_bearer(&rt)?;
-    user_echo(&rt)?;
-    error_indication(&rt)?;
-    gpdu(&rt)
+    fault(&rt, b"delete_fault ", delete, SEQUENCE + 2, 67, 73, 0)?;
+    others(&rt)
 }

@@ -1,44 +1,38 @@
 -- What the decoder tells a host in numbers: of a header, of a decoded request, of what types 1, 2 and 100 carry, and the rows of a line.
 -- Where a part does not apply it is 0.
 -- Assumes nothing.
-use Rattle.std.specs.Prelude.{ℕ, zero, suc, ◌%◌, Bool, true, false, List, [], ◌∷◌, ◌++◌, ◌≡◌, replicate}
+use Rattle.std.specs.Prelude.{ℕ, zero, suc, ◌%◌, List, [], ◌∷◌, ◌++◌, ◌≡◌, replicate, Option, Some, None, is_some, Result, Ok, Err, is_err}
+use Rattle.std.specs.Result.{result_unwrap_or}
+use mir.Val.{bool_byte as from_bool}
 use Rattle.base_octets.specs.Choice.{pick, split}
 use Rattle.base_octets.specs.Overlay.{overlay}
 use Rattle.wire_messages.specs.Types.{create_type, modify_type, delete_type}
 use Rattle.wire_header.specs.Gate.{gate_of}
 use Rattle.wire_header.specs.Header.{header_of, header_size, with_teid}
-use Rattle.wire_fields.specs.declared.Recovery.{Recovery}
-use Rattle.wire_fields.specs.declared.Recovery.TheVariants as R
 use Rattle.wire_fields.specs.declared.Refusal.{Refusal}
+use Rattle.wire_fields.specs.declared.Fault.{Fault}
 use Rattle.wire_fields.specs.Refusal.{bare_refusal, not_live_cause}
 use Rattle.unit_plan.specs.declared.Plan.{Plan}
 use Rattle.unit_plan.specs.declared.AccessPoint.{AccessPoint}
 use Rattle.unit_plan.specs.Limits.{longest_name, no_point}
-use Rattle.wire_requests.specs.declared.Peer.{Peer}
-use Rattle.wire_requests.specs.declared.Peer.TheVariants as P
-use Rattle.wire_requests.specs.declared.Context.{Context}
-use Rattle.wire_requests.specs.declared.Context.TheVariants as X
 use Rattle.wire_requests.specs.declared.Create as C
 use Rattle.wire_requests.specs.declared.Modify as M
 use Rattle.wire_requests.specs.declared.Delete as D
 use Rattle.wire_requests.specs.declared.Request.{Request}
 use Rattle.wire_requests.specs.declared.Request.TheVariants.{Create, Modify, Delete}
-use Rattle.wire_requests.specs.declared.Decoded.{Decoded}
-use Rattle.wire_requests.specs.declared.Decoded.TheVariants.{Sound, Refused}
 use Rattle.wire_requests.specs.Create.{create_of, reply_to}
-use Rattle.wire_requests.specs.declared.Moves.{Moves}
-use Rattle.wire_requests.specs.declared.Moves.TheVariants as N
 use Rattle.wire_requests.specs.Change.{modify_of, delete_of, moves_of, means_of}
-use Rattle.wire_requests.specs.declared.EchoReply.{EchoReply}
-use Rattle.wire_requests.specs.declared.EchoReply.TheVariants as E
-use Rattle.wire_requests.specs.declared.BearerReply.{BearerReply}
-use Rattle.wire_requests.specs.declared.BearerReply.TheVariants as B
 use Rattle.wire_requests.specs.Carried.{echo_read, echo_reply_read, bearer_reply_read}
 use Rattle.trial_readers.specs.declared.Head.{Head}
 use Rattle.trial_readers.specs.declared.Decoding.{Decoding}
 use Rattle.trial_readers.specs.declared.Carried.{Carried}
 use Rattle.trial_readers.specs.declared.End.{End}
 use Rattle.unit_tunnel.specs.Numbering.{places}
+use Rattle.wire_requests.specs.declared.Context.{Context}
+use Rattle.wire_fields.specs.declared.Tunnel.{Tunnel}
+use Rattle.wire_requests.specs.declared.Moves.{Moves}
+use Rattle.wire_requests.specs.declared.Unreadable.{Unreadable}
+use Rattle.wire_requests.specs.Chain.{Decoded}
 
 -- ---- the trial plan: data, net, and one of the longest name, each with one place promised and no ceiling but the unit's
 unfoldable pub point_called : List ℕ → ℕ → AccessPoint
@@ -73,23 +67,15 @@ trial_plan = record {
 }
 
 -- ---- parts
-unfoldable pub flag : Bool → ℕ
-flag true = 1
-flag false = 0
-
 -- a Recovery that is not there is 256, which no octet is
-unfoldable pub recovery_number : Recovery → ℕ
-recovery_number R.None = 256
-recovery_number (R.Value x) = x
+unfoldable pub recovery_number : Option ℕ → ℕ
+recovery_number None = 256
+recovery_number (Some x) = x
 
 -- a tunnel end that a Modify moves
-unfoldable pub end_of : Peer → End
-end_of P.Same = record { moved = 0; teid = 0; address = 0 }
-end_of (P.New teid address) = record { moved = 1; teid = teid; address = address }
-
-unfoldable pub came_of : Context → ℕ
-came_of X.Absent = 0
-came_of (X.Present ebi user) = 1
+unfoldable pub end_of : Option Tunnel → End
+end_of None = record { moved = 0; teid = 0; address = 0 }
+end_of (Some end) = record { moved = 1; teid = end.teid; address = end.address }
 
 -- ---- the header
 unfoldable pub head_numbers : List ℕ → Head
@@ -102,13 +88,44 @@ head_numbers d = record {
 }
 
 -- ---- a decoded request
+-- no part applies
+abbrev pub no_decoding : Decoding
+no_decoding = record {
+  imsi = 0;
+  number = 0;
+  named = 0;
+  field = 0;
+  instance = 0;
+  kind = 0;
+  ebi = 0;
+  control = 0;
+  controladdr = 0;
+  user = 0;
+  useraddr = 0;
+  point = 0;
+  recovery = 0;
+  moved = 0;
+  context = 0;
+  usermoved = 0;
+  replyto = 0;
+}
+
+-- the field at fault, 0 where none is named
+unfoldable pub fault_kind : Option Fault → ℕ
+fault_kind None = 0
+fault_kind (Some fault) = fault.kind
+
+unfoldable pub fault_instance : Option Fault → ℕ
+fault_instance None = 0
+fault_instance (Some fault) = fault.instance
+
 unfoldable pub refused_decoding : Refusal → Decoding
 refused_decoding w = record {
   imsi = 0;
   number = w.cause;
-  named = flag w.named;
-  field = w.kind;
-  instance = w.instance;
+  named = from_bool (is_some w.fault);
+  field = fault_kind w.fault;
+  instance = fault_instance w.fault;
   kind = 0;
   ebi = 0;
   control = 0;
@@ -166,9 +183,9 @@ ends_decoding c context u = record {
   replyto = 0;
 }
 
-unfoldable pub moves_decoding : Moves → Context → Decoding
-moves_decoding (N.To control user) context = ends_decoding (end_of control) (came_of context) (end_of user)
-moves_decoding (N.Refused w) context = refused_decoding w
+unfoldable pub moves_decoding : Result Moves Refusal → Option Context → Decoding
+moves_decoding (Ok moves) context = ends_decoding (end_of moves.control) (from_bool (is_some context)) (end_of moves.user)
+moves_decoding (Err w) context = refused_decoding w
 
 -- what a Modify and a Delete come to for a session of an EBI
 unfoldable pub modify_decoding : M.Modify → ℕ → Decoding
@@ -204,8 +221,8 @@ request_decoding (Modify m) ebi = modify_decoding m ebi
 request_decoding (Delete d) ebi = delete_decoding d ebi
 
 unfoldable pub decoded_decoding : Decoded → ℕ → Decoding
-decoded_decoding (Sound q) ebi = request_decoding q ebi
-decoded_decoding (Refused w) ebi = refused_decoding w
+decoded_decoding (Ok q) ebi = request_decoding q ebi
+decoded_decoding (Err w) ebi = refused_decoding w
 
 -- with where a cause reply goes
 unfoldable pub replied_to : ℕ → Decoding → Decoding
@@ -240,29 +257,17 @@ unfoldable pub delete_in : List ℕ → ℕ → Decoding
 delete_in s ebi = decoded_decoding (delete_of s) ebi
 
 -- ---- what types 1, 2 and 100 carry; 1 where a reply cannot be read
-unfoldable pub echo_unread : EchoReply → ℕ
-echo_unread (E.Carries r) = 0
-echo_unread E.Unreadable = 1
-
-unfoldable pub echo_carries : EchoReply → ℕ
-echo_carries (E.Carries r) = recovery_number r
-echo_carries E.Unreadable = 0
-
-unfoldable pub bearer_unread : BearerReply → ℕ
-bearer_unread (B.Cause x) = 0
-bearer_unread B.Unreadable = 1
-
-unfoldable pub bearer_cause : BearerReply → ℕ
-bearer_cause (B.Cause x) = x
-bearer_cause B.Unreadable = 0
+unfoldable pub echo_carries : Result (Option ℕ) Unreadable → ℕ
+echo_carries (Ok r) = recovery_number r
+echo_carries (Err u) = 0
 
 unfoldable pub carried_in : List ℕ → Carried
 carried_in s = record {
   echo = recovery_number (echo_read s);
-  echounread = echo_unread (echo_reply_read s);
+  echounread = from_bool (is_err (echo_reply_read s));
   echoreply = echo_carries (echo_reply_read s);
-  bearerunread = bearer_unread (bearer_reply_read s);
-  cause = bearer_cause (bearer_reply_read s);
+  bearerunread = from_bool (is_err (bearer_reply_read s));
+  cause = result_unwrap_or (bearer_reply_read s) 0;
 }
 
 -- ---- the rows of a line

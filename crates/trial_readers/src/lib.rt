@@ -5,36 +5,45 @@
 ghost use Rattle.std.specs.Prelude.{◌≡◌, ◌-◌, length};
 ghost use Rattle.wire_user.specs.User.{user_of};
 ghost use Rattle.trial_readers.specs.Said.{said, said_of, said_in};
-ghost use Rattle.trial_readers.specs.Decoding.{point_called, trial_plan, flag, recovery_number, end_of, came_of, head_numbers, refused_decoding, create_decoding, ends_decoding, moves_decoding, modify_decoding, gone_decoding, delete_decoding, request_decoding, decoded_decoding, replied_to, create_in, modify_in, delete_in, echo_unread, echo_carries, bearer_unread, bearer_cause, carried_in, answer_row, carried_row};
+ghost use Rattle.trial_readers.specs.Decoding.{point_called, trial_plan, recovery_number, end_of, head_numbers, no_decoding, refused_decoding, create_decoding, ends_decoding, moves_decoding, modify_decoding, gone_decoding, delete_decoding, request_decoding, decoded_decoding, replied_to, create_in, modify_in, delete_in, echo_carries, carried_in, answer_row, carried_row};
 
+use base_octets::Number;
 use unit_plan::{AccessPoint, Plan};
-use wire_fields::{Recovery, Refusal};
+use unit_tunnel::Unit;
+use wire_fields::{Refusal, Tunnel};
 use wire_header::HeaderCursor;
 use wire_messages::MessageType;
-use wire_requests::{
-    BearerReply, Context, Create, Decoded, Delete, EchoReply, Modify, Moves, Peer, Request,
-};
+use wire_requests::{Context, Create, Delete, Modify, Moves, Request, Unreadable};
 use wire_user::Header;
 
-// The message type, the tunnel number and the sequence number: 0 where the case has none.
-fn said(h: Header, kind: &mut u8, teid: &mut u32, sequence: &mut u16)
-    ensures { said kind.new teid.new sequence.new ≡ said_of h }
+// The message type, the tunnel number and the sequence number of a user datagram: 0 where it has none.
+#[derive(Clone, Copy)]
+struct Numbers {
+    kind: u8,
+    teid: u32,
+    sequence: u16,
+}
+
+#[tactic(auto, unfolding(crate::specs::Said::said_of))]
+fn said(h: Header) -> Numbers
+    ensures { said result.kind result.teid result.sequence ≡ said_of h }
 {
     match h {
-        Header::Echo { sequence: n } => {
-            *kind = Header::ECHO;
-            *teid = 0;
-            *sequence = n;
-        }
-        Header::Packet { teid: n } => {
-            *kind = Header::PACKET;
-            *teid = n.0;
-            *sequence = 0;
-        }
+        Header::Echo { sequence } => Numbers {
+            kind: Header::ECHO,
+            teid: 0,
+            sequence,
+        },
+        Header::Packet { teid } => Numbers {
+            kind: Header::PACKET,
+            teid: teid.0,
+            sequence: 0,
+        },
     }
 }
 
 // The size of the payload, which ends where the datagram ends; the number and what the header says are written to the host's places.
+// Kept: the four lent numbers are the C interface, of `gpdu_read` in crate trial_readers_c.
 pub fn gpdu_read(
     d: &[u8],
     number: &mut u8,
@@ -46,16 +55,23 @@ pub fn gpdu_read(
         × ((number.new ≡ (user_of d.now).number)
         × (said kind.new teid.new sequence.new ≡ said_in d.now)) }
 {
-    let part = wire_user::payload(d, number);
-    if *number != 0 {
-        *kind = 0;
-        *teid = 0;
-        *sequence = 0;
-        return part.len();
+    match wire_user::payload(d) {
+        Ok(part) => {
+            let what = said(Header::of(d));
+            *number = Number::TAKEN;
+            *kind = what.kind;
+            *teid = what.teid;
+            *sequence = what.sequence;
+            part.len()
+        }
+        Err(why) => {
+            *number = why.into();
+            *kind = 0;
+            *teid = 0;
+            *sequence = 0;
+            0
+        }
     }
-    let h = Header::of(d);
-    said(h, kind, teid, sequence);
-    part.len()
 }
 
 #[repr(C)]
@@ -95,6 +111,33 @@ pub struct Decoding {
     pub replyto: u64,
 }
 
+impl Decoding {
+    // No part applies.
+    fn none() -> Decoding
+        ensures { result ≡ no_decoding }
+    {
+        Decoding {
+            imsi: 0,
+            number: 0,
+            named: 0,
+            field: 0,
+            instance: 0,
+            kind: 0,
+            ebi: 0,
+            control: 0,
+            controladdr: 0,
+            user: 0,
+            useraddr: 0,
+            point: 0,
+            recovery: 0,
+            moved: 0,
+            context: 0,
+            usermoved: 0,
+            replyto: 0,
+        }
+    }
+}
+
 // What types 1, 2 and 100 carry.
 #[repr(C)]
 #[derive(Clone, Copy)]
@@ -116,6 +159,7 @@ pub struct End {
 }
 
 // An access point of a name, with one place promised and no ceiling but the unit's.
+#[tactic(auto, unfolding(crate::specs::Decoding::point_called, unit_plan::specs::Limits::longest_name, unit_tunnel::specs::Numbering::places))]
 fn point_called(name: &[u8], size: u8) -> AccessPoint
     ensures { result ≡ point_called name.now size }
 {
@@ -125,7 +169,7 @@ fn point_called(name: &[u8], size: u8) -> AccessPoint
         name: all,
         size,
         guarantee: 1,
-        ceiling: unit_tunnel::Unit::PLACES as u16,
+        ceiling: Unit::PLACES as u16,
     }
 }
 
@@ -153,168 +197,122 @@ pub fn trial_plan() -> Plan
     }
 }
 
-fn flag(b: bool) -> u64
-    ensures { result ≡ flag b }
-{
-    if b { 1 } else { 0 }
-}
-
-pub fn recovery_number(r: Recovery) -> u32
+#[tactic(auto, unfolding(crate::specs::Decoding::recovery_number))]
+pub fn recovery_number(r: Option<u8>) -> u32
     ensures { result ≡ recovery_number r }
 {
     match r {
-        Recovery::None => 256,
-        Recovery::Value(x) => x as u32,
+        None => 256,
+        Some(x) => u32::from(x),
     }
 }
 
+#[tactic(auto, unfolding(crate::specs::Decoding::refused_decoding, crate::specs::Decoding::fault_kind, crate::specs::Decoding::fault_instance))]
 fn refused_decoding(w: Refusal) -> Decoding
     ensures { result ≡ refused_decoding w }
 {
-    let named = flag(w.named);
-    Decoding {
-        imsi: 0,
-        number: w.cause as u64,
-        named,
-        field: w.kind as u64,
-        instance: w.instance as u64,
-        kind: 0,
-        ebi: 0,
-        control: 0,
-        controladdr: 0,
-        user: 0,
-        useraddr: 0,
-        point: 0,
-        recovery: 0,
-        moved: 0,
-        context: 0,
-        usermoved: 0,
-        replyto: 0,
+    let number = u64::from(w.cause);
+    match w.fault {
+        None => Decoding {
+            number,
+            ..Decoding::none()
+        },
+        Some(fault) => Decoding {
+            number,
+            named: 1,
+            field: u64::from(fault.kind),
+            instance: u64::from(fault.instance),
+            ..Decoding::none()
+        },
     }
 }
 
+#[tactic(auto, unfolding(crate::specs::Decoding::create_decoding))]
 fn create_decoding(c: Create) -> Decoding
     ensures { result ≡ create_decoding c }
 {
-    let r = c.recovery;
-    let recovery = recovery_number(r);
     Decoding {
         imsi: c.imsi,
-        number: 0,
-        named: 0,
-        field: 0,
-        instance: 0,
-        kind: MessageType::CREATE as u64,
-        ebi: c.ebi as u64,
-        control: c.control as u64,
-        controladdr: c.controladdr as u64,
-        user: c.user as u64,
-        useraddr: c.useraddr as u64,
+        kind: u64::from(MessageType::CREATE),
+        ebi: u64::from(c.ebi),
+        control: u64::from(c.control),
+        controladdr: u64::from(c.controladdr),
+        user: u64::from(c.user),
+        useraddr: u64::from(c.useraddr),
         point: c.point as u64,
-        recovery: recovery as u64,
-        moved: 0,
-        context: 0,
-        usermoved: 0,
-        replyto: 0,
+        recovery: u64::from(recovery_number(c.recovery)),
+        ..Decoding::none()
     }
 }
 
-fn end_of(p: Peer) -> End
+#[tactic(auto, unfolding(crate::specs::Decoding::end_of))]
+fn end_of(p: Option<Tunnel>) -> End
     ensures { result ≡ end_of p }
 {
     match p {
-        Peer::Same => End {
+        None => End {
             moved: 0,
             teid: 0,
             address: 0,
         },
-        Peer::New { teid, address } => End {
+        Some(end) => End {
             moved: 1,
-            teid: teid as u64,
-            address: address as u64,
+            teid: u64::from(end.teid),
+            address: u64::from(end.address),
         },
     }
 }
 
-// Whether a Bearer Context came.
-fn came(context: Context) -> u64
-    ensures { result ≡ came_of context }
-{
-    match context {
-        Context::Absent => 0,
-        Context::Present { ebi: _, user: _ } => 1,
-    }
-}
-
+#[tactic(auto, unfolding(crate::specs::Decoding::ends_decoding))]
 fn ends_decoding(control: End, context: u64, user: End) -> Decoding
     ensures { result ≡ ends_decoding control context user }
 {
     Decoding {
-        imsi: 0,
-        number: 0,
-        named: 0,
-        field: 0,
-        instance: 0,
-        kind: MessageType::MODIFY as u64,
-        ebi: 0,
+        kind: u64::from(MessageType::MODIFY),
         control: control.teid,
         controladdr: control.address,
         user: user.teid,
         useraddr: user.address,
-        point: 0,
-        recovery: 0,
         moved: control.moved,
         context,
         usermoved: user.moved,
-        replyto: 0,
+        ..Decoding::none()
     }
 }
 
-fn moves_decoding(m: Moves, context: Context) -> Decoding
+#[tactic(auto, unfolding(crate::specs::Decoding::moves_decoding))]
+fn moves_decoding(m: Result<Moves, Refusal>, context: Option<Context>) -> Decoding
     ensures { result ≡ moves_decoding m context }
 {
     match m {
-        Moves::To { control, user } => {
-            let c = end_of(control);
-            let x = came(context);
-            ends_decoding(c, x, end_of(user))
+        Ok(moves) => {
+            let came = u64::from(context.is_some());
+            ends_decoding(end_of(moves.control), came, end_of(moves.user))
         }
-        Moves::Refused(w) => refused_decoding(w),
+        Err(w) => refused_decoding(w),
     }
 }
 
 // What a Modify and a Delete come to for a session of an EBI.
+#[tactic(auto, unfolding(crate::specs::Decoding::modify_decoding))]
 fn modify_decoding(m: Modify, ebi: u8) -> Decoding
     ensures { result ≡ modify_decoding m ebi }
 {
-    let context = m.context;
-    moves_decoding(wire_requests::moves_of(m, ebi), context)
+    moves_decoding(wire_requests::moves_of(m, ebi), m.context)
 }
 
+#[tactic(auto, unfolding(crate::specs::Decoding::gone_decoding))]
 fn gone_decoding(ebi: u8) -> Decoding
     ensures { result ≡ gone_decoding ebi }
 {
     Decoding {
-        imsi: 0,
-        number: 0,
-        named: 0,
-        field: 0,
-        instance: 0,
-        kind: MessageType::DELETE as u64,
-        ebi: ebi as u64,
-        control: 0,
-        controladdr: 0,
-        user: 0,
-        useraddr: 0,
-        point: 0,
-        recovery: 0,
-        moved: 0,
-        context: 0,
-        usermoved: 0,
-        replyto: 0,
+        kind: u64::from(MessageType::DELETE),
+        ebi: u64::from(ebi),
+        ..Decoding::none()
     }
 }
 
+#[tactic(auto, unfolding(crate::specs::Decoding::delete_decoding))]
 fn delete_decoding(d: Delete, ebi: u8) -> Decoding
     ensures { result ≡ delete_decoding d ebi }
 {
@@ -324,6 +322,7 @@ fn delete_decoding(d: Delete, ebi: u8) -> Decoding
     refused_decoding(Refusal::bare(Refusal::NOT_LIVE))
 }
 
+#[tactic(auto, unfolding(crate::specs::Decoding::request_decoding))]
 fn request_decoding(q: Request, ebi: u8) -> Decoding
     ensures { result ≡ request_decoding q ebi }
 {
@@ -334,22 +333,26 @@ fn request_decoding(q: Request, ebi: u8) -> Decoding
     }
 }
 
-fn decoded_decoding(d: Decoded, ebi: u8) -> Decoding
+#[tactic(auto, unfolding(crate::specs::Decoding::decoded_decoding))]
+fn decoded_decoding(d: Result<Request, Refusal>, ebi: u8) -> Decoding
     ensures { result ≡ decoded_decoding d ebi }
 {
     match d {
-        Decoded::Sound(q) => request_decoding(q, ebi),
-        Decoded::Refused(w) => refused_decoding(w),
+        Ok(q) => request_decoding(q, ebi),
+        Err(w) => refused_decoding(w),
     }
 }
 
 pub fn requests_head(d: &[u8]) -> Head
     ensures { result ≡ head_numbers d.now }
 {
-    let number = wire_header::gate(d);
+    let number = match wire_header::gate(d) {
+        Ok(_) => Number::TAKEN,
+        Err(why) => why.into(),
+    };
     let h = HeaderCursor::of(d);
     Head {
-        number: number as u32,
+        number: u32::from(number),
         kind: h.kind as u32,
         teid: h.teid,
         sequence: h.sequence,
@@ -358,87 +361,61 @@ pub fn requests_head(d: &[u8]) -> Head
 }
 
 // With where a cause reply goes.
-fn replied_to(to: u32, mut a: Decoding) -> Decoding
+#[tactic(auto, unfolding(crate::specs::Decoding::replied_to))]
+fn replied_to(to: u32, a: Decoding) -> Decoding
     ensures { result ≡ replied_to to a }
 {
-    a.replyto = to as u64;
-    a
+    Decoding {
+        replyto: u64::from(to),
+        ..a
+    }
 }
 
 // Each takes the octets behind the header.
+#[tactic(auto, unfolding(crate::specs::Decoding::create_in))]
 pub fn requests_create(s: &[u8]) -> Decoding
     ensures { result ≡ create_in s.now }
 {
-    let plan = trial_plan();
-    let d = wire_requests::read_create(plan, s);
-    let a = decoded_decoding(d, 0);
-    replied_to(wire_requests::reply_to(s), a)
+    let d = wire_requests::read_create(trial_plan(), s);
+    replied_to(wire_requests::reply_to(s), decoded_decoding(d, 0))
 }
 
+#[tactic(auto, unfolding(crate::specs::Decoding::modify_in))]
 pub fn requests_modify(s: &[u8], ebi: u8) -> Decoding
     ensures { result ≡ modify_in s.now ebi }
 {
     decoded_decoding(wire_requests::read_modify(s), ebi)
 }
 
+#[tactic(auto, unfolding(crate::specs::Decoding::delete_in))]
 pub fn requests_delete(s: &[u8], ebi: u8) -> Decoding
     ensures { result ≡ delete_in s.now ebi }
 {
     decoded_decoding(wire_requests::read_delete(s), ebi)
 }
 
-fn echo_unread(e: EchoReply) -> u32
-    ensures { result ≡ echo_unread e }
-{
-    match e {
-        EchoReply::Carries(_) => 0,
-        EchoReply::Unreadable => 1,
-    }
-}
-
-fn echo_carries(e: EchoReply) -> u32
+#[tactic(auto, unfolding(crate::specs::Decoding::echo_carries))]
+fn echo_carries(e: Result<Option<u8>, Unreadable>) -> u32
     ensures { result ≡ echo_carries e }
 {
     match e {
-        EchoReply::Carries(r) => recovery_number(r),
-        EchoReply::Unreadable => 0,
+        Ok(r) => recovery_number(r),
+        Err(_) => 0,
     }
 }
 
-fn bearer_unread(e: BearerReply) -> u32
-    ensures { result ≡ bearer_unread e }
-{
-    match e {
-        BearerReply::Cause(_) => 0,
-        BearerReply::Unreadable => 1,
-    }
-}
-
-fn bearer_cause(e: BearerReply) -> u32
-    ensures { result ≡ bearer_cause e }
-{
-    match e {
-        BearerReply::Cause(x) => x as u32,
-        BearerReply::Unreadable => 0,
-    }
-}
-
+#[tactic(auto, unfolding(crate::specs::Decoding::carried_in))]
 pub fn requests_carried(s: &[u8]) -> Carried
     ensures { result ≡ carried_in s.now }
 {
-    let echo = recovery_number(wire_requests::read_echo(s));
-    let e = wire_requests::read_echo_reply(s);
-    let echounread = echo_unread(e);
-    let echoreply = echo_carries(e);
-    let b = wire_requests::read_bearer_reply(s);
-    let bearerunread = bearer_unread(b);
-    let cause = bearer_cause(b);
+    let reply = wire_requests::read_echo_reply(s);
+    let bearer = wire_requests::read_bearer_reply(s);
     Carried {
-        echo,
-        echounread,
-        echoreply,
-        bearerunread,
-        cause,
+        echo: recovery_number(wire_requests::read_echo(s)),
+        echounread: u32::from(reply.is_err()),
+        echoreply: echo_carries(reply),
+        bearerunread: u32::from(bearer.is_err()),
+        cause: u32::from(bearer.unwrap_or(0)),
     }
 }
 
@@ -471,10 +448,10 @@ pub fn carried_row(c: Carried) -> [u64; 5]
     ensures { result ≡ carried_row c }
 {
     [
-        c.echo as u64,
-        c.echounread as u64,
-        c.echoreply as u64,
-        c.bearerunread as u64,
-        c.cause as u64,
+        u64::from(c.echo),
+        u64::from(c.echounread),
+        u64::from(c.echoreply),
+        u64::from(c.bearerunread),
+        u64::from(c.cause),
     ]
 }

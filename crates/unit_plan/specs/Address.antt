@@ -1,9 +1,9 @@
 -- The address of a session: pool base + 1 + place, in the 32 bits that an address has. The addresses of places differ, so an address has
 -- at most one place; that it is found by arithmetic is a law.
 -- Assumes nothing.
-use Rattle.std.specs.Prelude.{ℕ, ◌+◌, ◌-◌, ◌%◌, ◌<◌, ◌≤◌, true, false, ◌&&◌, ◌≡◌, ltb}
-use Rattle.std.proofs.Common.{arith, lt-ltb, le-ltb, ltb-true}
-use Rattle.base_octets.specs.Choice.{pick, split, and_left}
+use Rattle.std.specs.Prelude.{ℕ, ◌+◌, ◌-◌, ◌%◌, ◌<◌, min, true, false, ◌&&◌, ◌≡◌, ltb}
+use Rattle.std.proofs.Common.{arith, lt-ltb, ltb-true}
+use Rattle.base_octets.specs.Choice.{pick, split, and_left, tests}
 use Rattle.unit_tunnel.specs.Numbering.{places}
 use Rattle.unit_plan.specs.Limits.{pool_step}
 
@@ -62,11 +62,8 @@ address_of_place pool a h = split (ltb a addresses && ltb (away pool a) places) 
     none : (ltb a addresses && ltb (away pool a) places) ≡ false → address_of pool (place_of pool a) ≡ a
     none e = let z : places < places = rw e at h in absurd (omega arith)
 
--- in the words of the code
-pub place_near : (pool a : ℕ) → a < addresses → away pool a < places → away pool a ≡ place_of pool a
+-- in the words of the code: the lesser of how far it lies and of the places
+pub place_least : (pool a n : ℕ) → a < addresses → n ≡ min (away pool a) places → n ≡ place_of pool a
 unfolding place_of
-place_near pool a s h = rw (lt-ltb a addresses s, lt-ltb (away pool a) places h)
-
-pub place_far : (pool a : ℕ) → a < addresses → places ≤ away pool a → places ≡ place_of pool a
-unfolding place_of
-place_far pool a s h = rw (lt-ltb a addresses s, le-ltb (away pool a) places h)
+place_least pool a n s e =
+    rw (lt-ltb a addresses s) (split (ltb (away pool a) places) (λ t. rw t (omega (arith, tests))) (λ t. rw t (omega (arith, tests))))

@@ -1,13 +1,11 @@
 -- The limits of a plan, each figure of document 01 in one place, and the access points that a plan has.
 -- Assumes nothing.
-use Rattle.std.specs.Prelude.{ℕ, ◌+◌, ◌<◌, ◌≤◌, min, ◌%◌, Bool, true, false, ◌&&◌, List, map, ◌≡◌, length, take, drop, get_or, replicate, eqb, leb}
-use Rattle.std.proofs.Common.{sym, ◌∙◌, arith}
+use Rattle.std.specs.Prelude.{ℕ, ◌<◌, ◌≤◌, min, ◌%◌, Bool, ◌&&◌, List, map, ◌≡◌, length, take, get_or, replicate, eqb, leb}
+use Rattle.std.proofs.Common.{sym, ◌∙◌, take_all, arith}
 use Rattle.std.proofs.Math.ListN.{length-take}
 use Rattle.std.proofs.Math.Seq.{get_or-take}
-use Rattle.base_octets.specs.Choice.{split}
-use Rattle.base_octets.specs.Every.{every, every_rest, every_stop, every_on, every_end, rest_stop, rest_on}
+use Rattle.base_octets.specs.Choice.{split, tests}
 use Rattle.base_octets.specs.Places.{map_at}
-use Rattle.base_octets.specs.Search.{first_of, first_hit, first_miss}
 use Rattle.unit_tunnel.specs.Numbering.{places}
 use Rattle.unit_plan.specs.declared.AccessPoint.{AccessPoint}
 use Rattle.unit_plan.specs.declared.Plan.{Plan}
@@ -70,6 +68,14 @@ module _ (p : Plan) where
   unfolding used
   parties_is l = simp length-take (omega arith)
 
+  -- the slots that the count leaves, whatever it is
+  pub used_slots : (n : ℕ) → length p.points ≡ 4 → n ≡ min p.count 4 → take n p.points ≡ used p
+  unfolding used
+  used_slots n l e =
+      split (leb p.count 4)
+      (λ t. let k : n ≡ p.count = omega (arith, tests) in rw k)
+      (λ t. let k : n ≡ 4 = omega (arith, tests) in rw k (take_all 4 p.points (omega arith) ∙ sym (take_all p.count p.points (omega (arith, tests)))))
+
   pub parties_most : length p.points ≡ 4 → parties p ≤ 4
   parties_most l = let e = parties_is l in omega arith
 
@@ -77,30 +83,6 @@ module _ (p : Plan) where
   unfolding used
   used-at i d h = let k = rw (length-take p.count p.points) at h in get_or-take p.count p.points i d (omega arith)
 
-  -- ---- a loop over the slots that has come to slot i, in the words of the laws over lists
-  module _ (i : ℕ) (d : AccessPoint) (h : i < parties p) where
-    pub used_stop : (t : AccessPoint → Bool) → t (get_or p.points i d) ≡ false → every t (drop i (used p)) ≡ false
-    used_stop t e = every_stop (used p) i t d h (rw (used-at i d h) e)
-
-    pub used_on : (t : AccessPoint → Bool) → t (get_or p.points i d) ≡ true → every t (drop i (used p)) ≡ every t (drop (i + 1) (used p))
-    used_on t e = every_on (used p) i t d h (rw (used-at i d h) e)
-
-    pub used_last : (t : AccessPoint → Bool) → parties p ≤ i + 1 → every t (drop i (used p)) ≡ t (get_or p.points i d)
-    used_last t k =
-        split (t (get_or p.points i d)) (λ e. used_on t e ∙ every_end (used p) (i + 1) t k ∙ sym e) (λ e. used_stop t e ∙ sym e)
-
-    pub used_rest_stop : (t : AccessPoint → List AccessPoint → Bool) → t (get_or p.points i d) (drop (i + 1) (used p)) ≡ false → every_rest t (drop i (used p)) ≡ false
-    used_rest_stop t e = rest_stop (used p) i t d h (rw (used-at i d h) e)
-
-    pub used_rest_on : (t : AccessPoint → List AccessPoint → Bool) → t (get_or p.points i d) (drop (i + 1) (used p)) ≡ true → every_rest t (drop i (used p)) ≡ every_rest t (drop (i + 1) (used p))
-    used_rest_on t e = rest_on (used p) i t d h (rw (used-at i d h) e)
-
-    pub used_hit : (t : AccessPoint → Bool) → t (get_or p.points i d) ≡ true → first_of t (drop i (used p)) ≡ 0
-    used_hit t e = first_hit t (used p) i d h (rw (used-at i d h) e)
-
-    pub used_miss : (t : AccessPoint → Bool) → t (get_or p.points i d) ≡ false → first_of t (drop i (used p)) ≡ first_of t (drop (i + 1) (used p)) + 1
-    used_miss t e = first_miss t (used p) i d h (rw (used-at i d h) e)
-
-    -- one figure of each
-    pub used_figure : (f : AccessPoint → ℕ) → get_or (map f (used p)) i 0 ≡ f (get_or p.points i d)
-    used_figure f = map_at f (used p) i d 0 h ∙ rw (used-at i d h)
+  -- one figure of each
+  pub used_figure : (i : ℕ) (d : AccessPoint) → i < parties p → (f : AccessPoint → ℕ) → get_or (map f (used p)) i 0 ≡ f (get_or p.points i d)
+  used_figure i d h f = map_at f (used p) i d 0 h ∙ rw (used-at i d h)

@@ -1,17 +1,16 @@
 -- Names of access points: compared octet by octet, as the APN value is sent. Everything that asks whether two names are one,
 -- or whose a name is, asks this file.
 -- Assumes nothing.
-use Rattle.std.specs.Prelude.{ℕ, ◌+◌, ◌-◌, ◌<◌, ◌≤◌, min, Bool, true, false, not, List, ◌≡◌, length, take, drop, get_or, ltb, leb}
+use Rattle.std.specs.Prelude.{ℕ, ◌<◌, min, Bool, true, false, not, List, [], ◌∷◌, ◌≡◌, refl, length, take, get_or, ltb, leb, Option, Some, None}
 use Rattle.std.proofs.Common.{sym, ◌∙◌, take_all}
 use native.Mathlib.Omega.{arith}
-use borrow.Author.Tests.{lt-ltb, le-ltb, ltb-true}
+use Rattle.std.specs.List.{list_all}
+use borrow.Author.Tests.{ltb-true}
 use Rattle.base_octets.specs.Choice.{pick, split, impossible, tests}
-use Rattle.base_octets.specs.Every.{every, every_rest, rest_pair}
+use Rattle.base_octets.specs.Every.{every, every_rest, every_all, rest_pair}
 use Rattle.base_octets.specs.Search.{first_of, first_passes}
 use Rattle.base_octets.specs.Same.{same_octets, same_equal}
 use Rattle.unit_plan.specs.declared.AccessPoint.{AccessPoint}
-use Rattle.unit_plan.specs.declared.Named.{Named}
-use Rattle.unit_plan.specs.declared.Named.TheVariants.{Point, Unknown}
 use Rattle.unit_plan.specs.Limits.{longest_name}
 
 unfoldable pub name_of : AccessPoint → List ℕ
@@ -32,8 +31,8 @@ unfoldable pub names_differ : List AccessPoint → Bool
 names_differ l = every_rest (λ a r. every (unlike a) r) l
 
 -- the access point that a name is of, by its number, or none
-unfoldable pub named_in : List AccessPoint → List ℕ → Named
-named_in l d = pick (ltb (first_of (goes_by d) l) (length l)) (Point (first_of (goes_by d) l)) Unknown
+unfoldable pub named_in : List AccessPoint → List ℕ → Option ℕ
+named_in l d = pick (ltb (first_of (goes_by d) l) (length l)) (Some (first_of (goes_by d) l)) None
 
 -- ---- laws: names that both match a third match each other
 pub same_name_equal : (a b : List ℕ) → same_name a b ≡ true → a ≡ b
@@ -45,38 +44,42 @@ unfolding goes_by
 goes_by_both d a b e f = rw (same_name_equal (name_of b) d f) e
 
 -- ---- the part of the name's array that counts
-pub name-part : (a : AccessPoint) (n : ℕ) → length a.name ≡ longest_name → n ≡ min a.size longest_name → take (n - 0) (drop 0 a.name) ≡ name_of a
+pub name-part : (a : AccessPoint) (n : ℕ) → length a.name ≡ longest_name → n ≡ min a.size longest_name → take n a.name ≡ name_of a
 unfolding name_of
 name-part a n l e =
-    let m : n - 0 ≡ n = omega arith in
     split (leb a.size longest_name)
-    (λ t. let k : n ≡ a.size = omega (arith, tests) in rw (m, k))
-    (λ t. let k : n ≡ longest_name = omega (arith, tests) in rw (m, k) (take_all longest_name a.name (omega arith) ∙ sym (take_all a.size a.name (omega (arith, tests)))))
+    (λ t. let k : n ≡ a.size = omega (arith, tests) in rw k)
+    (λ t. let k : n ≡ longest_name = omega (arith, tests) in rw k (take_all longest_name a.name (omega arith) ∙ sym (take_all a.size a.name (omega (arith, tests)))))
 
--- ---- a search over the slots that has come to place i
-module _ (l : List AccessPoint) (d : List ℕ) (i : ℕ) (came : first_of (goes_by d) l ≡ i + first_of (goes_by d) (drop i l)) where
-  pub named_here : i < length l → first_of (goes_by d) (drop i l) ≡ 0 → named_in l d ≡ Point i
-  unfolding named_in
-  named_here h e = let k : first_of (goes_by d) l ≡ i = omega arith in rw (k, lt-ltb i (length l) h)
+-- ---- names compared one by one with those after them
+pub none_differ : (l : List AccessPoint) → length l ≡ 0 → names_differ l ≡ true
+unfolding names_differ every_rest
+none_differ [] h = refl
+none_differ (a ∷ l) h = absurd (omega arith)
 
-  pub named_none : length l ≤ i → named_in l d ≡ Unknown
-  unfolding named_in
-  named_none h = rw (le-ltb (first_of (goes_by d) l) (length l) (omega arith))
+module _ (l : List AccessPoint) (a : AccessPoint) (r : List AccessPoint) (is : l ≡ a ∷ r) where
+  pub first_clashes : list_all (unlike a) r ≡ false → names_differ l ≡ false
+  unfolding names_differ every_rest
+  first_clashes e = let f = rw every_all at e in rw (is, f)
+
+  pub first_differs : list_all (unlike a) r ≡ true → names_differ l ≡ names_differ r
+  unfolding names_differ every_rest
+  first_differs e = let f = rw every_all at e in rw (is, f)
 
 -- ---- whose a name is
-pub named_is : (l : List AccessPoint) (d : List ℕ) (i : ℕ) (x : AccessPoint) → named_in l d ≡ Point i → (i < length l) × (goes_by d (get_or l i x) ≡ true)
+pub named_is : (l : List AccessPoint) (d : List ℕ) (i : ℕ) (x : AccessPoint) → named_in l d ≡ Some i → (i < length l) × (goes_by d (get_or l i x) ≡ true)
 unfolding named_in
 named_is l d i x e = split (ltb (first_of (goes_by d) l) (length l)) found none
   where
     found : ltb (first_of (goes_by d) l) (length l) ≡ true → (i < length l) × (goes_by d (get_or l i x) ≡ true)
     found t =
         let h = ltb-true (first_of (goes_by d) l) (length l) t in
-        let f : Point (first_of (goes_by d) l) ≡ Point i = rw t at e in
+        let f : Some (first_of (goes_by d) l) ≡ Some i = rw t at e in
         let k : first_of (goes_by d) l ≡ i = cc in
         (rw (← k) h, rw (← k) (first_passes (goes_by d) l x h))
 
     none : ltb (first_of (goes_by d) l) (length l) ≡ false → (i < length l) × (goes_by d (get_or l i x) ≡ true)
-    none t = let f : Unknown ≡ Point i = rw t at e in let z : ◌≡◌ {A = ℕ} 0 1 = cc in absurd (omega arith)
+    none t = let f : ◌≡◌ {A = Option ℕ} None (Some i) = rw t at e in let z : ◌≡◌ {A = ℕ} 0 1 = cc in absurd (omega arith)
 
 -- where names differ, a name is of one access point at most
 clash : (l : List AccessPoint) (d : List ℕ) (i j : ℕ) (x : AccessPoint) → names_differ l ≡ true → i < j → j < length l

@@ -2,10 +2,11 @@
 // name is, the address of a place, and the place of an address.
 #![tactic(auto)]
 
-ghost use Rattle.std.specs.Prelude.{true, not, ◌≡◌, drop, min};
+ghost use Rattle.std.specs.Prelude.{ℕ, true, ◌≡◌, ◌≤◌, length, position, sum_by};
 ghost use Rattle.base_octets.specs.Every.{every};
-ghost use Rattle.unit_plan.specs.Limits.{longest_name, no_point, no_plan, parties, used, figures_ok, point_ok};
-ghost use Rattle.unit_plan.specs.Names.{goes_by, unlike, names_differ, named_in};
+ghost use Rattle.std.specs.List.{list_all};
+ghost use Rattle.unit_plan.specs.Limits.{no_point, no_plan, parties, used, figures_ok, point_ok};
+ghost use Rattle.unit_plan.specs.Names.{name_of, goes_by, unlike, names_differ, named_in};
 ghost use Rattle.unit_plan.specs.Plan.{guaranteed, accepted};
 ghost use Rattle.unit_plan.specs.Address.{address_of, place_of};
 
@@ -17,13 +18,6 @@ pub struct AccessPoint {
     pub size: u8,
     pub guarantee: u16,
     pub ceiling: u16,
-}
-
-// Which access point a name is of.
-#[derive(Clone, Copy)]
-pub enum Named {
-    Point(usize),
-    Unknown,
 }
 
 #[repr(C)]
@@ -62,54 +56,79 @@ impl AccessPoint {
     }
 
     // The limits of one access point.
-    pub fn fits(self) -> bool
-        ensures { result ≡ point_ok self }
+    pub fn fits(&self) -> bool
+        ensures { result ≡ point_ok self.now }
     {
         (1 <= self.size)
-            & (self.size as usize <= Self::LONGEST_NAME)
+            & (usize::from(self.size) <= Self::LONGEST_NAME)
             & (self.guarantee <= self.ceiling)
             & (1 <= self.ceiling)
-            & (self.ceiling as usize <= unit_tunnel::Unit::PLACES)
+            & (usize::from(self.ceiling) <= unit_tunnel::Unit::PLACES)
     }
 
-    // How many octets of the name count.
-    fn name_size(self) -> usize
-        ensures { result ≡ min self.size longest_name }
+    // The octets of the name.
+    fn octets(&self) -> &[u8]
+        ensures { result.now ≡ name_of self.now }
     {
-        let size = self.size as usize;
-        if size < Self::LONGEST_NAME {
-            size
-        } else {
-            Self::LONGEST_NAME
-        }
+        &self.name[..usize::from(self.size).min(Self::LONGEST_NAME)]
     }
 
     // Whether a name is this access point's.
-    pub fn goes_by(self, d: &[u8]) -> bool
-        ensures { result ≡ goes_by d.now self }
+    pub fn goes_by(&self, d: &[u8]) -> bool
+        ensures { result ≡ goes_by d.now self.now }
     {
-        let name = self.name;
-        let size = self.name_size();
-        base_octets::same_octets(&name[0..size], d)
+        self.octets() == d
     }
 
     // Whether two access points have two names.
-    pub fn unlike(self, other: AccessPoint) -> bool
-        ensures { result ≡ unlike self other }
+    pub fn unlike(&self, other: &AccessPoint) -> bool
+        ensures { result ≡ unlike self.now other.now }
     {
-        let name = other.name;
-        let size = other.name_size();
-        let same = self.goes_by(&name[0..size]);
-        !same
+        !self.goes_by(other.octets())
     }
+}
 
-    // Whether the sizes of two names alone tell them apart.
-    fn apart(self, other: AccessPoint) -> bool
-        requires { (point_ok self ≡ true) × (point_ok other ≡ true) }
-        ensures { result ≡ true → unlike self other ≡ true }
-    {
-        self.size != other.size
+// Whether each access point keeps its limits.
+fn all_fit(points: &[AccessPoint]) -> bool
+    ensures { result ≡ list_all point_ok points.now }
+{
+    points.iter().all(|p| p.fits())
+}
+
+// Whether a name is unlike those of others.
+fn all_unlike(first: &AccessPoint, rest: &[AccessPoint]) -> bool
+    ensures { result ≡ list_all (unlike first.now) rest.now }
+{
+    rest.iter().all(|p| first.unlike(p))
+}
+
+// Whether every two names differ.
+fn names_differ(points: &[AccessPoint]) -> bool
+    ensures { result ≡ names_differ points.now }
+{
+    let mut left = points;
+    while let Some((first, rest)) = left.split_first() {
+        if !all_unlike(first, rest) {
+            return false;
+        }
+        left = rest;
     }
+    true
+}
+
+// The guarantees, added.
+fn promised(points: &[AccessPoint]) -> u32
+    requires { length points.now ≤ 4 }
+    ensures { result ≡ sum_by (λ (a : AccessPoint). a.guarantee) points.now }
+{
+    points.iter().map(|p| u32::from(p.guarantee)).sum()
+}
+
+// The first access point that a name is of.
+fn first_named(points: &[AccessPoint], d: &[u8]) -> Option<usize>
+    ensures { result ≡ position (goes_by d.now) points.now }
+{
+    points.iter().position(|p| p.goes_by(d))
 }
 
 impl Plan {
@@ -140,24 +159,26 @@ impl Plan {
         }
     }
 
-    // How many access points there are.
-    pub fn parties(self) -> usize
-        ensures { result ≡ parties self }
+    // The access points: a slot past the count is not looked at.
+    pub fn used(&self) -> &[AccessPoint]
+        ensures { result.now ≡ used self.now }
     {
-        let count = self.count as usize;
-        if count < Self::MOST_POINTS {
-            count
-        } else {
-            Self::MOST_POINTS
-        }
+        &self.points[..usize::from(self.count).min(Self::MOST_POINTS)]
+    }
+
+    // How many access points there are.
+    pub fn parties(&self) -> usize
+        ensures { result ≡ parties self.now }
+    {
+        self.used().len()
     }
 
     // The limits of the plan's own figures.
-    fn figures_ok(self) -> bool
-        ensures { result ≡ figures_ok self }
+    fn figures_ok(&self) -> bool
+        ensures { result ≡ figures_ok self.now }
     {
         (1 <= self.count)
-            & (self.count as usize <= Self::MOST_POINTS)
+            & (usize::from(self.count) <= Self::MOST_POINTS)
             & (1 <= self.resend)
             & (1 <= self.sends)
             & (self.sends <= Self::MOST_SENDS)
@@ -165,187 +186,29 @@ impl Plan {
             & (self.pool % Self::POOL_STEP == 0)
     }
 
-    // The limits of each access point. Here and below the slots are read one by one at fixed places: a place that is computed
-    // makes the machine copy the whole plan.
-    fn points_fit(self) -> bool
-        ensures { result ≡ every point_ok (used self) }
-    {
-        let n = self.parties();
-        if n == 0 {
-            return true;
-        }
-        let a = self.points[0];
-        let first = a.fits();
-        if !first {
-            return false;
-        }
-        if n == 1 {
-            return true;
-        }
-        let b = self.points[1];
-        let second = b.fits();
-        if !second {
-            return false;
-        }
-        if n == 2 {
-            return true;
-        }
-        let c = self.points[2];
-        let third = c.fits();
-        if !third {
-            return false;
-        }
-        if n == 3 {
-            return true;
-        }
-        let d = self.points[3];
-        d.fits()
-    }
-
     // The places that are promised, in all.
-    pub fn guaranteed(self) -> u32
-        ensures { result ≡ guaranteed self }
+    pub fn guaranteed(&self) -> u32
+        ensures { result ≡ guaranteed self.now }
     {
-        let n = self.parties();
-        if n == 0 {
-            return 0;
-        }
-        let a = self.points[0];
-        let one = a.guarantee as u32;
-        if n == 1 {
-            return one;
-        }
-        let b = self.points[1];
-        let two = one + b.guarantee as u32;
-        if n == 2 {
-            return two;
-        }
-        let c = self.points[2];
-        let three = two + c.guarantee as u32;
-        if n == 3 {
-            return three;
-        }
-        let d = self.points[3];
-        three + d.guarantee as u32
-    }
-
-    // Whether the sizes alone tell every two names apart.
-    fn sizes_differ(self) -> bool
-        requires { every point_ok (used self) ≡ true }
-        ensures { result ≡ true → names_differ (used self) ≡ true }
-    {
-        let n = self.parties();
-        if n < 2 {
-            return true;
-        }
-        let a = self.points[0];
-        let b = self.points[1];
-        let two = a.apart(b);
-        if n == 2 {
-            return two;
-        }
-        let c = self.points[2];
-        let ac = a.apart(c);
-        let bc = b.apart(c);
-        let three = two & ac & bc;
-        if n == 3 {
-            return three;
-        }
-        let d = self.points[3];
-        let ad = a.apart(d);
-        let bd = b.apart(d);
-        let cd = c.apart(d);
-        three & ad & bd & cd
-    }
-
-    // Whether an access point's name is unlike those from a number on.
-    fn unlike_rest(self, a: AccessPoint, from: usize) -> bool
-        ensures { result ≡ every (unlike a) (drop from (used self)) }
-    {
-        let n = self.parties();
-        let mut i = from;
-        while i < n {
-            let p = self.points[i];
-            let ok = a.unlike(p);
-            if !ok {
-                return false;
-            }
-            i += 1;
-        }
-        true
-    }
-
-    // Whether every two names differ, octet by octet.
-    fn names_unlike(self) -> bool
-        ensures { result ≡ names_differ (used self) }
-    {
-        let n = self.parties();
-        let mut i: usize = 0;
-        while i < n {
-            let p = self.points[i];
-            let ok = self.unlike_rest(p, i + 1);
-            if !ok {
-                return false;
-            }
-            i += 1;
-        }
-        true
-    }
-
-    // The same, by the sizes where they are enough.
-    fn names_differ(self) -> bool
-        requires { every point_ok (used self) ≡ true }
-        ensures { result ≡ names_differ (used self) }
-    {
-        let apart = self.sizes_differ();
-        if apart {
-            return true;
-        }
-        if self.count == 2 {
-            let a = self.points[0];
-            let b = self.points[1];
-            return a.unlike(b);
-        }
-        self.names_unlike()
+        promised(self.used())
     }
 
     // Whether the plan keeps every limit; where it does not, number 16.
-    pub fn accepted(self) -> bool
-        ensures { result ≡ accepted self }
+    pub fn accepted(&self) -> bool
+        ensures { result ≡ accepted self.now }
     {
-        if Self::MOST_POINTS < self.count as usize {
-            return false;
-        }
-        let points = self.points_fit();
-        if !points {
-            return false;
-        }
-        let sum = self.guaranteed();
-        if unit_tunnel::Unit::PLACES < sum as usize {
-            return false;
-        }
-        let names = self.names_differ();
-        if !names {
-            return false;
-        }
+        let points = self.used();
         self.figures_ok()
+            & all_fit(points)
+            & (self.guaranteed() as usize <= unit_tunnel::Unit::PLACES)
+            & names_differ(points)
     }
 
-    // The access point that a name is of.
-    pub fn named(self, d: &[u8]) -> Named
-        ensures { result ≡ named_in (used self) d.now }
+    // The access point that a name is of, by its number.
+    pub fn named(&self, d: &[u8]) -> Option<usize>
+        ensures { result ≡ named_in (used self.now) d.now }
     {
-        let n = self.parties();
-        let mut i: usize = 0;
-        while i < n {
-            let p = self.points[i];
-            let found = p.goes_by(d);
-            if found {
-                return Named::Point(i);
-            }
-            i += 1;
-        }
-        Named::Unknown
+        first_named(self.used(), d)
     }
 
     // The address of the session at a place.
@@ -353,18 +216,15 @@ impl Plan {
         ensures { result ≡ address_of self.pool place }
     {
         let after = place as u64 % Self::ADDRESSES;
-        ((self.pool as u64 + 1 + after) % Self::ADDRESSES) as u32
+        self.pool.wrapping_add(1).wrapping_add(after as u32)
     }
+
     // The place that has an address; past the last where none has it.
+    // Kept: a place and no Option, since the law `addressee_is` reads the record at it, which past the last is one that nobody took.
     pub fn place_of(self, a: u32) -> usize
         ensures { result ≡ place_of self.pool a }
     {
-        let first = (self.pool as u64 + 1) % Self::ADDRESSES;
-        let away = (a as u64 + (Self::ADDRESSES - first)) % Self::ADDRESSES;
-        let place = away as usize;
-        if place < unit_tunnel::Unit::PLACES {
-            return place;
-        }
-        unit_tunnel::Unit::PLACES
+        let away = a.wrapping_sub(self.pool.wrapping_add(1));
+        (away as usize).min(unit_tunnel::Unit::PLACES)
     }
 }

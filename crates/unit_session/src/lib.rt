@@ -60,7 +60,7 @@ pub struct Session {
     // the sequence number of the Create
     pub created: u32,
     pub own: OwnRequest,
-    // FREE, LIVE or CLOSING
+    // Kept: FREE, LIVE or CLOSING as a number, which C sees in the record that it lends (include/grugavorn.h).
     pub state: u8,
     // the access point, by its number in the plan
     pub point: u8,
@@ -83,6 +83,7 @@ impl OwnRequest {
     }
 
     // Whether it is in range: `first` bounds the timer before the first send, T after it; N bounds the sends.
+    // Kept: three parameters, since `first` is 0 for a place and E for the echo: a struct of them would be made for this call alone.
     pub fn fits(self, first: u8, resend: u8, most: u8) -> bool
         ensures { result ≡ request_ok first resend most self }
     {
@@ -100,7 +101,7 @@ impl OwnRequest {
     pub fn sent_once(self, resend: u8, number: u32) -> Self
         ensures { result ≡ sent_once resend number self }
     {
-        let sends = std::num::wrapping_add_u8(self.sends, 1);
+        let sends = self.sends.wrapping_add(1);
         if self.sends == 0 {
             return OwnRequest {
                 timer: resend,
@@ -111,20 +112,16 @@ impl OwnRequest {
         OwnRequest {
             timer: resend,
             sends,
-            number: self.number,
+            ..self
         }
     }
 
     pub fn counted_down(self) -> Self
         ensures { result ≡ counted_down self }
     {
-        if self.timer == 0 {
-            return self;
-        }
         OwnRequest {
-            timer: self.timer - 1,
-            sends: self.sends,
-            number: self.number,
+            timer: self.timer.saturating_sub(1),
+            ..self
         }
     }
 
@@ -166,7 +163,6 @@ impl Session {
     pub fn blank_at(usage: u32) -> Self
         ensures { result ≡ blank_at usage }
     {
-        let own = OwnRequest::idle();
         Session {
             imsi: 0,
             usage,
@@ -175,7 +171,7 @@ impl Session {
             user: 0,
             useraddr: 0,
             created: 0,
-            own,
+            own: OwnRequest::idle(),
             state: Self::FREE,
             point: 0,
             ebi: 0,
@@ -192,8 +188,7 @@ impl Session {
     pub fn waits_for(self, number: u32) -> bool
         ensures { result ≡ waits_for number self }
     {
-        let own = self.own;
-        own.awaits(number)
+        self.own.awaits(number)
     }
 
     // What a free record has to be: its use in range, all else zero. The use and the control TEID are tested as one number, then the others
@@ -202,15 +197,11 @@ impl Session {
         ensures { result ≡ free_ok self }
     {
         let own = self.own;
-        let first = self.usage as u64 + self.control as u64 * Self::WORDS;
+        let first = u64::from(self.usage) + u64::from(self.control) * Self::WORDS;
         let words = self.controladdr | self.user | self.useraddr | self.created | own.number;
         let octets = self.point | self.ebi | own.timer | own.sends;
-        if first <= unit_tunnel::Holder::LAST_USE as u64 {
-            if self.imsi | words as u64 | octets as u64 == 0 {
-                return true;
-            }
-        }
-        false
+        (first <= u64::from(unit_tunnel::Holder::LAST_USE))
+            & (self.imsi | u64::from(words) | u64::from(octets) == 0)
     }
 
     // What a live place holds, as it was read.
@@ -218,7 +209,7 @@ impl Session {
         ensures { result ≡ held_ok b self }
     {
         (1 <= self.usage)
-            & (((self.point as usize) < b.parties)
+            & ((usize::from(self.point) < b.parties)
                 & (self.imsi < Self::IMSIS)
                 & (Self::LEAST_EBI <= self.ebi)
                 & (self.ebi <= Self::MOST_EBI)
@@ -238,17 +229,15 @@ impl Session {
     pub fn opened(self, o: Opening) -> Self
         ensures { result ≡ opened o self }
     {
-        let own = OwnRequest::idle();
-        let usage = unit_tunnel::next_use(self.usage);
         Session {
             imsi: o.imsi,
-            usage,
+            usage: unit_tunnel::next_use(self.usage),
             control: o.control,
             controladdr: o.controladdr,
             user: o.user,
             useraddr: o.useraddr,
             created: o.created,
-            own,
+            own: OwnRequest::idle(),
             state: Self::LIVE,
             point: o.point,
             ebi: o.ebi,
@@ -272,7 +261,6 @@ impl Session {
     {
         if self.state == Self::LIVE {
             self.state = Self::CLOSING;
-            return self;
         }
         self
     }
@@ -281,9 +269,7 @@ impl Session {
     pub fn sent(mut self, resend: u8, number: u32) -> Self
         ensures { result ≡ sent resend number self }
     {
-        let own = self.own;
-        let next = own.sent_once(resend, number);
-        self.own = next;
+        self.own = self.own.sent_once(resend, number);
         self
     }
 
@@ -291,13 +277,10 @@ impl Session {
     pub fn ticked(mut self, most: u8) -> Self
         ensures { result ≡ ticked most self }
     {
-        let own = self.own;
-        let over = own.spent(most);
-        if over {
+        if self.own.spent(most) {
             return self.freed();
         }
-        let next = own.counted_down();
-        self.own = next;
+        self.own = self.own.counted_down();
         self
     }
 }

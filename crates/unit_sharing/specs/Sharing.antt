@@ -2,24 +2,25 @@
 -- The laws are what "no access point over its ceiling", "room for the guaranteed" and "a free place for every admitted session"
 -- are made of. They speak of any counts; a table's counts are put in for u.
 -- Assumes nothing.
-use Prim.Native.Nat.{ℕ, ◌+◌, ◌<◌, ◌≤◌, max}
-use Rattle.std.specs.Prelude.{Bool, false, ◌&&◌, ◌||◌, map, ◌≡◌, get_or, ltb}
+use Prim.Native.Nat.{ℕ, ◌<◌, ◌≤◌, max}
+use Rattle.std.specs.Prelude.{Bool, false, ◌&&◌, ◌||◌, List, [], ◌∷◌, map, ◌≡◌, refl, length, get_or, ltb, sum_by}
+use Rattle.std.specs.List.{list_all, zip}
 use Rattle.std.proofs.Math.Bool.{true}
 use Rattle.std.proofs.Common.{sym, ◌∙◌}
 use native.Mathlib.Omega.{arith}
 use Rattle.std.proofs.lemmas.List.{length-map}
 use Rattle.std.proofs.Math.ListN.{get_or-eq_default}
 use Rattle.std.proofs.Math.Dec.{leb}
-use borrow.Author.Tests.{lt-ltb, le-ltb, le-leb, lt-leb, ltb-true, leb-true, leb-false}
-use Rattle.base_octets.specs.Choice.{split, and_left, and_right, tests}
+use borrow.Author.Tests.{lt-ltb, le-ltb, le-leb, ltb-true, leb-true}
+use Rattle.base_octets.specs.Choice.{and_left, and_right, tests}
 use Rattle.base_octets.specs.Every.{every, every_in}
-use Rattle.base_octets.specs.Sums.{sum_of}
-use Rattle.base_octets.specs.Below.{sum_to, all_to, all_next, all_in, all_of, all_stop, all_agree, to_start, to_next, to_least, to_equal, to_list}
+use Rattle.base_octets.specs.Sums.{sum_of, sum_by_of}
+use Rattle.base_octets.specs.Below.{sum_to, all_to, all_in, all_of, all_agree, to_start, to_least, to_equal, to_front, to_list, all_start, all_front}
 use Rattle.base_octets.specs.Places.{map_at}
 use Rattle.unit_tunnel.specs.Numbering.{places}
 use Rattle.unit_plan.specs.declared.AccessPoint.{AccessPoint}
 use Rattle.unit_plan.specs.declared.Plan.{Plan}
-use Rattle.unit_plan.specs.Limits.{used, parties, point_ok, no_point, used_figure}
+use Rattle.unit_plan.specs.Limits.{used, parties, point_ok, no_point}
 use Rattle.unit_plan.specs.Plan.{guaranteed, accepted}
 
 -- S: the sum over all access points of the larger of u and g
@@ -90,39 +91,39 @@ pub share_fresh : (n : ℕ) (g : ℕ → ℕ) → share n g (λ a. 0) ≡ sum_to
 unfolding share
 share_fresh n g = to_equal (λ a. max 0 (g a)) g n (λ a h. omega arith)
 
--- ---- S added up, having come to access point i
-module _ (p : Plan) (u : ℕ → ℕ) (i sum : ℕ) where
-  pub share_next : (d : AccessPoint) → i < parties p → sum ≡ share i (guarantee_at p) u → sum + max (u i) (get_or p.points i d).guarantee ≡ share (i + 1) (guarantee_at p) u
+-- ---- access points, each beside its live sessions
+abbrev pub shared_with : AccessPoint × ℕ → ℕ
+shared_with q = max q.0.guarantee q.1
+
+abbrev pub under_with : AccessPoint × ℕ → Bool
+under_with q = leb q.1 q.0.ceiling
+
+-- added and tested side by side they are added and tested party by party
+shared_zip : (l : List AccessPoint) (u : List ℕ) → length l ≤ length u
+    → sum_of shared_with (zip l u) ≡ sum_to (λ a. max (get_or u a 0) (get_or (map (λ x. x.guarantee) l) a 0)) (length l)
+unfolding sum_of
+shared_zip [] u h = sym (to_start _)
+shared_zip (x ∷ l) [] h = absurd (omega arith)
+shared_zip (x ∷ l) (n ∷ u) h =
+    let r = shared_zip l u (omega arith) in
+    let f = to_front (λ a. max (get_or (n ∷ u) a 0) (get_or (map (λ y. y.guarantee) (x ∷ l)) a 0)) (length l) in
+    omega arith
+
+under_zip : (l : List AccessPoint) (u : List ℕ) → length l ≤ length u
+    → list_all under_with (zip l u) ≡ all_to (λ a. leb (get_or u a 0) (get_or (map (λ x. x.ceiling) l) a 0)) (length l)
+under_zip [] u h = sym (all_start _)
+under_zip (x ∷ l) [] h = absurd (omega arith)
+under_zip (x ∷ l) (n ∷ u) h =
+    rw (all_front (λ a. leb (get_or (n ∷ u) a 0) (get_or (map (λ y. y.ceiling) (x ∷ l)) a 0)) (length l), under_zip l u (omega arith))
+
+module _ (p : Plan) (u : List ℕ) (fit : parties p ≤ length u) where
+  pub shared_is : sum_by shared_with (zip (used p) u) ≡ share_of p (λ a. get_or u a 0)
   unfolding share guarantee_at
-  share_next d h e =
-      let s = to_next (λ a. max (u a) (get_or (map (λ x. x.guarantee) (used p)) a 0)) i in
-      let f = used_figure p i d h (λ x. x.guarantee) in
-      omega arith
+  shared_is = sum_by_of shared_with (zip (used p) u) ∙ shared_zip (used p) u fit
 
--- from the first access point on
-pub none_shared : (g u : ℕ → ℕ) → 0 ≡ share 0 g u
-unfolding share
-none_shared g u = sym (to_start (λ a. max (u a) (g a)))
-
-module _ (p : Plan) (u : ℕ → ℕ) (d : AccessPoint) where
-  pub one_shared : 1 ≤ parties p → max (u 0) (get_or p.points 0 d).guarantee ≡ share 1 (guarantee_at p) u
-  one_shared h = let e = share_next p u 0 0 d h (none_shared (guarantee_at p) u) in omega arith
-
-  pub two-shared : 2 ≤ parties p
-      → max (u 0) (get_or p.points 0 d).guarantee + max (u 1) (get_or p.points 1 d).guarantee ≡ share 2 (guarantee_at p) u
-  two-shared h = share_next p u 1 (max (u 0) (get_or p.points 0 d).guarantee) d h (one_shared (omega arith))
-
-  pub three_shared : 3 ≤ parties p
-      → max (u 0) (get_or p.points 0 d).guarantee + max (u 1) (get_or p.points 1 d).guarantee + max (u 2) (get_or p.points 2 d).guarantee
-      ≡ share 3 (guarantee_at p) u
-  three_shared h =
-      share_next p u 2 (max (u 0) (get_or p.points 0 d).guarantee + max (u 1) (get_or p.points 1 d).guarantee) d h (two-shared (omega arith))
-
-  pub four_shared : 4 ≤ parties p
-      → max (u 0) (get_or p.points 0 d).guarantee + max (u 1) (get_or p.points 1 d).guarantee + max (u 2) (get_or p.points 2 d).guarantee
-      + max (u 3) (get_or p.points 3 d).guarantee ≡ share 4 (guarantee_at p) u
-  four_shared h =
-      share_next p u 3 (max (u 0) (get_or p.points 0 d).guarantee + max (u 1) (get_or p.points 1 d).guarantee + max (u 2) (get_or p.points 2 d).guarantee) d h (three_shared (omega arith))
+  pub under_is : list_all under_with (zip (used p) u) ≡ under_ceilings p (λ a. get_or u a 0)
+  unfolding ceiling_at
+  under_is = under_zip (used p) u fit
 
 -- ---- the rule read off the plan's slots
 pub admits_out : (p : Plan) (u : ℕ → ℕ) (a : ℕ) → parties p ≤ a → admits p u a ≡ false
@@ -154,32 +155,9 @@ module _ (p : Plan) (u : ℕ → ℕ) where
         to_equal (λ a. max (u a) (guarantee_at p a)) (λ a. max (v a) (guarantee_at p a)) (parties p) (λ a k. rw (h a k)),
       )
 
-  -- slot by slot
-  pub under_over : (i : ℕ) (d : AccessPoint) → i < parties p → (get_or p.points i d).ceiling < u i → under_ceilings p u ≡ false
-  unfolding ceiling_at
-  under_over i d h o =
-      all_stop (λ a. leb (u a) (ceiling_at p a)) (parties p) i h (rw (used_figure p i d h (λ x. x.ceiling)) (lt-leb (u i) (get_or p.points i d).ceiling o))
-
-  pub under_next : (i : ℕ) (d : AccessPoint) → i < parties p → u i ≤ (get_or p.points i d).ceiling
-      → all_to (λ a. leb (u a) (ceiling_at p a)) i ≡ true → all_to (λ a. leb (u a) (ceiling_at p a)) (i + 1) ≡ true
-  unfolding ceiling_at
-  under_next i d h o e =
-      all_next (λ a. leb (u a) (ceiling_at p a)) i (rw (used_figure p i d h (λ x. x.ceiling)) (le-leb (u i) (get_or p.points i d).ceiling o)) e
-
-  pub under_last : (i : ℕ) (d : AccessPoint) → i + 1 ≡ parties p → all_to (λ a. leb (u a) (ceiling_at p a)) i ≡ true
-      → leb (u i) (get_or p.points i d).ceiling ≡ under_ceilings p u
-  under_last i d k e =
-      split (leb (u i) (get_or p.points i d).ceiling)
-      (λ t. t ∙ sym (rw (← k) (under_next i d (omega arith) (leb-true (u i) (get_or p.points i d).ceiling t) e)))
-      (λ t. t ∙ sym (under_over i d (omega arith) (leb-false (u i) (get_or p.points i d).ceiling t)))
-
-  pub within_over : under_ceilings p u ≡ false → within_ok p u ≡ false
+  pub within_and : under_ceilings p u && leb (share_of p u) places ≡ within_ok p u
   unfolding within_ok
-  within_over e = rw e
-
-  pub within_end : under_ceilings p u ≡ true → within_ok p u ≡ leb (share_of p u) places
-  unfolding within_ok
-  within_end e = rw e
+  within_and = refl
 
 -- ---- an accepted plan is fair: no guarantee over its ceiling, no ceiling over the places, no more promised than there is
 pub record Fair (p : Plan) : Type 0 where

@@ -1,6 +1,6 @@
 -- One row of the store: a kept reply, or an unused place. Every definition answers for any octets and any length.
 -- Assumes nothing.
-use Rattle.std.specs.Prelude.{◌≡◌, ℕ, ◌+◌, ◌-◌, ◌*◌, ◌/◌, ◌%◌, ◌<◌, ◌≤◌, min, Bool, true, false, not, ◌&&◌, ◌||◌, leb, ◌≢◌, List, [], ◌∷◌, ◌++◌, length, take, drop, replicate, ◌==◌, nat_eq, nat_le, nat_lt, slice_index, slice_index_or, slice_range, slice_set, refl}
+use Rattle.std.specs.Prelude.{◌≡◌, ℕ, ◌+◌, ◌-◌, ◌*◌, ◌/◌, ◌%◌, ◌<◌, ◌≤◌, min, Bool, true, false, not, ◌&&◌, ◌||◌, leb, ◌≢◌, List, [], ◌∷◌, ◌++◌, length, take, drop, replicate, ◌==◌, nat_eq, nat_le, nat_lt, slice_index, slice_index_or, slice_set, refl}
 use Rattle.std.proofs.Common.{append-nil, sym, ◌∙◌, ap, length-drop, length-take-le, take_all, take_at, drop_at}
 use native.Mathlib.Omega.{arith}
 use Rattle.std.proofs.Math.ListN.{get_or-eq_default}
@@ -404,8 +404,8 @@ pub front_made : (head teid number size : ℕ) (a b : List ℕ) → a ≡ octets
 unfolding front_of octets_of
 front_made head teid number size a b e f = rw (e, f)
 
-pub part_made : (n size : ℕ) (reply : List ℕ) → n ≡ min size (length reply) → slice_range reply 0 n ≡ take size reply
-part_made n size reply e = let z : n - 0 ≡ n = omega arith in rw (z, e) (take_least size (length reply) reply (omega arith))
+pub part_made : (n size : ℕ) (reply : List ℕ) → n ≡ min size (length reply) → take n reply ≡ take size reply
+part_made n size reply e = rw e (take_least size (length reply) reply (omega arith))
 
 pub row_made : (head teid number size : ℕ) (reply front part blank xs ys : List ℕ) → front ≡ front_of head teid number size → part ≡ take size reply → blank ≡ blank_row
     → xs ≡ overlay front blank → ys ≡ overlay part (take 128 (drop 11 xs)) → take 11 xs ++ (ys ++ drop 128 (drop 11 xs)) ≡ row_of head teid number size reply

@@ -1,13 +1,14 @@
 -- The store: the last 32 replies to types 34 and 36, the newest first.
 -- Assumes nothing.
-use Rattle.std.specs.Prelude.{◌≡◌, ℕ, zero, suc, ◌+◌, ◌-◌, ◌<◌, ◌≤◌, min, Bool, true, false, not, ◌&&◌, List, [], ◌∷◌, map, length, take, drop, ◌==◌, nat_eq, nat_lt, slice_range, refl}
-use Rattle.std.proofs.Common.{sym, ◌∙◌, ap, arith, take_all, eqb-true, eq-eqb, ltb-true, ltb-false}
+use Rattle.std.specs.Prelude.{◌≡◌, ℕ, zero, suc, ◌+◌, ◌-◌, ◌<◌, ◌≤◌, min, Bool, true, false, not, ◌&&◌, List, [], ◌∷◌, ◌++◌, map, length, take, drop, ◌==◌, nat_eq, nat_lt, slice_index_or, slice_set, refl}
+use Rattle.std.proofs.Common.{sym, ◌∙◌, ap, arith, take_all, take_at, drop_at, take-suc, length-take-le, eqb-true, eq-eqb, ltb-true, ltb-false}
 use Rattle.std.proofs.lemmas.List.{length-map}
 use mir.Val.{bool_byte}
 use Rattle.base_octets.specs.Choice.{pick, split, and_left, and_right, and_no}
 use Rattle.base_octets.specs.Every.{every, every_rest, every_map}
 use Rattle.base_octets.specs.Sums.{sum_of, count_of, sum_end, sum_map_most}
 use Rattle.base_octets.specs.Places.{map_first}
+use Rattle.base_octets.specs.Search.{first_of}
 use Rattle.base_distinct.specs.Apart.{none_clash, pairwise, same_key, pairwise_count, count_pairwise}
 use Rattle.unit_store.specs.Row.{store_rows, life_in, life_after, three_in, is_unused, holds, kept_ok, life_taken, mark_in, life_taken_lem, ok_taken, holds-taken, mark_same}
 
@@ -243,10 +244,36 @@ pub rest_ok : (l : List (List ℕ)) → sum_of life_in l ≡ 0 → every kept_ok
 rest_ok l h = and_left (every kept_ok l) (pairwise same_three l) (vacant_ok l h)
 
 pub apart_front : (i : ℕ) (l : List (List ℕ)) (marks : List ℕ) → every kept_ok l ≡ true → sum_of life_in (drop i l) ≡ 0 → take i marks ≡ map mark_in (take i l)
-    → (every kept_ok l && pairwise same_three l) ≡ pairwise same_key (slice_range marks 0 i)
-apart_front i l marks e h m = let z : i - 0 ≡ i = omega arith in rw (e, z, m) (sym (front_apart i l e h))
+    → (every kept_ok l && pairwise same_three l) ≡ pairwise same_key (take i marks)
+apart_front i l marks e h m = rw (e, m) (sym (front_apart i l e h))
 
 pub pushed_none : (x : List ℕ) (l : List (List ℕ)) → length l ≡ 0 → l ≡ pushed x l
 unfolding pushed
 pushed_none x [] e = refl
 pushed_none x (y ∷ l) e = absurd (omega arith)
+
+-- those before the first unused place, or before the last, stand behind the new one
+pub pushed_turned : (x : List ℕ) (l : List (List ℕ)) (i : ℕ) → 0 < length l → i ≡ min (first_of is_unused l) (length l - 1) → x ∷ (take i l ++ drop (suc i) l) ≡ pushed x l
+unfolding pushed first_of
+pushed_turned x [] i h e = absurd (omega arith)
+pushed_turned x (y ∷ []) i h e =
+    let z : i ≡ 0 = split (is_unused y) (λ f. let g = rw f at e in omega arith) (λ f. let g = rw f at e in omega arith) in
+    rw z (split (is_unused y) (λ f. rw f) (λ f. rw f))
+pushed_turned x (y ∷ z ∷ l) i h e =
+    let r = pushed_turned y (z ∷ l) (min (first_of is_unused (z ∷ l)) (length (z ∷ l) - 1)) (omega arith) refl in
+    split (is_unused y)
+    (λ f. let g = rw f at e in let n : i ≡ 0 = omega arith in rw (f, n))
+    (λ f. let g = rw f at e in
+    let k : i ≡ suc (min (first_of is_unused (z ∷ l)) (length (z ∷ l) - 1)) = omega arith in
+    rw (f, k) (ap (λ (m : List (List ℕ)). x ∷ m) r))
+
+-- in the words of the code: the rows up to that place turned by one, and the first put over
+pub pushed_first : (x : List ℕ) (l t : List (List ℕ)) (i : ℕ) → 0 < length l → i ≡ min (first_of is_unused l) (length l - 1)
+    → t ≡ drop (length (take (i + 1) l) - 1) (take (i + 1) l) ++ take (length (take (i + 1) l) - 1) (take (i + 1) l) → slice_set (t ++ drop (i + 1) l) 0 x ≡ pushed x l
+pushed_first x l t i h e f =
+    let k : i + 1 ≡ suc i = omega arith in
+    let s = take-suc l i [] (omega arith) in
+    let n : length (take i l) ≡ i = length-take-le i l (omega arith) in
+    let m = length-take-le (i + 1) l (omega arith) in
+    let q : length (take (i + 1) l) - 1 ≡ i = omega arith in
+    rw (f, q, k, s, drop_at (take i l) (slice_index_or l i [] ∷ []) i n, take_at (take i l) (slice_index_or l i [] ∷ []) i n) (pushed_turned x l i h e)

@@ -3,12 +3,11 @@
 // number that was answered, the size of the reply, and room for its octets. A row of life 0 is unused, and nothing else of it is looked at.
 #![tactic(auto)]
 
-ghost use Rattle.std.specs.Prelude.{◌≡◌, ◌/◌, ◌%◌, ◌<◌, ◌≤◌, ◌&&◌, [], ◌∷◌, length, slice_index_or};
+ghost use Rattle.std.specs.Prelude.{◌≡◌, ◌/◌, ◌%◌, ◌<◌, ◌≤◌, ◌&&◌, [], ◌∷◌, length, position, slice_index_or};
 ghost use Rattle.base_octets.specs.BigEndian.{number_of};
 ghost use Rattle.base_octets.specs.Every.{every};
 ghost use Rattle.base_octets.specs.Overlay.{Wrote};
 ghost use Rattle.base_octets.specs.Places.{map_first};
-ghost use Rattle.base_octets.specs.Search.{first_of};
 ghost use Rattle.base_octets.specs.Sums.{sum_of};
 ghost use Rattle.base_distinct.specs.Apart.{pairwise};
 ghost use Rattle.unit_store.specs.Row.{store_rows, life_in, number_in, octets_in, head_of, three_of, three_in, Four, EightIn, is_unused, holds, scattered, type_unit, type_ok, number_ok, reply_ok, mark_in, kept_ok, life_after, life_taken, blank_row, blanked, row_of};
@@ -27,11 +26,19 @@ impl Kept {
     pub const ROWS: usize = 32;
 
     // the octets of a row: what stands before the reply, and the room for it
+    // Kept: a row is octets and no struct of fields, since C lends it so (grugavorn_kept in include/grugavorn.h).
     pub const OCTETS: usize = Self::BEFORE + Self::ROOM;
 
     pub const BEFORE: usize = 11;
 
     pub const ROOM: usize = 128;
+
+    // where the life, the number and the size stand in a row
+    const LIFE_AT: usize = 8;
+
+    const NUMBER_AT: usize = 9;
+
+    const SIZE_AT: usize = 10;
 
     // the longest reply that is kept
     pub const LONGEST: u8 = 128;
@@ -47,14 +54,14 @@ impl Kept {
 pub fn head_of(kind: u8, sequence: u32) -> u32
     ensures { result ≡ head_of kind sequence }
 {
-    kind as u32 * 16777216 + sequence % 16777216
+    u32::from(kind) * 16777216 + sequence % 16777216
 }
 
 // With the header TEID, as one number of 64 bits.
 pub fn three_of(head: u32, teid: u32) -> u64
     ensures { result ≡ three_of head teid }
 {
-    head as u64 * 4294967296 + teid as u64
+    u64::from(head) * 4294967296 + u64::from(teid)
 }
 
 // The three of a row: its first eight octets.
@@ -78,26 +85,18 @@ fn four(a: u8, b: u8, c: u8, d: u8) -> u32
 fn scattered(head: u32, teid: u32) -> u64
     ensures { result ≡ scattered (three_of head teid) % 18446744073709551616 }
 {
-    std::num::wrapping_add_u64(head as u64 * 4294967297, teid as u64)
+    (u64::from(head) * 4294967297).wrapping_add(u64::from(teid))
 }
 
 // Whether a number is one that a Modify or a Delete is answered with.
 fn number_ok(n: u8) -> bool
     ensures { result ≡ number_ok n }
 {
-    if n == Number::TAKEN {
-        return true;
-    }
-    if n == Refusal::NOT_LIVE {
-        return true;
-    }
-    if n == Refusal::SHORT {
-        return true;
-    }
-    if n == Refusal::WRONG {
-        return true;
-    }
-    n == Refusal::MISSING
+    (n == Number::TAKEN)
+        | (n == Refusal::NOT_LIVE)
+        | (n == Refusal::SHORT)
+        | (n == Refusal::WRONG)
+        | (n == Refusal::MISSING)
 }
 
 // Whether the type is that of a Modify or a Delete, as it stands in the scattered three.
@@ -105,7 +104,7 @@ fn type_ok(key: u64) -> bool
     ensures { result ≡ type_ok (key / type_unit) }
 {
     let kind = key / Kept::TYPE;
-    (kind == MessageType::MODIFY as u64) | (kind == MessageType::DELETE as u64)
+    (kind == u64::from(MessageType::MODIFY)) | (kind == u64::from(MessageType::DELETE))
 }
 
 // Whether a kept reply keeps the rules that are its own.
@@ -113,61 +112,58 @@ fn reply_ok(r: &[u8; Kept::OCTETS], key: u64) -> bool
     requires { (key ≡ scattered (three_in r.now) % 18446744073709551616) × EightIn r.now }
     ensures { result ≡ reply_ok r.now }
 {
-    let kind = type_ok(key);
-    if !kind {
-        return false;
-    }
-    let number = number_ok(r[9]);
-    if !number {
-        return false;
-    }
-    if Kept::LIFE < r[8] {
-        return false;
-    }
-    r[10] <= Kept::LONGEST
+    (life_in(r) <= Kept::LIFE)
+        & (r[Kept::SIZE_AT] <= Kept::LONGEST)
+        & type_ok(key)
+        & number_ok(r[Kept::NUMBER_AT])
+}
+
+// Whether a row is unused.
+fn is_unused(r: &[u8; Kept::OCTETS]) -> bool
+    ensures { result ≡ is_unused r.now }
+{
+    life_in(r) == 0
 }
 
 // A row in one number: 0 for an unused one, 1 for one that breaks a rule, else its type, sequence number and TEID, scattered.
 fn mark_in(r: &[u8; Kept::OCTETS]) -> u64
     ensures { result ≡ mark_in r.now }
 {
-    if r[8] == 0 {
+    if is_unused(r) {
         return 0;
     }
     let head = four(r[0], r[1], r[2], r[3]);
     let teid = four(r[4], r[5], r[6], r[7]);
     let key = scattered(head, teid);
-    let ok = reply_ok(r, key);
-    if !ok {
+    if !reply_ok(r, key) {
         return 1;
     }
     key
 }
 
-// A life as a count.
-fn count_of(life: u8) -> usize
-    ensures { (result ≡ life) × (result ≤ 255) }
+// The life that is left of a row.
+fn life_in(r: &[u8; Kept::OCTETS]) -> u8
+    ensures { result ≡ life_in r.now }
 {
-    life as usize
+    r[Kept::LIFE_AT]
 }
 
 // The lives that are left, added up: 0 where nothing is kept.
-fn lives(rows: &[[u8; Kept::OCTETS]]) -> usize
+fn lives(rows: &[[u8; Kept::OCTETS]]) -> u32
     requires { length rows.now ≡ store_rows }
     ensures { result ≡ sum_of life_in rows.now }
 {
-    let mut sum: usize = 0;
-    let mut i: usize = 0;
-    while i < Kept::ROWS {
-        sum += count_of(rows[i][8]);
-        i += 1;
+    let mut sum: u32 = 0;
+    for r in rows {
+        sum += u32::from(life_in(r));
     }
     sum
 }
 
 // Whether each row keeps its rules, and no two are equal in type, sequence number and TEID. What the lives add up to says where to stop: once
 // they are used up, the rows that are left are unused.
-fn apart(rows: &[[u8; Kept::OCTETS]], sum: usize) -> bool
+// Kept: a `while`, since it ends with the lives and not with the rows: a `for` would make the same test inside and compare in two places.
+fn apart(rows: &[[u8; Kept::OCTETS]], sum: u32) -> bool
     requires { (length rows.now ≡ store_rows) × (sum ≡ sum_of life_in rows.now) }
     ensures { result ≡ (every kept_ok rows.now && pairwise same_three rows.now) }
 {
@@ -180,10 +176,10 @@ fn apart(rows: &[[u8; Kept::OCTETS]], sum: usize) -> bool
             return false;
         }
         marks[i] = m;
-        left -= count_of(rows[i][8]);
+        left -= u32::from(life_in(&rows[i]));
         i += 1;
     }
-    base_distinct::distinct(&marks[0..i])
+    base_distinct::distinct(&marks[..i])
 }
 
 // Whether the store keeps its rules; another count of rows breaks them.
@@ -204,23 +200,14 @@ pub fn store_ok(rows: &[[u8; Kept::OCTETS]]) -> bool
 fn holds(r: &[u8; Kept::OCTETS], three: u64) -> bool
     ensures { result ≡ holds three r.now }
 {
-    let own = three_in(r);
-    (r[8] != 0) & (three == own)
+    !is_unused(r) & (three == three_in(r))
 }
 
-// The place of the kept reply to a request; the count of rows where there is none.
-pub fn find(rows: &[[u8; Kept::OCTETS]], three: u64) -> usize
-    ensures { result ≡ first_of (holds three) rows.now }
+// The place of the kept reply to a request.
+pub fn find(rows: &[[u8; Kept::OCTETS]], three: u64) -> Option<usize>
+    ensures { result ≡ position (holds three) rows.now }
 {
-    let mut i: usize = 0;
-    while i < rows.len() {
-        let mine = holds(&rows[i], three);
-        if mine {
-            return i;
-        }
-        i += 1;
-    }
-    i
+    rows.iter().position(|r| holds(r, three))
 }
 
 // The number that was answered.
@@ -228,17 +215,15 @@ pub fn number_in(rows: &[[u8; Kept::OCTETS]], at: usize) -> u8
     requires { at < length rows.now }
     ensures { result ≡ number_in (slice_index_or rows.now at []) }
 {
-    rows[at][9]
+    rows[at][Kept::NUMBER_AT]
 }
 
 // The kept reply of a row, laid into the reply buffer; its length.
 fn lay_row(r: &[u8; Kept::OCTETS], reply: &mut [u8]) -> usize
     ensures { Wrote result reply.new reply.old (octets_in r.now) }
 {
-    let n = base_octets::least(base_octets::wide(r[10]), Kept::ROOM);
-    let end = Kept::BEFORE + n;
-    let s = &r[..];
-    base_octets::copy_front(&s[Kept::BEFORE..end], reply);
+    let n = usize::from(r[Kept::SIZE_AT]).min(Kept::ROOM);
+    base_octets::copy_front(&r[Kept::BEFORE..Kept::BEFORE + n], reply);
     n
 }
 
@@ -250,35 +235,22 @@ pub fn lay(rows: &[[u8; Kept::OCTETS]], at: usize, reply: &mut [u8]) -> usize
     lay_row(&rows[at], reply)
 }
 
-// The first unused place; the count of rows where there is none.
-fn first_unused(rows: &[[u8; Kept::OCTETS]]) -> usize
-    ensures { result ≡ first_of is_unused rows.now }
+// The first unused place.
+fn first_unused(rows: &[[u8; Kept::OCTETS]]) -> Option<usize>
+    ensures { result ≡ position is_unused rows.now }
 {
-    let mut i: usize = 0;
-    while i < rows.len() {
-        if rows[i][8] == 0 {
-            return i;
-        }
-        i += 1;
-    }
-    i
+    rows.iter().position(|r| is_unused(r))
 }
 
 // A row put in front; where all places are used the last one makes room.
 pub fn keep(rows: &mut [[u8; Kept::OCTETS]], row: [u8; Kept::OCTETS])
     ensures { rows.new ≡ pushed row rows.old }
 {
-    let n = rows.len();
-    if n == 0 {
+    if rows.is_empty() {
         return;
     }
-    let j = first_unused(rows);
-    let mut i = base_octets::least(j, n - 1);
-    while 0 < i {
-        let t = rows[i - 1];
-        rows[i] = t;
-        i -= 1;
-    }
+    let last = first_unused(rows).unwrap_or(rows.len() - 1);
+    rows[..last + 1].rotate_right(1);
     rows[0] = row;
 }
 
@@ -286,25 +258,15 @@ pub fn keep(rows: &mut [[u8; Kept::OCTETS]], row: [u8; Kept::OCTETS])
 fn life_after(all: bool, life: u8) -> u8
     ensures { result ≡ life_after all life }
 {
-    if all {
-        return 0;
-    }
-    if life == 0 {
-        return 0;
-    }
-    life - 1
+    if all { 0 } else { life.saturating_sub(1) }
 }
 
 // Life taken from the first n rows, or from all where there are fewer; a row is dropped where none is left.
 pub fn take_life(rows: &mut [[u8; Kept::OCTETS]], all: bool, n: usize)
     ensures { rows.new ≡ map_first (life_taken all) n rows.old }
 {
-    let m = base_octets::least(n, rows.len());
-    let mut i: usize = 0;
-    while i < m {
-        let life = life_after(all, rows[i][8]);
-        rows[i][8] = life;
-        i += 1;
+    for i in 0..n.min(rows.len()) {
+        rows[i][Kept::LIFE_AT] = life_after(all, rows[i][Kept::LIFE_AT]);
     }
 }
 
@@ -334,10 +296,10 @@ pub fn row_of(head: u32, teid: u32, number: u8, size: u8, reply: &[u8]) -> [u8; 
         number,
         size,
     ];
-    let n = base_octets::least(base_octets::wide(size), reply.len());
+    let n = usize::from(size).min(reply.len());
     let mut r = blank_row();
     base_octets::copy_front(&front, &mut r);
-    base_octets::copy_front(&reply[0..n], &mut r[Kept::BEFORE..]);
+    base_octets::copy_front(&reply[..n], &mut r[Kept::BEFORE..]);
     r
 }
 
@@ -345,11 +307,7 @@ pub fn row_of(head: u32, teid: u32, number: u8, size: u8, reply: &[u8]) -> [u8; 
 pub fn clear(rows: &mut [[u8; Kept::OCTETS]], n: usize)
     ensures { rows.new ≡ map_first blanked n rows.old }
 {
-    let m = base_octets::least(n, rows.len());
-    let mut i: usize = 0;
-    while i < m {
-        let none = blank_row();
-        rows[i] = none;
-        i += 1;
+    for i in 0..n.min(rows.len()) {
+        rows[i] = blank_row();
     }
 }

@@ -1,7 +1,7 @@
 -- Finding: the place of the session that has something, or none. By tunnel number a session is found by the number of its place in
 -- its present use, by address by that of its place; that both are arithmetic is a law, not the definition.
 -- Assumes nothing.
-use Rattle.std.specs.Prelude.{◌≡◌, ℕ, zero, suc, ◌+◌, ◌<◌, ◌≤◌, Bool, true, false, not, ◌&&◌, ltb, leb, List, [], ◌∷◌, length, get_or, drop, ◌==◌, nat_eq, nat_le, nat_lt, slice_index_or, refl}
+use Rattle.std.specs.Prelude.{◌≡◌, ℕ, zero, suc, ◌+◌, ◌<◌, ◌≤◌, Bool, true, false, not, ◌&&◌, ltb, leb, List, [], ◌∷◌, length, get_or, drop, ◌==◌, nat_eq, nat_le, nat_lt, slice_index_or, refl, Option, Some, None}
 use Rattle.std.proofs.Math.Path.{sym}
 use Rattle.std.proofs.Common.{◌∙◌, arith}
 use Rattle.std.proofs.Math.ListN.{get_or-eq_default}
@@ -12,37 +12,34 @@ use Rattle.base_octets.specs.Search.{first_of, first_passes}
 use Rattle.base_octets.specs.Sums.{count_of, sum_holds_two}
 use Rattle.unit_tunnel.specs.Numbering.{places, base, control_offset, user_offset, control_fits, user_fits}
 use Rattle.unit_tunnel.specs.declared.Holder.{Holder}
-use Rattle.unit_tunnel.specs.declared.Holder.TheVariants as H
-use Rattle.unit_tunnel.specs.Tunnel.{number_at, holder_of, number_holder, holder_held}
+use Rattle.unit_tunnel.specs.Tunnel.{number_at, held_at, holder_of, number_holder, held_same, holder_held}
 use Rattle.unit_plan.specs.Address.{address_of, place_of, place_of_address, address_of_place}
 use Rattle.unit_session.specs.declared.Session.{Session}
 use Rattle.unit_session.specs.Session.{is_free, blank_at}
-use Rattle.unit_table.specs.declared.Owner.{Owner}
-use Rattle.unit_table.specs.declared.Owner.TheVariants.{At, Nothing}
 use Rattle.unit_table.specs.Change.{nobody}
 
 -- ---- by what a record says
 -- the lowest place that passes
-unfoldable pub found_in : (Session → Bool) → List Session → Owner
-found_in p l = pick (nat_lt (first_of p l) (length l)) (At (first_of p l)) Nothing
+unfoldable pub found_in : (Session → Bool) → List Session → Option ℕ
+found_in p l = pick (nat_lt (first_of p l) (length l)) (Some (first_of p l)) None
 
 -- ---- by its place and what the record there says: the lowest from place i on that passes
-unfoldable pub first_from : (ℕ → Session → Bool) → ℕ → List Session → Owner
-first_from p i [] = Nothing
-first_from p i (s ∷ l) = pick (p i s) (At i) (first_from p (suc i) l)
+unfoldable pub first_from : (ℕ → Session → Bool) → ℕ → List Session → Option ℕ
+first_from p i [] = None
+first_from p i (s ∷ l) = pick (p i s) (Some i) (first_from p (suc i) l)
 
 -- by tunnel number: the session at place i, live or closing, is in that very use; a use of 0 has no numbers
 unfoldable pub bears : ℕ → ℕ → ℕ → Session → Bool
 bears offset n i s = not (is_free s) && nat_le 1 s.usage && number_at offset s.usage i == n
 
-unfoldable pub owner_of : ℕ → ℕ → List Session → Owner
+unfoldable pub owner_of : ℕ → ℕ → List Session → Option ℕ
 owner_of offset n l = first_from (bears offset n) 0 l
 
 -- by address: the session at place i, live or closing, has it
 unfoldable pub dwells : ℕ → ℕ → ℕ → Session → Bool
 dwells pool a i s = not (is_free s) && address_of pool i == a
 
-unfoldable pub addressee_of : ℕ → ℕ → List Session → Owner
+unfoldable pub addressee_of : ℕ → ℕ → List Session → Option ℕ
 addressee_of pool a l = first_from (dwells pool a) 0 l
 
 -- whether a record is taken, and in this use
@@ -50,58 +47,64 @@ abbrev pub taken_in : Session → ℕ → Bool
 taken_in s usage = not (is_free s) && s.usage == usage
 
 -- whoever holds the number by its arithmetic, if the place is there, is taken, and is in that use
-unfoldable pub held_in : Holder → List Session → Owner
-held_in H.Nobody l = Nothing
-held_in (H.At place usage) l = pick (nat_lt place (length l) && taken_in (slice_index_or l place nobody) usage) (At place) Nothing
+unfoldable pub held_in : Option Holder → List Session → Option ℕ
+held_in None l = None
+held_in (Some h) l = pick (nat_lt h.place (length l) && taken_in (slice_index_or l h.place nobody) h.usage) (Some h.place) None
 
--- ---- the same from one record, by kind
+-- ---- the same from one record, for the kind of numbers that begins at an offset
 -- the place that a holder names: one that there is not, where there is no holder
-unfoldable pub named_place : Holder → ℕ
-named_place H.Nobody = places
-named_place (H.At place usage) = place
+unfoldable pub named_place : Option Holder → ℕ
+named_place None = places
+named_place (Some h) = h.place
 
-unfoldable pub control_place : ℕ → ℕ
-control_place teid = named_place (holder_of control_offset teid)
+unfoldable pub place_named : ℕ → ℕ → ℕ
+place_named offset teid = named_place (holder_of offset teid)
 
-unfoldable pub user_place : ℕ → ℕ
-user_place teid = named_place (holder_of user_offset teid)
+abbrev pub control_place : ℕ → ℕ
+control_place teid = place_named control_offset teid
 
-unfoldable pub owned_by : Holder → Session → Bool
-owned_by H.Nobody s = false
-owned_by (H.At place usage) s = taken_in s usage
+abbrev pub user_place : ℕ → ℕ
+user_place teid = place_named user_offset teid
 
-unfoldable pub has_control : Session → ℕ → Bool
-has_control s teid = owned_by (holder_of control_offset teid) s
+unfoldable pub owned_by : Option Holder → Session → Bool
+owned_by None s = false
+owned_by (Some h) s = taken_in s h.usage
 
-unfoldable pub has_user : Session → ℕ → Bool
-has_user s teid = owned_by (holder_of user_offset teid) s
+unfoldable pub has_number : ℕ → Session → ℕ → Bool
+has_number offset s teid = owned_by (holder_of offset teid) s
+
+abbrev pub has_control : Session → ℕ → Bool
+has_control s teid = has_number control_offset s teid
+
+abbrev pub has_user : Session → ℕ → Bool
+has_user s teid = has_number user_offset s teid
 
 -- the place that was found, or one that there is not
-unfoldable pub place_found : Owner → List Session → ℕ
-place_found (At i) l = i
-place_found Nothing l = length l
+unfoldable pub place_found : Option ℕ → List Session → ℕ
+place_found (Some i) l = i
+place_found None l = length l
 
 -- ---- laws of the search
 module _ (p : Session → Bool) (l : List Session) where
   module _ (i : ℕ) (came : first_of p l ≡ i + first_of p (drop i l)) where
-    pub found_none : length l ≤ i → found_in p l ≡ Nothing
+    pub found_none : length l ≤ i → found_in p l ≡ None
     unfolding found_in
     found_none h = rw (le-ltb (first_of p l) (length l) (omega arith))
 
   -- what is found is there and passes
-  pub found_is : (i : ℕ) → found_in p l ≡ At i → (i < length l) × ((i ≡ first_of p l) × (p (slice_index_or l i nobody) ≡ true))
+  pub found_is : (i : ℕ) → found_in p l ≡ Some i → (i < length l) × ((i ≡ first_of p l) × (p (slice_index_or l i nobody) ≡ true))
   unfolding found_in
   found_is i e = split (nat_lt (first_of p l) (length l)) there none
     where
       there : ltb (first_of p l) (length l) ≡ true → (i < length l) × ((i ≡ first_of p l) × (p (slice_index_or l i nobody) ≡ true))
       there t =
           let h = ltb-true (first_of p l) (length l) t in
-          let f : At (first_of p l) ≡ At i = rw t at e in
+          let f : Some (first_of p l) ≡ Some i = rw t at e in
           let k : first_of p l ≡ i = cc in
           (rw (← k) h, (sym k, rw (← k) (first_passes p l nobody h)))
 
       none : ltb (first_of p l) (length l) ≡ false → (i < length l) × ((i ≡ first_of p l) × (p (slice_index_or l i nobody) ≡ true))
-      none t = let f : Nothing ≡ At i = rw t at e in let z : ◌≡◌ {A = ℕ} 0 1 = cc in absurd (omega arith)
+      none t = let f : None ≡ Some i = rw t at e in let z : ◌≡◌ {A = ℕ} 0 1 = cc in absurd (omega arith)
 
 -- where one passes at most, what passes is what is found
 pub found_only : (p : Session → Bool) (l : List Session) (i j : ℕ) → count_of p l ≤ 1 → i < length l → j < length l
@@ -114,7 +117,7 @@ found_only p l i j c h k e f =
     (λ u. omega (arith, tests)))
 
 -- ---- laws of the search by place
-first_nowhere : (p : ℕ → Session → Bool) (i : ℕ) (l : List Session) → ((j : ℕ) → j < length l → p (i + j) (slice_index_or l j nobody) ≡ false) → first_from p i l ≡ Nothing
+first_nowhere : (p : ℕ → Session → Bool) (i : ℕ) (l : List Session) → ((j : ℕ) → j < length l → p (i + j) (slice_index_or l j nobody) ≡ false) → first_from p i l ≡ None
 unfolding first_from
 first_nowhere p i [] h = refl
 first_nowhere p i (s ∷ l) h =
@@ -123,7 +126,7 @@ first_nowhere p i (s ∷ l) h =
     rw e (first_nowhere p (suc i) l (λ j q. let y : suc i + j ≡ i + suc j = omega arith in rw y (h (suc j) (omega arith))))
 
 first_there : (p : ℕ → Session → Bool) (i k : ℕ) (l : List Session) → k < length l → p (i + k) (slice_index_or l k nobody) ≡ true
-    → ((j : ℕ) → j < k → p (i + j) (slice_index_or l j nobody) ≡ false) → first_from p i l ≡ At (i + k)
+    → ((j : ℕ) → j < k → p (i + j) (slice_index_or l j nobody) ≡ false) → first_from p i l ≡ Some (i + k)
 unfolding first_from
 first_there p i k [] h e f = absurd (omega arith)
 first_there p i zero (s ∷ l) h e f =
@@ -136,20 +139,20 @@ first_there p i (suc k) (s ∷ l) h e f =
     let y : i + suc k ≡ suc i + k = omega arith in
     rw (b, y) (first_there p (suc i) k l (omega arith) (rw y at e) (λ j q. let x : suc i + j ≡ i + suc j = omega arith in rw x (f (suc j) (omega arith))))
 
-first_passing : (p : ℕ → Session → Bool) (i k : ℕ) (l : List Session) → first_from p i l ≡ At k
+first_passing : (p : ℕ → Session → Bool) (i k : ℕ) (l : List Session) → first_from p i l ≡ Some k
     → (j : ℕ) × (k ≡ i + j) × (j < length l) × (p k (slice_index_or l j nobody) ≡ true)
 unfolding first_from
 first_passing p i k [] e = let z : ◌≡◌ {A = ℕ} 0 1 = cc in absurd (omega arith)
 first_passing p i k (s ∷ l) e =
     split (p i s)
-    (λ t. let f : At i ≡ At k = rw t at e in let g : i ≡ k = cc in (0, omega arith, omega arith, rw (← g) t))
+    (λ t. let f : Some i ≡ Some k = rw t at e in let g : i ≡ k = cc in (0, omega arith, omega arith, rw (← g) t))
     (λ t. let r = first_passing p (suc i) k l (rw t at e) in
     let h = r.1 in
     let q = r.2 in
     (suc r.0, omega arith, omega arith, r.3))
 
 -- what is found is there and passes
-pub first_is : (p : ℕ → Session → Bool) (k : ℕ) (l : List Session) → first_from p 0 l ≡ At k → (k < length l) × (p k (slice_index_or l k nobody) ≡ true)
+pub first_is : (p : ℕ → Session → Bool) (k : ℕ) (l : List Session) → first_from p 0 l ≡ Some k → (k < length l) × (p k (slice_index_or l k nobody) ≡ true)
 first_is p k l e =
     let r = first_passing p 0 k l e in
     let h = r.1 in
@@ -158,13 +161,13 @@ first_is p k l e =
 
 -- where one place alone can pass, its record tells: what is found is that place if it passes, and nothing else is
 pub first_only : (p : ℕ → Session → Bool) (l : List Session) (k : ℕ) → ((j : ℕ) → j < length l → p j (slice_index_or l j nobody) ≡ true → j ≡ k)
-    → first_from p 0 l ≡ pick (nat_lt k (length l) && p k (slice_index_or l k nobody)) (At k) Nothing
+    → first_from p 0 l ≡ pick (nat_lt k (length l) && p k (slice_index_or l k nobody)) (Some k) None
 first_only p l k only = split (nat_lt k (length l) && p k (slice_index_or l k nobody)) there none
   where
     zero_add : (j : ℕ) → 0 + j ≡ j
     zero_add j = omega arith
 
-    there : (nat_lt k (length l) && p k (slice_index_or l k nobody)) ≡ true → first_from p 0 l ≡ pick (nat_lt k (length l) && p k (slice_index_or l k nobody)) (At k) Nothing
+    there : (nat_lt k (length l) && p k (slice_index_or l k nobody)) ≡ true → first_from p 0 l ≡ pick (nat_lt k (length l) && p k (slice_index_or l k nobody)) (Some k) None
     there t =
         let h = ltb-true k (length l) (and_left (nat_lt k (length l)) (p k (slice_index_or l k nobody)) t) in
         let e = and_right (nat_lt k (length l)) (p k (slice_index_or l k nobody)) t in
@@ -172,7 +175,7 @@ first_only p l k only = split (nat_lt k (length l) && p k (slice_index_or l k no
         (λ j q. rw (zero_add j) (split (p j (slice_index_or l j nobody)) (λ y. let w = only j (omega arith) y in absurd (omega arith)) (λ y. y)))
         ∙ rw (zero_add k))
 
-    none : (nat_lt k (length l) && p k (slice_index_or l k nobody)) ≡ false → first_from p 0 l ≡ pick (nat_lt k (length l) && p k (slice_index_or l k nobody)) (At k) Nothing
+    none : (nat_lt k (length l) && p k (slice_index_or l k nobody)) ≡ false → first_from p 0 l ≡ pick (nat_lt k (length l) && p k (slice_index_or l k nobody)) (Some k) None
     none t =
         rw t (first_nowhere p 0 l
         (λ j q. rw (zero_add j) (split (p j (slice_index_or l j nobody)) (λ y. impossible (clash j q y)) (λ y. y))))
@@ -185,32 +188,32 @@ first_only p l k only = split (nat_lt k (length l) && p k (slice_index_or l k no
 
 -- ---- laws of the look-up by number
 -- the look-up by arithmetic is one of the one record; a place that there is not is nobody's
-held_one : (h : Holder) (l : List Session) → held_in h l ≡ pick (owned_by h (slice_index_or l (named_place h) nobody)) (At (named_place h)) Nothing
+held_one : (h : Option Holder) (l : List Session) → held_in h l ≡ pick (owned_by h (slice_index_or l (named_place h) nobody)) (Some (named_place h)) None
 unfolding held_in owned_by named_place blank_at is_free
-held_one H.Nobody l = refl
-held_one (H.At place usage) l =
-    split (nat_lt place (length l))
+held_one None l = refl
+held_one (Some h) l =
+    split (nat_lt h.place (length l))
     (λ e. rw e)
-    (λ e. rw (e, get_or-eq_default l nobody (ltb-false place (length l) e)))
+    (λ e. rw (e, get_or-eq_default l nobody (ltb-false h.place (length l) e)))
 
 pub held_yes : (place usage : ℕ) (l : List Session) → place < length l → taken_in (slice_index_or l place nobody) usage ≡ true
-    → held_in (H.At place usage) l ≡ At place
+    → held_in (held_at place usage) l ≡ Some place
 unfolding held_in
 held_yes place usage l h e = rw (lt-ltb place (length l) h, e)
 
 -- only a taken record is anybody's
-owned_taken : (h : Holder) (s : Session) → owned_by h s ≡ true → is_free s ≡ false
+owned_taken : (h : Option Holder) (s : Session) → owned_by h s ≡ true → is_free s ≡ false
 unfolding owned_by
-owned_taken (H.At place usage) s e = not-true (is_free s) (and_left (not (is_free s)) (s.usage == usage) e)
-owned_taken H.Nobody s e = impossible e
+owned_taken (Some h) s e = not-true (is_free s) (and_left (not (is_free s)) (s.usage == h.usage) e)
+owned_taken None s e = impossible e
 
 pub control_taken_lem : (s : Session) (teid : ℕ) → has_control s teid ≡ true → is_free s ≡ false
-unfolding has_control
+unfolding has_number
 control_taken_lem s teid = owned_taken (holder_of control_offset teid) s
 
 -- who bears a number holds it
 bears_held : (offset n j : ℕ) (s : Session) → offset + places ≤ base → j < places → bears offset n j s ≡ true
-    → (holder_of offset n ≡ H.At j s.usage) × (not (is_free s) ≡ true)
+    → (holder_of offset n ≡ held_at j s.usage) × (not (is_free s) ≡ true)
 unfolding bears
 bears_held offset n j s fits h e =
     let a : not (is_free s) ≡ true = search (and_left, and_right) in
@@ -220,21 +223,20 @@ bears_held offset n j s fits h e =
 
 -- nobody bears a number that nobody holds; only its holder bears one that is held
 module _ (offset n : ℕ) (l : List Session) (fits : offset + places ≤ base) (size : length l ≤ places) where
-  unheld : holder_of offset n ≡ H.Nobody → (j : ℕ) → j < length l → bears offset n j (slice_index_or l j nobody) ≡ false
+  unheld : holder_of offset n ≡ None → (j : ℕ) → j < length l → bears offset n j (slice_index_or l j nobody) ≡ false
   unheld e j h =
       split (bears offset n j (slice_index_or l j nobody))
       (λ t. let f = (bears_held offset n j (slice_index_or l j nobody) fits (omega arith) t).0 in
-      let g : H.Nobody ≡ H.At j (get_or l j nobody).usage = sym e ∙ f in
+      let g : ◌≡◌ {A = Option Holder} None (held_at j (get_or l j nobody).usage) = sym e ∙ f in
       let z : ◌≡◌ {A = ℕ} 0 1 = cc in
       absurd (omega arith))
       (λ t. t)
 
-  module _ (place usage : ℕ) (e : holder_of offset n ≡ H.At place usage) where
+  module _ (place usage : ℕ) (e : holder_of offset n ≡ held_at place usage) where
     sole : (j : ℕ) → j < length l → bears offset n j (slice_index_or l j nobody) ≡ true → j ≡ place
     sole j h t =
         let f = bears_held offset n j (slice_index_or l j nobody) fits (omega arith) t in
-        let g : H.At place usage ≡ H.At j (get_or l j nobody).usage = sym e ∙ f.0 in
-        cc
+        sym (held_same place j usage (get_or l j nobody).usage (sym e ∙ f.0)).0
 
     -- the holder bears it where its record is taken and in that use
     theirs : (s : Session) → bears offset n place s ≡ taken_in s usage
@@ -252,28 +254,27 @@ module _ (offset n : ℕ) (l : List Session) (fits : offset + places ≤ base) (
         clash y t =
             let p = (holder_held offset n place usage e).place_in in
             let f = bears_held offset n place s fits p y in
-            let g : H.At place usage ≡ H.At place s.usage = sym e ∙ f.0 in
-            let b : s.usage ≡ usage = cc in
+            let b = sym (held_same place place usage s.usage (sym e ∙ f.0)).1 in
             sym t ∙ rw (f.1, eq-eqb s.usage usage b)
 
 pub owner_is : (offset n : ℕ) (l : List Session) → offset + places ≤ base → length l ≤ places → owner_of offset n l ≡ held_in (holder_of offset n) l
 unfolding owner_of held_in
 owner_is offset n l fits size = look (holder_of offset n) refl
   where
-    look : (h : Holder) → holder_of offset n ≡ h → first_from (bears offset n) 0 l ≡ held_in h l
-    look H.Nobody e = first_nowhere (bears offset n) 0 l (λ j q. let x : 0 + j ≡ j = omega arith in rw x (unheld offset n l fits size e j q))
-    look (H.At place usage) e =
-        first_only (bears offset n) l place (sole offset n l fits size place usage e)
-        ∙ rw (theirs offset n l fits size place usage e (slice_index_or l place nobody))
+    look : (h : Option Holder) → holder_of offset n ≡ h → first_from (bears offset n) 0 l ≡ held_in h l
+    look None e = first_nowhere (bears offset n) 0 l (λ j q. let x : 0 + j ≡ j = omega arith in rw x (unheld offset n l fits size e j q))
+    look (Some h) e =
+        first_only (bears offset n) l h.place (sole offset n l fits size h.place h.usage e)
+        ∙ rw (theirs offset n l fits size h.place h.usage e (slice_index_or l h.place nobody))
 
 -- so one record tells the owner: that of the place which the number names
 module _ (teid : ℕ) (l : List Session) (size : length l ≤ places) where
-  pub owner_control : owner_of control_offset teid l ≡ pick (has_control (slice_index_or l (control_place teid) nobody) teid) (At (control_place teid)) Nothing
-  unfolding control_place has_control
+  pub owner_control : owner_of control_offset teid l ≡ pick (has_control (slice_index_or l (control_place teid) nobody) teid) (Some (control_place teid)) None
+  unfolding place_named has_number
   owner_control = owner_is control_offset teid l control_fits size ∙ held_one (holder_of control_offset teid) l
 
-  pub owner_user : owner_of user_offset teid l ≡ pick (has_user (slice_index_or l (user_place teid) nobody) teid) (At (user_place teid)) Nothing
-  unfolding user_place has_user
+  pub owner_user : owner_of user_offset teid l ≡ pick (has_user (slice_index_or l (user_place teid) nobody) teid) (Some (user_place teid)) None
+  unfolding place_named has_number
   owner_user = owner_is user_offset teid l user_fits size ∙ held_one (holder_of user_offset teid) l
 
 -- ---- laws of the look-up by address: one record tells the session that has it
@@ -291,7 +292,7 @@ module _ (pool a : ℕ) (l : List Session) (size : length l ≤ places) where
       let f = dwells-at pool a j (slice_index_or l j nobody) e in
       rw (← f) (sym (place_of_address pool j (omega arith)))
 
-  pub addressee_is : addressee_of pool a l ≡ pick (not (is_free (slice_index_or l (place_of pool a) nobody))) (At (place_of pool a)) Nothing
+  pub addressee_is : addressee_of pool a l ≡ pick (not (is_free (slice_index_or l (place_of pool a) nobody))) (Some (place_of pool a)) None
   unfolding addressee_of blank_at is_free
   addressee_is =
       first_only (dwells pool a) l (place_of pool a) addressee_sole

@@ -52,6 +52,18 @@ pub turned_is : (d received stored : ℕ) → d < 256 → stored < 256 → (d + 
 unfolding turned
 turned_is d received stored h k e = omega arith
 
+pub judged_same : (d : ℕ) → d ≡ 0 → judged d ≡ J.Same
+unfolding judged
+judged_same d h = rw (eq-eqb d 0 h)
+
+pub judged_restarted : (d : ℕ) → 1 ≤ d → d ≤ most_ahead → judged d ≡ J.Restarted
+unfolding judged
+judged_restarted d h k = rw (ne_eqb d 0 (λ z. omega arith), le-leb d most_ahead k)
+
+pub judged_late : (d : ℕ) → most_ahead < d → judged d ≡ J.Late
+unfolding judged most_ahead
+judged_late d h = rw (ne_eqb d 0 (λ z. omega arith), lt-leb d 127 h)
+
 -- a difference is one of 256, and each of these is in one of the three ranges and in no other
 pub turned_most : (received stored : ℕ) → turned received stored < 256
 unfolding turned

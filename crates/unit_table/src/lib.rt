@@ -7,11 +7,11 @@ ghost use Rattle.unit_table.specs.Become.{changed_by};
 ghost use Rattle.unit_table.specs.Number.{after};
 ghost use Rattle.unit_table.specs.Own.{fresh_node, rested, echo_ticked};
 ghost use Rattle.unit_table.specs.Recovery.{turned, judged, judged_by, hearing};
-ghost use Rattle.unit_table.specs.Find.{taken_in, control_place, user_place, has_control, has_user};
+ghost use Rattle.unit_table.specs.Find.{taken_in, place_named, has_number};
 
 use unit_plan::Plan;
 use unit_session::{OwnRequest, Session};
-use unit_tunnel::{ControlTeid, Holder, Unit, UserTeid};
+use unit_tunnel::{Teid, Unit};
 
 // What goes with the records: the plan, the stored Recovery, the unit's own echo, and the next sequence number.
 #[repr(C)]
@@ -20,7 +20,7 @@ pub struct Node {
     pub plan: Plan,
     pub echo: OwnRequest,
     pub next: u32,
-    // 0 until a Recovery value of the exchange is stored
+    // Kept: 0 until a Recovery value of the exchange is stored, a number beside the value as C lends it (include/grugavorn.h).
     pub heard: u8,
     pub recovery: u8,
 }
@@ -32,13 +32,6 @@ pub enum Judged {
     Restarted,
     // an old one, which came late
     Late,
-}
-
-// A place, or none.
-#[derive(Clone, Copy)]
-pub enum Owner {
-    At(usize),
-    Nothing,
 }
 
 // What is done to a record.
@@ -55,11 +48,9 @@ impl Node {
     pub fn fresh(plan: Plan) -> Self
         ensures { result ≡ fresh_node plan }
     {
-        let none = OwnRequest::idle();
-        let echo = rested(plan.interval, none);
         Node {
             plan,
-            echo,
+            echo: rested(plan.interval, OwnRequest::idle()),
             next: 0,
             heard: 0,
             recovery: 0,
@@ -89,13 +80,10 @@ impl Node {
     pub fn echo_ticked(self) -> OwnRequest
         ensures { result ≡ echo_ticked self.plan self.echo }
     {
-        let plan = self.plan;
-        let echo = self.echo;
-        let over = echo.spent(plan.sends);
-        if over {
-            return rested(plan.interval, echo);
+        if self.echo.spent(self.plan.sends) {
+            return rested(self.plan.interval, self.echo);
         }
-        echo.counted_down()
+        self.echo.counted_down()
     }
 }
 
@@ -107,14 +95,11 @@ impl Judged {
     pub fn of(received: u8, stored: u8) -> Self
         ensures { result ≡ judged (turned received stored) }
     {
-        let ahead = std::num::wrapping_sub_u8(received, stored);
-        if ahead == 0 {
-            return Judged::Same;
+        match received.wrapping_sub(stored) {
+            0 => Judged::Same,
+            ahead if ahead <= Self::MOST_AHEAD => Judged::Restarted,
+            _ => Judged::Late,
         }
-        if ahead <= Judged::MOST_AHEAD {
-            return Judged::Restarted;
-        }
-        Judged::Late
     }
 }
 
@@ -125,7 +110,7 @@ pub fn rested(interval: u8, r: OwnRequest) -> OwnRequest
     OwnRequest {
         timer: interval,
         sends: 0,
-        number: r.number,
+        ..r
     }
 }
 
@@ -144,28 +129,17 @@ pub fn changed_by(s: Session, c: Change) -> Session
 pub fn after(k: u32) -> u32
     ensures { result ≡ after k }
 {
-    ((k as u64 + 1) % (OwnRequest::LAST_NUMBER as u64 + 1)) as u32
+    k.wrapping_add(1) % OwnRequest::NUMBERS
 }
 
-// The place that a control number names; past the last where it names none.
-pub fn control_place(teid: ControlTeid) -> usize
-    ensures { result ≡ control_place teid.0 }
+// The place that a number names; past the last where it names none.
+// Kept: a place and no Option, since the laws `owner_control` and `owner_user` read the record at it, which past the last is one that nobody took.
+pub fn place_named<T: Teid>(teid: T) -> usize
+    ensures { result ≡ place_named T.OFFSET (T.number teid) }
 {
-    let h = teid.holder();
-    match h {
-        Holder::At { place, usage: _ } => place,
-        Holder::Nobody => Unit::PLACES,
-    }
-}
-
-// The place that a user number names; past the last where it names none.
-pub fn user_place(teid: UserTeid) -> usize
-    ensures { result ≡ user_place teid.0 }
-{
-    let h = teid.holder();
-    match h {
-        Holder::At { place, usage: _ } => place,
-        Holder::Nobody => Unit::PLACES,
+    match teid.holder() {
+        Some(h) => h.place,
+        None => Unit::PLACES,
     }
 }
 
@@ -173,28 +147,15 @@ pub fn user_place(teid: UserTeid) -> usize
 fn taken_in(s: Session, usage: u32) -> bool
     ensures { result ≡ taken_in s usage }
 {
-    let free = s.is_free();
-    !free & (s.usage == usage)
+    !s.is_free() & (s.usage == usage)
 }
 
-// Whether a record is the session of a control number: taken, and in the use that the number says.
-pub fn has_control(s: Session, teid: ControlTeid) -> bool
-    ensures { result ≡ has_control s teid.0 }
+// Whether a record is the session of a number: taken, and in the use that the number says.
+pub fn has_number<T: Teid>(s: Session, teid: T) -> bool
+    ensures { result ≡ has_number T.OFFSET s (T.number teid) }
 {
-    let h = teid.holder();
-    match h {
-        Holder::At { place: _, usage } => taken_in(s, usage),
-        Holder::Nobody => false,
-    }
-}
-
-// Whether a record is the session of a user number: taken, and in the use that the number says.
-pub fn has_user(s: Session, teid: UserTeid) -> bool
-    ensures { result ≡ has_user s teid.0 }
-{
-    let h = teid.holder();
-    match h {
-        Holder::At { place: _, usage } => taken_in(s, usage),
-        Holder::Nobody => false,
+    match teid.holder() {
+        Some(h) => taken_in(s, h.usage),
+        None => false,
     }
 }

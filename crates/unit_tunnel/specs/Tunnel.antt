@@ -1,8 +1,8 @@
 -- Tunnel numbers: the number of a place in one of its uses, for control and for user packets; who holds a number; the next use.
 -- Assumes nothing.
-use Rattle.std.specs.Prelude.{ℕ, ◌+◌, ◌-◌, ◌*◌, ◌/◌, ◌%◌, ◌<◌, ◌≤◌, Bool, false, ◌&&◌, ◌≡◌}
+use Rattle.std.specs.Prelude.{ℕ, ◌+◌, ◌-◌, ◌*◌, ◌/◌, ◌%◌, ◌<◌, ◌≤◌, Bool, false, ◌&&◌, ◌≡◌, Option, Some, None}
 use Rattle.std.proofs.Math.Bool.{true}
-use Rattle.std.proofs.Common.{sym, ◌∙◌, div-add-mod'}
+use Rattle.std.proofs.Common.{sym, ◌∙◌, ap, div-add-mod'}
 use Rattle.std.proofs.Math.Nat.{mul-add-div_right, mul-add-mod_self_right, mod-eq_of_lt, div-eq_of_lt, mul-le-mul_right}
 use native.Mathlib.Omega.{arith}
 use Rattle.std.proofs.Math.Dec.{leb, ltb}
@@ -10,7 +10,6 @@ use borrow.Author.Tests.{le-leb, lt-ltb, le-ltb}
 use Rattle.base_octets.specs.Choice.{pick, split, and_left, and_right, tests}
 use Rattle.unit_tunnel.specs.Numbering.{places, base, control_offset, user_offset, last_use, teids, base_some, last_some, control_fits, user_fits, offsets_apart, teids_hold}
 use Rattle.unit_tunnel.specs.declared.Holder.{Holder}
-use Rattle.unit_tunnel.specs.declared.Holder.TheVariants.{At, Nobody}
 
 -- the number of a place in its use-th use
 unfoldable pub number_at : ℕ → ℕ → ℕ → ℕ
@@ -26,8 +25,12 @@ user_number usage place = number_at user_offset usage place
 unfoldable pub numbers : ℕ → ℕ → Bool
 numbers offset n = leb offset (n % base) && ltb (n % base) (offset + places) && leb 1 (n / base)
 
-unfoldable pub holder_of : ℕ → ℕ → Holder
-holder_of offset n = pick (numbers offset n) (At (n % base - offset) (n / base)) Nobody
+abbrev pub held_at : ℕ → ℕ → Option Holder
+held_at place usage = Some (record { place = place; usage = usage })
+
+-- who holds a number: that place in that use, or none
+unfoldable pub holder_of : ℕ → ℕ → Option Holder
+holder_of offset n = pick (numbers offset n) (held_at (n % base - offset) (n / base)) None
 
 -- taking a place steps its use by one; after the last comes 1
 unfoldable pub next_use : ℕ → ℕ
@@ -55,7 +58,7 @@ module _ (offset usage place : ℕ) (fits : offset + places ≤ base) (p : place
   number_use = mul-add-div_right base_some usage (offset + place) ∙ rw (div-eq_of_lt {n = offset + place} {m = base} (omega arith)) (omega arith)
 
   -- it gives back its place and its use
-  pub number_holder : 1 ≤ usage → holder_of offset (number_at offset usage place) ≡ At place usage
+  pub number_holder : 1 ≤ usage → holder_of offset (number_at offset usage place) ≡ held_at place usage
   unfolding holder_of numbers
   number_holder l =
       let a : leb offset (offset + place) ≡ true = le-leb offset (offset + place) (omega arith) in
@@ -79,30 +82,36 @@ kinds_apart u p v q hp hq e =
     omega arith
 
 -- ---- laws of the holder
+-- a holder is held at one place, in one use
+pub held_same : (place p usage u : ℕ) → held_at place usage ≡ held_at p u → (place ≡ p) × (usage ≡ u)
+held_same place p usage u e =
+    let h : ◌≡◌ {A = Holder} (record { place = place; usage = usage }) (record { place = p; usage = u }) = cc in
+    (ap (λ (x : Holder). x.place) h, ap (λ (x : Holder). x.usage) h)
+
 -- what a held number tells: its place, its use, and that it is theirs
 pub record Held (offset n place usage : ℕ) : Type 0 where
   pub place_in : place < places
   pub used : 1 ≤ usage
   pub number : number_at offset usage place ≡ n
 
-pub holder_held : (offset n place usage : ℕ) → holder_of offset n ≡ At place usage → Held offset n place usage
+pub holder_held : (offset n place usage : ℕ) → holder_of offset n ≡ held_at place usage → Held offset n place usage
 unfolding holder_of numbers number_at
 holder_held offset n place usage e = split (numbers offset n) held none
   where
     held : numbers offset n ≡ true → Held offset n place usage
     held t =
-        let f : At (n % base - offset) (n / base) ≡ At place usage = rw t at e in
-        let a : n % base - offset ≡ place = cc in
-        let b : n / base ≡ usage = cc in
+        let f = held_same (n % base - offset) place (n / base) usage (rw t at e) in
+        let a = f.0 in
+        let b = f.1 in
         let l : leb offset (n % base) ≡ true = search (and_left, and_right) in
-        let h : ltb (n % base) (offset + places) ≡ true = search (and_left, and_right) in
+        let k : ltb (n % base) (offset + places) ≡ true = search (and_left, and_right) in
         let o : leb 1 (n / base) ≡ true = search (and_left, and_right) in
         let d = div-add-mod' n base in
         record { place_in = omega (arith, tests); used = omega (arith, tests); number = rw (← b) (omega (arith, tests)) }
 
     none : numbers offset n ≡ false → Held offset n place usage
     none t =
-        let f : Nobody ≡ At place usage = rw t at e in
+        let f : ◌≡◌ {A = Option Holder} None (held_at place usage) = rw t at e in
         let z : ◌≡◌ {A = ℕ} 0 1 = cc in
         absurd (omega arith)
 

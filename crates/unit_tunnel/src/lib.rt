@@ -1,9 +1,9 @@
 // Tunnel numbers: two kinds that are never used for each other, each found from a place and its use, and each giving them back.
 #![tactic(auto)]
 
-ghost use Rattle.std.specs.Prelude.{◌%◌, ◌≡◌};
-ghost use Rattle.unit_tunnel.specs.Numbering.{control_offset, user_offset, teids};
-ghost use Rattle.unit_tunnel.specs.Tunnel.{number_at, control_number, user_number, holder_of, next_use};
+ghost use Rattle.std.specs.Prelude.{ℕ, ◌+◌, ◌%◌, ◌≤◌, ◌≡◌};
+ghost use Rattle.unit_tunnel.specs.Numbering.{places, base, control_offset, user_offset, teids, control_fits, user_fits};
+ghost use Rattle.unit_tunnel.specs.Tunnel.{number_at, holder_of, next_use};
 
 // The unit, for the figure that every layer goes by.
 #[derive(Clone, Copy)]
@@ -14,11 +14,11 @@ impl Unit {
     pub const PLACES: usize = 64;
 }
 
-// Who holds a number: a place in one of its uses, or nobody ever.
+// Who holds a number: a place in one of its uses.
 #[derive(Clone, Copy)]
-pub enum Holder {
-    At { place: usize, usage: u32 },
-    Nobody,
+pub struct Holder {
+    pub place: usize,
+    pub usage: u32,
 }
 
 impl Holder {
@@ -30,6 +30,38 @@ impl Holder {
     pub const TEIDS: u64 = 4294967296;
 }
 
+// Tunnel numbers of one kind: where they begin, and the number as octets write it.
+pub trait Teid: Copy {
+    const OFFSET: u32;
+
+    ghost OFFSET: { ℕ };
+
+    ghost number: { Self → ℕ };
+
+    fn new(n: u32) -> Self
+        ensures { number result ≡ n };
+
+    fn number(self) -> u32
+        ensures { result ≡ number self };
+
+    // The numbers of all places of one use lie within its base.
+    ghost fits: { OFFSET + places ≤ base };
+
+    // The number of a place in its use.
+    final fn of(usage: u32, place: usize) -> Self
+        ensures { number result ≡ number_at OFFSET usage place % teids }
+    {
+        Self::new(number_at(Self::OFFSET, usage, place))
+    }
+
+    // Who holds it; none where nobody ever does.
+    final fn holder(self) -> Option<Holder>
+        ensures { result ≡ holder_of OFFSET (number self) }
+    {
+        holder_of(Self::OFFSET, self.number())
+    }
+}
+
 // A number for control datagrams (GTPv2-C).
 #[derive(Clone, Copy)]
 pub struct ControlTeid(pub u32);
@@ -38,14 +70,50 @@ pub struct ControlTeid(pub u32);
 #[derive(Clone, Copy)]
 pub struct UserTeid(pub u32);
 
+impl Teid for ControlTeid {
+    const OFFSET: u32 = 0;
+
+    ghost OFFSET = { control_offset };
+
+    ghost number = { λ t. t.0 };
+
+    ghost fits = { control_fits };
+
+    fn new(n: u32) -> Self {
+        ControlTeid(n)
+    }
+
+    fn number(self) -> u32 {
+        self.0
+    }
+}
+
+impl Teid for UserTeid {
+    const OFFSET: u32 = 128;
+
+    ghost OFFSET = { user_offset };
+
+    ghost number = { λ t. t.0 };
+
+    ghost fits = { user_fits };
+
+    fn new(n: u32) -> Self {
+        UserTeid(n)
+    }
+
+    fn number(self) -> u32 {
+        self.0
+    }
+}
+
 fn number_at(offset: u32, usage: u32, place: usize) -> u32
     ensures { result ≡ number_at offset usage place % teids }
 {
     let low = place as u64 % Holder::TEIDS;
-    ((usage as u64 * Holder::BASE as u64 + offset as u64 + low) % Holder::TEIDS) as u32
+    ((u64::from(usage) * u64::from(Holder::BASE) + u64::from(offset) + low) % Holder::TEIDS) as u32
 }
 
-fn holder_of(offset: u32, n: u32) -> Holder
+fn holder_of(offset: u32, n: u32) -> Option<Holder>
     ensures { result ≡ holder_of offset n }
 {
     let low = n % Holder::BASE;
@@ -53,44 +121,12 @@ fn holder_of(offset: u32, n: u32) -> Holder
     let at = low as usize;
     let first = offset as usize;
     if (first <= at) & (at < first + Unit::PLACES) & (1 <= usage) {
-        Holder::At {
+        Some(Holder {
             place: at - first,
             usage,
-        }
+        })
     } else {
-        Holder::Nobody
-    }
-}
-
-impl ControlTeid {
-    pub const OFFSET: u32 = 0;
-
-    pub fn of(usage: u32, place: usize) -> Self
-        ensures { result.0 ≡ control_number usage place % teids }
-    {
-        ControlTeid(number_at(Self::OFFSET, usage, place))
-    }
-
-    pub fn holder(self) -> Holder
-        ensures { result ≡ holder_of control_offset self.0 }
-    {
-        holder_of(Self::OFFSET, self.0)
-    }
-}
-
-impl UserTeid {
-    pub const OFFSET: u32 = 128;
-
-    pub fn of(usage: u32, place: usize) -> Self
-        ensures { result.0 ≡ user_number usage place % teids }
-    {
-        UserTeid(number_at(Self::OFFSET, usage, place))
-    }
-
-    pub fn holder(self) -> Holder
-        ensures { result ≡ holder_of user_offset self.0 }
-    {
-        holder_of(Self::OFFSET, self.0)
+        None
     }
 }
 

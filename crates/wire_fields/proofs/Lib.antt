@@ -1,2 +1,2 @@
 pub mod Back
-pub mod Left
+pub mod Ahead

@@ -1,7 +1,7 @@
 -- An IMSI as a field's value: 8 octets are 16 halves, the low half of each octet first; 15 of them are digits, the sixteenth is F.
 -- It is kept as one number, the first digit most significant.
 -- Assumes nothing.
-use Rattle.std.specs.Prelude.{ℕ, zero, suc, ◌+◌, ◌*◌, ◌/◌, ◌%◌, ◌^◌, ◌<◌, ◌≤◌, Bool, true, false, ◌&&◌, List, [], ◌∷◌, ◌≡◌, refl, take, drop, eqb, ltb, leb}
+use Rattle.std.specs.Prelude.{ℕ, zero, suc, ◌+◌, ◌*◌, ◌/◌, ◌%◌, ◌^◌, ◌<◌, ◌≤◌, Bool, true, false, ◌&&◌, List, [], ◌∷◌, ◌≡◌, refl, take, drop, eqb, ltb, leb, Result, Ok, Err}
 use Rattle.std.proofs.Common.{sym, ◌∙◌, mul_assoc, add-one, length-take, le-ltb, lt-ltb, ltb-false, leb-true}
 use Rattle.std.proofs.Math.Nat.{pow-succ'}
 use native.Mathlib.Omega.{arith}
@@ -9,8 +9,8 @@ use Rattle.std.proofs.Math.ListN.{length, get_or, drop_of_length-le}
 use Rattle.base_octets.specs.Choice.{pick, split, and_left, and_right}
 use Rattle.base_octets.specs.Every.{every}
 use Rattle.base_octets.specs.Places.{next_of}
-use Rattle.wire_fields.specs.declared.Imsi.{Imsi}
-use Rattle.wire_fields.specs.declared.Imsi.TheVariants.{Value, Short, Wrong}
+use Rattle.wire_fields.specs.declared.Flaw.{Flaw}
+use Rattle.wire_fields.specs.declared.Flaw.TheVariants.{Short, Wrong}
 
 unfoldable pub imsi_size : ℕ
 imsi_size = 8
@@ -43,12 +43,12 @@ decimal_from n [] = n
 decimal_from n (x ∷ l) = decimal_from (n * 10 + x) l
 
 -- halves that are left, behind what was read before: digits but for the last, and that is F
-unfoldable pub digits_from : ℕ → List ℕ → Imsi
-digits_from n h = pick (every is_half (front h) && eqb (last_of h) 15) (Value (decimal_from n (front h))) Wrong
+unfoldable pub digits_from : ℕ → List ℕ → Result ℕ Flaw
+digits_from n h = pick (every is_half (front h) && eqb (last_of h) 15) (Ok (decimal_from n (front h))) (Err Wrong)
 
 -- octets past the eighth are ignored
-unfoldable pub imsi_of : List ℕ → Imsi
-imsi_of v = pick (ltb (length v) imsi_size) Short (digits_from 0 (halves (take imsi_size v)))
+unfoldable pub imsi_of : List ℕ → Result ℕ Flaw
+imsi_of v = pick (ltb (length v) imsi_size) (Err Short) (digits_from 0 (halves (take imsi_size v)))
 
 -- ---- octet i, behind n that was read before
 module _ (v : List ℕ) (i n : ℕ) where
@@ -61,14 +61,14 @@ module _ (v : List ℕ) (i n : ℕ) where
       let k : (n * 10 + get_or v i 0 % 16) * 10 + get_or v i 0 / 16 ≡ n * 100 + (get_or v i 0 % 16 * 10 + get_or v i 0 / 16) = omega arith in
       rw (next_of v i 0 (omega arith), next_of v (i + 1) 0 h, a, b, ← k)
 
-  pub digits_off : i + 1 < length v → (is_half (get_or v i 0 % 16) && is_half (get_or v i 0 / 16)) ≡ false → digits_from n (halves (drop i v)) ≡ Wrong
+  pub digits_off : i + 1 < length v → (is_half (get_or v i 0 % 16) && is_half (get_or v i 0 / 16)) ≡ false → digits_from n (halves (drop i v)) ≡ Err Wrong
   unfolding digits_from halves front last_of every
   digits_off h e =
       rw (next_of v i 0 (omega arith), next_of v (i + 1) 0 h)
       (split (is_half (get_or v i 0 % 16)) (λ a. let b = rw a at e in rw (a, b)) (λ a. rw a))
 
   pub digits_end : i + 1 ≡ length v → digits_from n (halves (drop i v))
-      ≡ pick (is_half (get_or v i 0 % 16) && eqb (get_or v i 0 / 16) 15) (Value (n * 10 + get_or v i 0 % 16)) Wrong
+      ≡ pick (is_half (get_or v i 0 % 16) && eqb (get_or v i 0 / 16) 15) (Ok (n * 10 + get_or v i 0 % 16)) (Err Wrong)
   unfolding digits_from halves front last_of every decimal_from
   digits_end h =
       let k : length v ≤ i + 1 = omega arith in
@@ -102,7 +102,7 @@ hundreds_most (suc (suc (suc (suc (suc (suc (suc (suc i)))))))) h = absurd (omeg
 
 -- ---- the size test
 module _ (v : List ℕ) where
-  pub imsi-short : length v < 8 → imsi_of v ≡ Short
+  pub imsi-short : length v < 8 → imsi_of v ≡ Err Short
   unfolding imsi_of imsi_size
   imsi-short h = rw (lt-ltb _ _ h)
 
@@ -138,30 +138,30 @@ fifteen [] e = absurd (omega arith)
 fifteen (x ∷ h) e = let r = front_length x h in omega arith
 
 -- fifteen digits write a number below 10 to the 15th
-digits_below : (h : List ℕ) (x : ℕ) → length h ≡ 16 → digits_from 0 h ≡ Value x → x < imsi_limit
+digits_below : (h : List ℕ) (x : ℕ) → length h ≡ 16 → digits_from 0 h ≡ Ok x → x < imsi_limit
 unfolding digits_from
 digits_below h x l e = split (every is_half (front h) && eqb (last_of h) 15) good bad
   where
     good : (every is_half (front h) && eqb (last_of h) 15) ≡ true → x < imsi_limit
     good t =
-        let g : Value (decimal_from 0 (front h)) ≡ Value x = rw t at e in
+        let g : Ok (decimal_from 0 (front h)) ≡ Ok x = rw t at e in
         let k : decimal_from 0 (front h) ≡ x = cc in
         let b = rw (fifteen h l) at (decimal_below (front h) 0 1 (and_left (every is_half (front h)) (eqb (last_of h) 15) t) (omega arith)) in
         omega arith
 
     bad : (every is_half (front h) && eqb (last_of h) 15) ≡ false → x < imsi_limit
-    bad t = let g : Wrong ≡ Value x = rw t at e in never (cc)
+    bad t = let g : Err Wrong ≡ Ok x = rw t at e in never (cc)
 
-pub imsi_below : (v : List ℕ) (x : ℕ) → imsi_of v ≡ Value x → x < imsi_limit
+pub imsi_below : (v : List ℕ) (x : ℕ) → imsi_of v ≡ Ok x → x < imsi_limit
 unfolding imsi_of imsi_size
 imsi_below v x e = split (ltb (length v) 8) short long
   where
     short : ltb (length v) 8 ≡ true → x < imsi_limit
-    short t = let g : Short ≡ Value x = rw t at e in never (cc)
+    short t = let g : Err Short ≡ Ok x = rw t at e in never (cc)
 
     long : ltb (length v) 8 ≡ false → x < imsi_limit
     long t =
-        let g : digits_from 0 (halves (take 8 v)) ≡ Value x = rw t at e in
+        let g : digits_from 0 (halves (take 8 v)) ≡ Ok x = rw t at e in
         let h = ltb-false (length v) 8 t in
         let l : length (halves (take 8 v)) ≡ 16 = halves-length (take 8 v) ∙ simp length-take (omega arith) in
         digits_below (halves (take 8 v)) x l g

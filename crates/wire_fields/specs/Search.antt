@@ -1,44 +1,28 @@
 -- The field that counts: of equal type and instance the first. Unknown fields are skipped, and a known type of another instance
 -- is an unknown field.
 -- Assumes nothing.
-use Rattle.std.specs.Prelude.{ℕ, zero, suc, ◌+◌, ◌%◌, ◌≤◌, Bool, true, false, ◌&&◌, List, [], ◌∷◌, ◌++◌, ◌≡◌, refl, length, take, drop, get_or, eqb, leb}
+use Rattle.std.specs.Prelude.{ℕ, zero, suc, ◌+◌, ◌%◌, ◌≤◌, Bool, true, false, ◌&&◌, List, [], ◌∷◌, ◌++◌, ◌≡◌, refl, length, take, drop, eqb, leb, Option, Some, None}
 use Rattle.std.proofs.Common.{ap, ◌∙◌, suc-add, arith, length-append, eqb-true}
 use Rattle.base_octets.specs.Choice.{pick, split, and_left, and_right, tests}
 use Rattle.base_octets.specs.BigEndian.{number_of}
-use Rattle.wire_fields.specs.Walk.{Field, part, fields_from, fields_of, fields_at, size_at, fields_start, fields_next}
+use Rattle.wire_fields.specs.Walk.{Field, found, part, fields_from, fields_of, fields_at, fields_start}
 use Rattle.wire_fields.specs.declared.Found.{Found}
-use Rattle.wire_fields.specs.declared.Found.TheVariants.{At, Missing}
 
--- whether a field's first and fourth octet are those of a type and an instance; the high 4 bits of the fourth are ignored
-unfoldable pub named : ℕ → ℕ → ℕ → ℕ → Bool
-named t i kind inst = eqb t kind && eqb (i % 16) inst
+-- whether a field is of a type and an instance
+unfoldable pub named : Field → ℕ → ℕ → Bool
+named f kind inst = eqb f.kind kind && eqb f.instance inst
 
-unfoldable pub first_in : List Field → ℕ → ℕ → Found
-first_in [] kind inst = Missing
-first_in (f ∷ l) kind inst = pick (eqb f.kind kind && eqb f.inst inst) (At f.start f.size) (first_in l kind inst)
+unfoldable pub first_in : List Field → ℕ → ℕ → Option Found
+first_in [] kind inst = None
+first_in (f ∷ l) kind inst = pick (eqb f.kind kind && eqb f.instance inst) (Some f.found) (first_in l kind inst)
 
-unfoldable pub find : List ℕ → ℕ → ℕ → Found
+unfoldable pub find : List ℕ → ℕ → ℕ → Option Found
 find s kind inst = first_in (fields_of s) kind inst
 
--- ---- a search that has come to place p
+-- ---- a search in the words of a walk
 pub find_start : (s : List ℕ) (kind inst : ℕ) → find s kind inst ≡ first_in (fields_at s 0) kind inst
 unfolding find
 find_start s kind inst = rw (fields_start s)
-
-module _ (s : List ℕ) (p kind inst : ℕ) where
-  pub first_none : fields_at s p ≡ [] → first_in (fields_at s p) kind inst ≡ Missing
-  unfolding first_in
-  first_none e = rw e
-
-  pub first_here : p + 4 ≤ length s → p + 4 + size_at s p ≤ length s → named (get_or s p 0) (get_or s (p + 3) 0) kind inst ≡ true
-      → first_in (fields_at s p) kind inst ≡ At (p + 4) (size_at s p)
-  unfolding first_in named
-  first_here h g e = rw (fields_next s p h g, e)
-
-  pub first-later : p + 4 ≤ length s → p + 4 + size_at s p ≤ length s → named (get_or s p 0) (get_or s (p + 3) 0) kind inst ≡ false
-      → first_in (fields_at s p) kind inst ≡ first_in (fields_at s (p + 4 + size_at s p)) kind inst
-  unfolding first_in named
-  first-later h g e = rw (fields_next s p h g, e)
 
 -- ---- what is found stands there: type, length, instance, and behind them the value, whole
 pub record Stands (l : List ℕ) (at kind inst start size : ℕ) : Type 0 where
@@ -71,23 +55,23 @@ stands_later x l at kind inst a n r =
       whole = r.whole;
     }
 
-first_stands : (l : List ℕ) (skip at kind inst a n : ℕ) → first_in (fields_from l skip at) kind inst ≡ At a n → Stands l at kind inst a n
+first_stands : (l : List ℕ) (skip at kind inst : ℕ) (f : Found) → first_in (fields_from l skip at) kind inst ≡ Some f → Stands l at kind inst f.start f.size
 unfolding first_in fields_from
-first_stands [] skip at kind inst a n e = never (cc)
-first_stands (x ∷ l) (suc skip) at kind inst a n e = stands_later x l at kind inst a n (first_stands l skip (suc at) kind inst a n e)
-first_stands (t ∷ []) zero at kind inst a n e = never (cc)
-first_stands (t ∷ x ∷ []) zero at kind inst a n e = never (cc)
-first_stands (t ∷ x ∷ y ∷ []) zero at kind inst a n e = never (cc)
-first_stands (t ∷ x ∷ y ∷ i ∷ l) zero at kind inst a n e =
+first_stands [] skip at kind inst f e = never (cc)
+first_stands (x ∷ l) (suc skip) at kind inst f e = stands_later x l at kind inst f.start f.size (first_stands l skip (suc at) kind inst f e)
+first_stands (t ∷ []) zero at kind inst f e = never (cc)
+first_stands (t ∷ x ∷ []) zero at kind inst f e = never (cc)
+first_stands (t ∷ x ∷ y ∷ []) zero at kind inst f e = never (cc)
+first_stands (t ∷ x ∷ y ∷ i ∷ l) zero at kind inst f e =
     split (leb (number_of (x ∷ y ∷ [])) (length l))
-    (λ h. split (eqb t kind && eqb (i % 16) inst) (here h) (later h (λ g. first_stands l (number_of (x ∷ y ∷ [])) (at + 4) kind inst a n g)))
-    (λ h. let g : Missing ≡ At a n = rw h at e in never (cc))
+    (λ h. split (eqb t kind && eqb (i % 16) inst) (here h) (later h (λ g. first_stands l (number_of (x ∷ y ∷ [])) (at + 4) kind inst f g)))
+    (λ h. let g : None ≡ Some f = rw h at e in never (cc))
   where
-    here : leb (number_of (x ∷ y ∷ [])) (length l) ≡ true → (eqb t kind && eqb (i % 16) inst) ≡ true → Stands (t ∷ x ∷ y ∷ i ∷ l) at kind inst a n
+    here : leb (number_of (x ∷ y ∷ [])) (length l) ≡ true → (eqb t kind && eqb (i % 16) inst) ≡ true → Stands (t ∷ x ∷ y ∷ i ∷ l) at kind inst f.start f.size
     here h k =
-        let g : At (at + 4) (number_of (x ∷ y ∷ [])) ≡ At a n = rw (h, k) at e in
-        let ea : at + 4 ≡ a = cc in
-        let en : number_of (x ∷ y ∷ []) ≡ n = cc in
+        let g : Some (found (at + 4) (number_of (x ∷ y ∷ []))) ≡ Some f = rw (h, k) at e in
+        let ea : at + 4 ≡ f.start = cc in
+        let en : number_of (x ∷ y ∷ []) ≡ f.size = cc in
         let ek : t ≡ kind = eqb-true t kind (and_left (eqb t kind) (eqb (i % 16) inst) k) in
         record {
           front = [];
@@ -102,25 +86,25 @@ first_stands (t ∷ x ∷ y ∷ i ∷ l) zero at kind inst a n e =
           whole = omega (arith, tests);
         }
 
-    later : leb (number_of (x ∷ y ∷ [])) (length l) ≡ true → (first_in (fields_from l (number_of (x ∷ y ∷ [])) (at + 4)) kind inst ≡ At a n → Stands l (at + 4) kind inst a n)
-        → (eqb t kind && eqb (i % 16) inst) ≡ false → Stands (t ∷ x ∷ y ∷ i ∷ l) at kind inst a n
+    later : leb (number_of (x ∷ y ∷ [])) (length l) ≡ true → (first_in (fields_from l (number_of (x ∷ y ∷ [])) (at + 4)) kind inst ≡ Some f → Stands l (at + 4) kind inst f.start f.size)
+        → (eqb t kind && eqb (i % 16) inst) ≡ false → Stands (t ∷ x ∷ y ∷ i ∷ l) at kind inst f.start f.size
     later h r k =
-        let g : first_in (fields_from l (number_of (x ∷ y ∷ [])) (at + 4)) kind inst ≡ At a n = rw (h, k) at e in
+        let g : first_in (fields_from l (number_of (x ∷ y ∷ [])) (at + 4)) kind inst ≡ Some f = rw (h, k) at e in
         let q : at + 4 ≡ suc (suc (suc (suc at))) = omega arith in
-        let d : Stands l (suc (suc (suc (suc at)))) kind inst a n = rw q at (r g) in
-        stands_later t (x ∷ y ∷ i ∷ l) at kind inst a n
-        (stands_later x (y ∷ i ∷ l) (suc at) kind inst a n
-        (stands_later y (i ∷ l) (suc (suc at)) kind inst a n
-        (stands_later i l (suc (suc (suc at))) kind inst a n d)))
+        let d : Stands l (suc (suc (suc (suc at)))) kind inst f.start f.size = rw q at (r g) in
+        stands_later t (x ∷ y ∷ i ∷ l) at kind inst f.start f.size
+        (stands_later x (y ∷ i ∷ l) (suc at) kind inst f.start f.size
+        (stands_later y (i ∷ l) (suc (suc at)) kind inst f.start f.size
+        (stands_later i l (suc (suc (suc at))) kind inst f.start f.size d)))
 
-pub find_stands : (s : List ℕ) (kind inst a n : ℕ) → find s kind inst ≡ At a n → Stands s 0 kind inst a n
+pub find_stands : (s : List ℕ) (kind inst : ℕ) (f : Found) → find s kind inst ≡ Some f → Stands s 0 kind inst f.start f.size
 unfolding find fields_of
-find_stands s kind inst a n e = first_stands s 0 0 kind inst a n e
+find_stands s kind inst f e = first_stands s 0 0 kind inst f e
 
 -- so the value lies within the octets
-pub find_within : (s : List ℕ) (kind inst a n : ℕ) → find s kind inst ≡ At a n → a + n ≤ length s
-find_within s kind inst a n e =
-    let r = find_stands s kind inst a n e in
+pub find_within : (s : List ℕ) (kind inst : ℕ) (f : Found) → find s kind inst ≡ Some f → f.start + f.size ≤ length s
+find_within s kind inst f e =
+    let r = find_stands s kind inst f e in
     let l : length s ≡ length r.front + suc (suc (suc (suc (length r.back)))) = ap length r.octets ∙ simp length-append in
     omega arith
 
@@ -132,7 +116,7 @@ behind : (front : List ℕ) (k x y i : ℕ) (back s : List ℕ) (a : ℕ) → s 
 behind front k x y i back s a e p = let q : a ≡ length front + 4 = omega arith in rw (q, e) (behind-front front k x y i back)
 
 -- and what is handed on are those octets, no other
-pub find_value : (s : List ℕ) (kind inst a n : ℕ) (e : find s kind inst ≡ At a n) → part s a n ≡ take n (find_stands s kind inst a n e).back
-find_value s kind inst a n e =
-    let r = find_stands s kind inst a n e in
-    ap (take n) (behind r.front kind r.high r.low r.fourth r.back s a r.octets r.place)
+pub find_value : (s : List ℕ) (kind inst : ℕ) (f : Found) (e : find s kind inst ≡ Some f) → part s f.start f.size ≡ take f.size (find_stands s kind inst f e).back
+find_value s kind inst f e =
+    let r = find_stands s kind inst f e in
+    ap (take f.size) (behind r.front kind r.high r.low r.fourth r.back s f.start r.octets r.place)

@@ -1,23 +1,23 @@
 // The fields of a control datagram. A walk finds the first field of a type and instance, and whether one runs past the end; two values have
-// several octets, IMSI and F-TEID; one reader a field answers an enum: the value, or that the field is missing, short or wrong. A Bearer
-// Context holds fields of the same form, so the same functions read its octets.
+// several octets, IMSI and F-TEID; one reader a field gives its value, or its flaw: that it is missing, short or wrong. A Bearer Context
+// holds fields of the same form, so the same functions read its octets.
 #![tactic(auto)]
 
-ghost use Rattle.std.specs.Prelude.{◌≡◌, get_or, length, [], ◌∷◌, ◌+◌, ◌*◌};
-ghost use Rattle.base_octets.specs.BigEndian.{number_of};
-ghost use Rattle.wire_fields.specs.Walk.{overruns};
+ghost use Rattle.std.specs.Prelude.{◌≡◌, get_or, length, ◌+◌, ◌*◌, ◌≤◌};
+ghost use Rattle.std.specs.Iterator.{YieldsFirst, item_count};
+ghost use Rattle.wire_fields.specs.Walk.{part, overruns, fields_at};
 ghost use Rattle.wire_fields.specs.Search.{named, find};
 ghost use Rattle.wire_fields.specs.Overrun.{over_in};
 ghost use Rattle.wire_fields.specs.Imsi.{imsi_of, digits_from, halves};
 ghost use Rattle.wire_fields.specs.Tunnel.{tunnel_of};
-ghost use Rattle.wire_fields.specs.Refusal.{missing, short, wrong, bare_refusal, octet_refusal, imsi_refusal, tunnel_refusal};
+ghost use Rattle.wire_fields.specs.Refusal.{missing, short, wrong, bare_refusal, refusal_of};
 ghost use Rattle.wire_fields.specs.Readers.{octet_in, rat_in, paa_in, ebi_in, imsi_in, tunnel_in, recovery_in};
 
 // Where a field's value stands.
 #[derive(Clone, Copy)]
-pub enum Found {
-    At { start: usize, size: usize },
-    Missing,
+pub struct Found {
+    pub start: usize,
+    pub size: usize,
 }
 
 impl Found {
@@ -26,98 +26,123 @@ impl Found {
 
     // the field that holds fields
     pub const BEARER_CONTEXT: u8 = 93;
+
+    // The octets of the value.
+    pub fn of(self, s: &[u8]) -> &[u8]
+        requires { self.start + self.size ≤ length s.now }
+        ensures { result.now ≡ part s.now self.start self.size }
+    {
+        let end = self.start + self.size;
+        &s[self.start..end]
+    }
 }
 
 // The octet at a place, 0 past the end.
 pub fn octet_at(s: &[u8], at: usize) -> u8
     ensures { result ≡ get_or s.now at 0 }
 {
-    if at < s.len() { s[at] } else { 0 }
+    s.get(at).copied().unwrap_or(0)
 }
 
-fn size_of(a: u8, b: u8) -> usize
-    ensures { result ≡ number_of (a ∷ b ∷ []) }
-{
-    base_octets::be16(a, b) as usize
+// A whole field: its type, its instance, and where its value stands.
+#[derive(Clone, Copy)]
+pub struct Field {
+    pub kind: u8,
+    pub instance: u8,
+    pub found: Found,
 }
 
-// Whether a field runs past the end. Fewer than 4 octets left over are an overrun too.
+impl Field {
+    #[tactic(auto, unfolding(crate::specs::Search::named))]
+    fn named(self, kind: u8, instance: u8) -> bool
+        ensures { result ≡ named self kind instance }
+    {
+        (self.kind == kind) & (self.instance == instance)
+    }
+}
+
+// The whole fields from a place on, one after the other. A field that is cut, or runs past the end, ends the walk.
+#[derive(Clone, Copy)]
+struct Fields<'a> {
+    s: &'a [u8],
+    at: usize,
+}
+
+impl Iterator for Fields<'_> {
+    type Item = Field;
+
+    ghost next_gives = { YieldsFirst (λ f. fields_at f.s.now f.at) };
+
+    ghost remaining = { item_count (λ f. fields_at f.s.now f.at) };
+
+    fn next(&mut self) -> Option<Field> {
+        let rest = self.s.get(self.at..)?;
+        let [kind, high, low, fourth, behind @ ..] = rest else {
+            return None;
+        };
+        let size = usize::from(base_octets::be16(*high, *low));
+        if behind.len() < size {
+            return None;
+        }
+        let start = self.at + Found::BEFORE_VALUE;
+        self.at = start + size;
+        Some(Field {
+            kind: *kind,
+            instance: *fourth % 16,
+            found: Found { start, size },
+        })
+    }
+}
+
+// Whether a field runs past the end: the last whole field ends before the octets do. Fewer than 4 octets left over are an overrun too.
 pub fn overruns(s: &[u8]) -> bool
     ensures { result ≡ overruns s.now }
 {
-    let mut p: usize = 0;
-    while p < s.len() {
-        if s.len() - p < Found::BEFORE_VALUE {
-            return true;
-        }
-        let size = size_of(s[p + 1], s[p + 2]);
-        let start = p + Found::BEFORE_VALUE;
-        if s.len() - start < size {
-            return true;
-        }
-        p = start + size;
+    match (Fields { s, at: 0 }).last() {
+        Some(f) => f.found.start + f.found.size < s.len(),
+        None => !s.is_empty(),
     }
-    false
-}
-
-// Whether a field's first and fourth octet are those of a type and an instance.
-fn named(t: u8, i: u8, kind: u8, instance: u8) -> bool
-    ensures { result ≡ named t i kind instance }
-{
-    (t == kind) & (i % 16 == instance)
 }
 
 // The first field of a type and instance, among the whole fields.
-pub fn find(s: &[u8], kind: u8, instance: u8) -> Found
+pub fn find(s: &[u8], kind: u8, instance: u8) -> Option<Found>
     ensures { result ≡ find s.now kind instance }
 {
-    let mut p: usize = 0;
-    while p < s.len() {
-        if s.len() - p < Found::BEFORE_VALUE {
-            return Found::Missing;
-        }
-        let size = size_of(s[p + 1], s[p + 2]);
-        let start = p + Found::BEFORE_VALUE;
-        if s.len() - start < size {
-            return Found::Missing;
-        }
-        if named(s[p], s[p + 3], kind, instance) {
-            return Found::At { start, size };
-        }
-        p = start + size;
-    }
-    Found::Missing
+    let field = (Fields { s, at: 0 }).find(|f| f.named(kind, instance))?;
+    Some(field.found)
 }
 
 // Whether a field runs past the end of the message, or past the end of its first Bearer Context.
+#[tactic(auto, using(crate::specs::Search::find_within), unfolding(crate::specs::Overrun::over_in, crate::specs::Overrun::over_within))]
 pub fn over_in(s: &[u8]) -> bool
     ensures { result ≡ over_in s.now }
 {
     if overruns(s) {
         return true;
     }
-    let Found::At { start, size } = find(s, Found::BEARER_CONTEXT, 0) else {
+    let Some(bearer) = find(s, Found::BEARER_CONTEXT, 0) else {
         return false;
     };
-    let end = start + size;
-    overruns(&s[start..end])
+    overruns(bearer.of(s))
 }
 
-// Fifteen digits as one number, the first most significant.
-#[derive(Clone, Copy)]
-pub enum Imsi {
-    Value(u64),
+// Why a read gives no value: the field is not there, has too few octets, or has a value that is not accepted.
+#[derive(Clone, Copy, Debug, PartialEq, Eq)]
+pub enum Flaw {
     Missing,
     Short,
     Wrong,
 }
 
+// The field of the IMSI: fifteen digits, kept as one number, the first most significant.
 #[derive(Clone, Copy)]
-pub enum Tunnel {
-    Value { teid: u32, address: u32 },
-    Missing,
-    Short,
-    Wrong,
+pub struct Imsi {}
+
+// A tunnel end: its TEID and its IPv4 address.
+#[derive(Clone, Copy)]
+pub struct Tunnel {
+    pub teid: u32,
+    pub address: u32,
 }
 
 impl Imsi {
@@ -141,101 +166,96 @@ impl Tunnel {
     pub const INTERFACES: u8 = 64;
 }
 
-fn wide(x: u8) -> u64
-    ensures { result ≡ x }
-{
-    x as u64
-}
-
 // The two digits of an octet, the low half first.
 fn two_digits(low: u8, high: u8) -> u64
     ensures { result ≡ low * 10 + high }
 {
-    wide(low) * 10 + wide(high)
+    u64::from(low) * 10 + u64::from(high)
 }
 
 // The halves are tested from the sixteenth, the filler, back to the first: an IMSI that is wrong is mostly wrong at its end.
-fn digits(v: &[u8]) -> Imsi
-    requires { length v.now ≡ 8 }
+fn digits(v: &[u8; Imsi::SIZE]) -> Result<u64, Flaw>
     ensures { result ≡ digits_from 0 (halves v.now) }
 {
-    let mut i: usize = Imsi::SIZE - 1;
-    let last = v[i];
+    let end = Imsi::SIZE - 1;
+    let last = v[end];
     if last / 16 != Imsi::FILLER {
-        return Imsi::Wrong;
+        return Err(Flaw::Wrong);
     }
     if 9 < last % 16 {
-        return Imsi::Wrong;
+        return Err(Flaw::Wrong);
     }
-    let mut n = wide(last % 16);
+    let mut n = u64::from(last % 16);
     // what 1 is worth in front of the digits that n has
     let mut worth: u64 = 10;
-    while 0 < i {
-        i -= 1;
-        let x = v[i];
+    for x in v[..end].iter().rev() {
         if 9 < x / 16 {
-            return Imsi::Wrong;
+            return Err(Flaw::Wrong);
         }
         if 9 < x % 16 {
-            return Imsi::Wrong;
+            return Err(Flaw::Wrong);
         }
-        let two = two_digits(x % 16, x / 16);
-        n = two * worth + n;
-        worth = worth * 100;
+        n += two_digits(x % 16, x / 16) * worth;
+        worth *= 100;
     }
-    Imsi::Value(n)
+    Ok(n)
 }
 
 // The IMSI that a field's value holds.
-pub fn imsi_of(v: &[u8]) -> Imsi
+#[tactic(auto, unfolding(crate::specs::Imsi::imsi_of, crate::specs::Imsi::imsi_size))]
+pub fn imsi_of(v: &[u8]) -> Result<u64, Flaw>
     ensures { result ≡ imsi_of v.now }
 {
-    if v.len() < Imsi::SIZE {
-        return Imsi::Short;
-    }
-    let end = Imsi::SIZE;
-    digits(&v[0..end])
+    digits(v.first_chunk().ok_or(Flaw::Short)?)
 }
 
 // The F-TEID with an IPv4 address that a field's value holds, for the interface that is asked for.
-pub fn tunnel_of(v: &[u8], interface: u8) -> Tunnel
+#[tactic(auto, unfolding(crate::specs::Tunnel::tunnel_of, crate::specs::Tunnel::tunnel_good, crate::specs::Tunnel::tunnel_size, crate::specs::Tunnel::word_at))]
+pub fn tunnel_of(v: &[u8], interface: u8) -> Result<Tunnel, Flaw>
     ensures { result ≡ tunnel_of v.now interface }
 {
     if v.len() < Tunnel::SIZE {
-        return Tunnel::Short;
+        return Err(Flaw::Short);
     }
     let teid = base_octets::be32(v[1], v[2], v[3], v[4]);
     let address = base_octets::be32(v[5], v[6], v[7], v[8]);
     let flags = v[0];
     if (Tunnel::V4 <= flags) & (flags % Tunnel::INTERFACES == interface) & (0 < teid) {
-        return Tunnel::Value { teid, address };
+        return Ok(Tunnel { teid, address });
     }
-    Tunnel::Wrong
+    Err(Flaw::Wrong)
 }
 
-// A cause, and the field that it names, by type and instance, where it names one.
+// The field that a refusal names, by type and instance.
+#[derive(Clone, Copy)]
+pub struct Fault {
+    pub kind: u8,
+    pub instance: u8,
+}
+
+// A cause, and the field that it names, where it names one.
 #[derive(Clone, Copy)]
 pub struct Refusal {
     pub cause: u8,
-    pub kind: u8,
-    pub instance: u8,
-    pub named: bool,
+    pub fault: Option<Fault>,
 }
 
-// A value of one octet.
+// The fields that are read for one octet.
 #[derive(Clone, Copy)]
-pub enum Octet {
-    Value(u8),
-    Missing,
-    Short,
-    Wrong,
-}
+pub struct Octet {}
 
-// The peer's restart counter, where it came.
-#[derive(Clone, Copy)]
-pub enum Recovery {
-    None,
-    Value(u8),
+impl Flaw {
+    // What a request is refused with for it, by the type and instance of the field that was to be read.
+    #[tactic(auto, unfolding(crate::specs::Refusal::refusal_of))]
+    pub fn refusal(self, kind: u8, instance: u8) -> Refusal
+        ensures { result ≡ refusal_of self kind instance }
+    {
+        match self {
+            Flaw::Missing => Refusal::missing(kind, instance),
+            Flaw::Short => Refusal::short(kind, instance),
+            Flaw::Wrong => Refusal::wrong(kind, instance),
+        }
+    }
 }
 
 impl Refusal {
@@ -261,9 +281,7 @@ impl Refusal {
     {
         Refusal {
             cause: Self::MISSING,
-            kind,
-            instance,
-            named: true,
+            fault: Some(Fault { kind, instance }),
         }
     }
 
@@ -272,9 +290,7 @@ impl Refusal {
     {
         Refusal {
             cause: Self::SHORT,
-            kind,
-            instance,
-            named: true,
+            fault: Some(Fault { kind, instance }),
         }
     }
 
@@ -283,9 +299,7 @@ impl Refusal {
     {
         Refusal {
             cause: Self::WRONG,
-            kind,
-            instance,
-            named: true,
+            fault: Some(Fault { kind, instance }),
         }
     }
 
@@ -293,12 +307,7 @@ impl Refusal {
     pub fn bare(cause: u8) -> Self
         ensures { result ≡ bare_refusal cause }
     {
-        Refusal {
-            cause,
-            kind: 0,
-            instance: 0,
-            named: false,
-        }
+        Refusal { cause, fault: None }
     }
 }
 
@@ -324,124 +333,72 @@ impl Octet {
     pub const QOS_SIZE: usize = 22;
 }
 
-// What a read without a value is refused with.
-pub fn octet_refusal(f: Octet, kind: u8, instance: u8) -> Refusal
-    ensures { result ≡ octet_refusal f kind instance }
-{
-    match f {
-        Octet::Value(_) => Refusal::bare(0),
-        Octet::Missing => Refusal::missing(kind, instance),
-        Octet::Short => Refusal::short(kind, instance),
-        Octet::Wrong => Refusal::wrong(kind, instance),
-    }
-}
-
-pub fn imsi_refusal(f: Imsi, kind: u8, instance: u8) -> Refusal
-    ensures { result ≡ imsi_refusal f kind instance }
-{
-    match f {
-        Imsi::Value(_) => Refusal::bare(0),
-        Imsi::Missing => Refusal::missing(kind, instance),
-        Imsi::Short => Refusal::short(kind, instance),
-        Imsi::Wrong => Refusal::wrong(kind, instance),
-    }
-}
-
-pub fn tunnel_refusal(f: Tunnel, kind: u8, instance: u8) -> Refusal
-    ensures { result ≡ tunnel_refusal f kind instance }
-{
-    match f {
-        Tunnel::Value {
-            teid: _,
-            address: _,
-        } => Refusal::bare(0),
-        Tunnel::Missing => Refusal::missing(kind, instance),
-        Tunnel::Short => Refusal::short(kind, instance),
-        Tunnel::Wrong => Refusal::wrong(kind, instance),
-    }
-}
-
 // The first octet of a field of instance 0 that has at least so many octets.
-pub fn octet_in(s: &[u8], kind: u8, least: usize) -> Octet
+#[tactic(auto, unfolding(crate::specs::Readers::octet_in, crate::specs::Readers::octet_at))]
+pub fn octet_in(s: &[u8], kind: u8, least: usize) -> Result<u8, Flaw>
     ensures { result ≡ octet_in s.now kind least }
 {
-    let Found::At { start, size } = find(s, kind, 0) else {
-        return Octet::Missing;
-    };
-    if size < least {
-        return Octet::Short;
+    let found = find(s, kind, 0).ok_or(Flaw::Missing)?;
+    if found.size < least {
+        return Err(Flaw::Short);
     }
-    Octet::Value(octet_at(s, start))
+    Ok(octet_at(s, found.start))
 }
 
 // RAT Type: 1 or 6.
-pub fn rat_in(s: &[u8]) -> Octet
+#[tactic(auto, unfolding(crate::specs::Readers::rat_in))]
+pub fn rat_in(s: &[u8]) -> Result<u8, Flaw>
     ensures { result ≡ rat_in s.now }
 {
-    let f = octet_in(s, Octet::RAT, 1);
-    let Octet::Value(x) = f else {
-        return f;
-    };
+    let x = octet_in(s, Octet::RAT, 1)?;
     if (x == 1) | (x == 6) {
-        return f;
+        return Ok(x);
     }
-    Octet::Wrong
+    Err(Flaw::Wrong)
 }
 
 // The type of address that the PAA asks for.
-pub fn paa_in(s: &[u8]) -> Octet
+#[tactic(auto, unfolding(crate::specs::Readers::paa_in))]
+pub fn paa_in(s: &[u8]) -> Result<u8, Flaw>
     ensures { result ≡ paa_in s.now }
 {
-    let f = octet_in(s, Octet::PAA, Octet::PAA_SIZE);
-    let Octet::Value(x) = f else {
-        return f;
-    };
-    Octet::Value(x % 8)
+    let x = octet_in(s, Octet::PAA, Octet::PAA_SIZE)?;
+    Ok(x % 8)
 }
 
 // EBI: 5 to 15 in the low half.
-pub fn ebi_in(s: &[u8]) -> Octet
+#[tactic(auto, unfolding(crate::specs::Readers::ebi_in))]
+pub fn ebi_in(s: &[u8]) -> Result<u8, Flaw>
     ensures { result ≡ ebi_in s.now }
 {
-    let f = octet_in(s, Octet::EBI, 1);
-    let Octet::Value(x) = f else {
-        return f;
-    };
+    let x = octet_in(s, Octet::EBI, 1)?;
     if x % 16 < 5 {
-        return Octet::Wrong;
+        return Err(Flaw::Wrong);
     }
-    Octet::Value(x % 16)
+    Ok(x % 16)
 }
 
-pub fn imsi_in(s: &[u8]) -> Imsi
+#[tactic(auto, using(crate::specs::Search::find_within), unfolding(crate::specs::Readers::imsi_in, crate::specs::Readers::imsi_at))]
+pub fn imsi_in(s: &[u8]) -> Result<u64, Flaw>
     ensures { result ≡ imsi_in s.now }
 {
-    let Found::At { start, size } = find(s, Imsi::FIELD, 0) else {
-        return Imsi::Missing;
-    };
-    let end = start + size;
-    imsi_of(&s[start..end])
+    let found = find(s, Imsi::FIELD, 0).ok_or(Flaw::Missing)?;
+    imsi_of(found.of(s))
 }
 
 // The F-TEID of an instance, for an interface.
-pub fn tunnel_in(s: &[u8], instance: u8, interface: u8) -> Tunnel
+#[tactic(auto, using(crate::specs::Search::find_within), unfolding(crate::specs::Readers::tunnel_in, crate::specs::Readers::tunnel_at))]
+pub fn tunnel_in(s: &[u8], instance: u8, interface: u8) -> Result<Tunnel, Flaw>
     ensures { result ≡ tunnel_in s.now instance interface }
 {
-    let Found::At { start, size } = find(s, Tunnel::FIELD, instance) else {
-        return Tunnel::Missing;
-    };
-    let end = start + size;
-    tunnel_of(&s[start..end], interface)
+    let found = find(s, Tunnel::FIELD, instance).ok_or(Flaw::Missing)?;
+    tunnel_of(found.of(s), interface)
 }
 
 // The Recovery value; absent or empty is none.
-pub fn recovery_in(s: &[u8]) -> Recovery
+#[tactic(auto, unfolding(crate::specs::Readers::recovery_in, crate::specs::Readers::recovery_of))]
+pub fn recovery_in(s: &[u8]) -> Option<u8>
     ensures { result ≡ recovery_in s.now }
 {
-    match octet_in(s, Octet::RECOVERY, 1) {
-        Octet::Value(x) => Recovery::Value(x),
-        Octet::Missing => Recovery::None,
-        Octet::Short => Recovery::None,
-        Octet::Wrong => Recovery::None,
-    }
+    octet_in(s, Octet::RECOVERY, 1).ok()
 }

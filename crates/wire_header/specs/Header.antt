@@ -1,7 +1,7 @@
 -- The control header: octet 1 with version (3 bits), P, T and three ignored bits; type; length; TEID if T; 3-octet sequence number;
 -- a spare octet. Places are counted from 0 here. Every definition answers for any octets: past the end they count as 0.
 -- Assumes nothing.
-use Rattle.std.specs.Prelude.{ℕ, ◌/◌, ◌%◌, Bool, List, [], ◌∷◌, get_or, eqb}
+use Rattle.std.specs.Prelude.{ℕ, ◌+◌, ◌/◌, ◌%◌, Bool, List, [], ◌∷◌, get_or, eqb}
 use Rattle.base_octets.specs.Choice.{pick}
 use Rattle.base_octets.specs.BigEndian.{number_of}
 use Rattle.wire_header.specs.declared.HeaderCursor.{HeaderCursor}
@@ -26,15 +26,18 @@ length_of d = number_of (get_or d 2 0 ∷ get_or d 3 0 ∷ [])
 unfoldable pub with_teid : List ℕ → Bool
 with_teid d = eqb (flag_t d) 1
 
--- the four octets of a TEID; the sequence number behind a TEID, and without one
+-- the four octets of a TEID; the sequence number that begins at a place: behind a TEID, and without one
 unfoldable pub teid_octets : List ℕ → ℕ
 teid_octets d = number_of (get_or d 4 0 ∷ get_or d 5 0 ∷ get_or d 6 0 ∷ get_or d 7 0 ∷ [])
 
+abbrev pub sequence_at : List ℕ → ℕ → ℕ
+sequence_at d at = number_of (get_or d at 0 ∷ get_or d (at + 1) 0 ∷ get_or d (at + 2) 0 ∷ [])
+
 unfoldable pub sequence_behind : List ℕ → ℕ
-sequence_behind d = number_of (get_or d 8 0 ∷ get_or d 9 0 ∷ get_or d 10 0 ∷ [])
+sequence_behind d = sequence_at d 8
 
 unfoldable pub sequence_bare : List ℕ → ℕ
-sequence_bare d = number_of (get_or d 4 0 ∷ get_or d 5 0 ∷ get_or d 6 0 ∷ [])
+sequence_bare d = sequence_at d 4
 
 -- the TEID, 0 where there is none
 unfoldable pub teid_of : List ℕ → ℕ

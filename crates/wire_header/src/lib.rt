@@ -1,15 +1,18 @@
 // The header of a control datagram: the table of message types, the first refusals, and what the header says.
 #![tactic(auto)]
 
-ghost use Rattle.std.specs.Prelude.{◌≡◌, drop};
+ghost use Rattle.std.specs.Prelude.{◌≡◌, ◌+◌, ◌^◌, ◌<◌, drop, IfOk};
+ghost use Rattle.base_octets.specs.Refused.{answer_number};
 ghost use Rattle.wire_header.specs.Types.{flag_of, kind_by};
-ghost use Rattle.wire_header.specs.Header.{header_of, teid_octets, sequence_behind, sequence_bare};
+ghost use Rattle.wire_header.specs.Header.{header_of, teid_octets, sequence_at};
 ghost use Rattle.wire_header.specs.Gate.{gate_of};
 
-use base_octets::Number;
+use base_octets::Refused;
+use wire_fields::octet_at;
 use wire_messages::MessageType;
 
 // The T flag that each type is taken with: 0 or 1; 2 is none, the type is not taken.
+// Kept: document 01 names this form, a constant array of 256 small numbers and one lookup; its 2 is `not_taken` of specs/Types.
 const FLAGS: [u8; 256] = [
     2, 0, 0, 0, 2, 2, 2, 2, 2, 2, 2, 2, 2, 2, 2, 2, 2, 2, 2, 2, 2, 2, 2, 2, 2, 2, 2, 2, 2, 2, 2, 2,
     1, 2, 1, 2, 1, 2, 2, 2, 2, 2, 2, 2, 2, 2, 2, 2, 2, 2, 2, 2, 2, 2, 2, 2, 2, 2, 2, 2, 2, 2, 2, 2,
@@ -34,30 +37,21 @@ pub enum Kind {
     Other,
 }
 
-impl Kind {
+impl From<u8> for Kind {
+    ghost from_gives = { λ n kind. kind ≡ kind_by n };
+
     // The kind of a message by its type.
-    pub fn by(n: u8) -> Self
-        ensures { result ≡ kind_by n }
-    {
-        if n == MessageType::MODIFY {
-            return Kind::Modify;
+    #[tactic(auto, unfolding(crate::specs::Types::kind_by))]
+    fn from(n: u8) -> Kind {
+        match n {
+            MessageType::MODIFY => Kind::Modify,
+            MessageType::DELETE => Kind::Delete,
+            MessageType::CREATE => Kind::Create,
+            MessageType::BEARER_REPLY => Kind::BearerReply,
+            MessageType::ECHO => Kind::Echo,
+            MessageType::ECHO_REPLY => Kind::EchoReply,
+            _ => Kind::Other,
         }
-        if n == MessageType::DELETE {
-            return Kind::Delete;
-        }
-        if n == MessageType::CREATE {
-            return Kind::Create;
-        }
-        if n == MessageType::BEARER_REPLY {
-            return Kind::BearerReply;
-        }
-        if n == MessageType::ECHO {
-            return Kind::Echo;
-        }
-        if n == MessageType::ECHO_REPLY {
-            return Kind::EchoReply;
-        }
-        Kind::Other
     }
 }
 
@@ -66,6 +60,7 @@ impl Kind {
 pub struct HeaderCursor {
     pub kind: u8,
     // 0 where T is unset
+    // Kept: `header_of` of specs/Header has this number of any octets, and the promises on what a datagram asks for are said by it.
     pub teid: u32,
     pub sequence: u32,
     pub fields: usize,
@@ -75,44 +70,28 @@ pub struct HeaderCursor {
 pub fn flag_of(kind: u8) -> u8
     ensures { result ≡ flag_of kind }
 {
-    let at = kind as usize;
-    FLAGS[at]
+    FLAGS[usize::from(kind)]
 }
 
 // The four octets of a TEID.
+#[tactic(auto, unfolding(crate::specs::Header::teid_octets))]
 fn teid_octets(d: &[u8]) -> u32
     ensures { result ≡ teid_octets d.now }
 {
-    if 8 <= d.len() {
-        return base_octets::be32(d[4], d[5], d[6], d[7]);
-    }
-    let a = wire_fields::octet_at(d, 4);
-    let b = wire_fields::octet_at(d, 5);
-    let c = wire_fields::octet_at(d, 6);
-    base_octets::be32(a, b, c, wire_fields::octet_at(d, 7))
+    base_octets::be32(
+        octet_at(d, 4),
+        octet_at(d, 5),
+        octet_at(d, 6),
+        octet_at(d, 7),
+    )
 }
 
-// The sequence number behind a TEID, and without one.
-fn sequence_behind(d: &[u8]) -> u32
-    ensures { result ≡ sequence_behind d.now }
+// The sequence number whose three octets begin at a place.
+fn sequence_at(d: &[u8], at: usize) -> u32
+    requires { at + 2 < 2 ^ 64 }
+    ensures { result ≡ sequence_at d.now at }
 {
-    if 11 <= d.len() {
-        return base_octets::be24(d[8], d[9], d[10]);
-    }
-    let a = wire_fields::octet_at(d, 8);
-    let b = wire_fields::octet_at(d, 9);
-    base_octets::be24(a, b, wire_fields::octet_at(d, 10))
-}
-
-fn sequence_bare(d: &[u8]) -> u32
-    ensures { result ≡ sequence_bare d.now }
-{
-    if 7 <= d.len() {
-        return base_octets::be24(d[4], d[5], d[6]);
-    }
-    let a = wire_fields::octet_at(d, 4);
-    let b = wire_fields::octet_at(d, 5);
-    base_octets::be24(a, b, wire_fields::octet_at(d, 6))
+    base_octets::be24(octet_at(d, at), octet_at(d, at + 1), octet_at(d, at + 2))
 }
 
 impl HeaderCursor {
@@ -129,27 +108,26 @@ impl HeaderCursor {
     pub const NOT_TAKEN: u8 = 2;
 
     // The header at the front of a datagram.
+    #[tactic(auto, unfolding(crate::specs::Header::header_of, crate::specs::Header::kind_of, crate::specs::Header::teid_of, crate::specs::Header::sequence_of, crate::specs::Header::header_size, crate::specs::Header::with_teid, crate::specs::Header::flag_t, crate::specs::Header::sequence_behind, crate::specs::Header::sequence_bare))]
     pub fn of(d: &[u8]) -> Self
         ensures { result ≡ header_of d.now }
     {
-        let kind = wire_fields::octet_at(d, 1);
-        let flags = wire_fields::octet_at(d, 0);
+        let kind = octet_at(d, 1);
+        let flags = octet_at(d, 0);
         if flags / 8 % 2 == 1 {
-            let teid = teid_octets(d);
-            let sequence = sequence_behind(d);
-            return HeaderCursor {
+            HeaderCursor {
                 kind,
-                teid,
-                sequence,
+                teid: teid_octets(d),
+                sequence: sequence_at(d, Self::BARE),
                 fields: Self::WITH_TEID,
-            };
-        }
-        let sequence = sequence_bare(d);
-        HeaderCursor {
-            kind,
-            teid: 0,
-            sequence,
-            fields: Self::BARE,
+            }
+        } else {
+            HeaderCursor {
+                kind,
+                teid: 0,
+                sequence: sequence_at(d, Self::NOT_COUNTED),
+                fields: Self::BARE,
+            }
         }
     }
 
@@ -157,45 +135,43 @@ impl HeaderCursor {
     pub fn rest(self, d: &[u8]) -> &[u8]
         ensures { result.now ≡ drop self.fields d.now }
     {
-        let at = self.fields;
-        if at <= d.len() {
-            return &d[at..];
-        }
-        &d[0..0]
+        &d[self.fields.min(d.len())..]
     }
 }
 
-// The first refusal of a datagram by its header, or 0 where it passes.
-pub fn gate(d: &[u8]) -> u8
-    ensures { result ≡ gate_of d.now }
+// The header of a datagram where it passes, else the first refusal by it.
+#[tactic(auto, unfolding(crate::specs::Gate::gate_of, crate::specs::Gate::control_version, crate::specs::Types::not_taken, crate::specs::Header::version_of, crate::specs::Header::flag_p, crate::specs::Header::flag_t, crate::specs::Header::kind_of, crate::specs::Header::length_of, crate::specs::Header::header_size, crate::specs::Header::header_of))]
+pub fn gate(d: &[u8]) -> Result<HeaderCursor, Refused>
+    ensures number { answer_number result ≡ gate_of d.now }
+    ensures header { IfOk result (λ h. h ≡ header_of d.now) }
 {
     if d.len() < HeaderCursor::BARE {
-        return Number::UNDER_EIGHT;
+        return Err(Refused::UnderEight);
     }
     let first = d[0];
     if first / 32 != HeaderCursor::VERSION {
-        return Number::OTHER_VERSION;
+        return Err(Refused::OtherVersion);
     }
     if first / 16 % 2 == 1 {
-        return Number::FLAG_P_SET;
+        return Err(Refused::FlagPSet);
     }
     let flag = flag_of(d[1]);
     if flag == HeaderCursor::NOT_TAKEN {
-        return Number::TYPE_NOT_TAKEN;
+        return Err(Refused::TypeNotTaken);
     }
     if flag != first / 8 % 2 {
-        return Number::TEID_UNFIT;
+        return Err(Refused::TeidUnfit);
     }
-    let stated = base_octets::be16(d[2], d[3]) as usize;
+    let stated = usize::from(base_octets::be16(d[2], d[3]));
     if stated + HeaderCursor::NOT_COUNTED != d.len() {
-        return Number::LENGTH_UNFIT;
+        return Err(Refused::LengthUnfit);
     }
     let h = HeaderCursor::of(d);
     if d.len() < h.fields {
-        return Number::LENGTH_UNFIT;
+        return Err(Refused::LengthUnfit);
     }
     if (h.kind == MessageType::CREATE) & (0 < h.teid) {
-        return Number::TEID_UNFIT;
+        return Err(Refused::TeidUnfit);
     }
-    Number::TAKEN
+    Ok(h)
 }

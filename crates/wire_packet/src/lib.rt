@@ -20,6 +20,7 @@ impl Packet {
 }
 
 // Whether this is one whole IPv4 packet, by its header: version, length of the header, total length.
+#[tactic(auto, unfolding(crate::specs::Packet::whole_packet))]
 pub fn whole_packet(d: &[u8]) -> bool
     ensures { result ≡ whole_packet d.now }
 {
@@ -27,8 +28,8 @@ pub fn whole_packet(d: &[u8]) -> bool
         return false;
     }
     let first = d[0];
-    let header = base_octets::wide(first % 16) * Packet::UNIT;
-    let total = base_octets::be16(d[2], d[3]) as usize;
+    let header = usize::from(first % 16) * Packet::UNIT;
+    let total = usize::from(base_octets::be16(d[2], d[3]));
     (first / 16 == Packet::VERSION)
         & (Packet::LEAST <= header)
         & (header <= total)
@@ -36,6 +37,8 @@ pub fn whole_packet(d: &[u8]) -> bool
 }
 
 // The destination address; 0 where the header is cut.
+// Kept: `destination_of` of specs/Packet is said of any octets, 0 where these are cut, and crate call_down's `place_for` stands on it.
+#[tactic(auto, unfolding(crate::specs::Packet::destination_of))]
 pub fn destination_of(d: &[u8]) -> u32
     ensures { result ≡ destination_of d.now }
 {

@@ -1,28 +1,23 @@
 -- Create (32), read from the octets behind its header under a plan: first the overruns, then the fields in document 01's order, then an unknown APN (78)
 -- and the type of the PAA (83), then Recovery.
 -- Assumes nothing.
-use Rattle.std.specs.Prelude.{ℕ, ◌<◌, ◌≤◌, not, List, eqb}
+use Rattle.std.specs.Prelude.{ℕ, ◌<◌, ◌≤◌, not, List, eqb, Result, Ok, Err}
 use Rattle.base_octets.specs.Choice.{pick}
 use Rattle.wire_fields.specs.Walk.{part}
 use Rattle.wire_fields.specs.Search.{find}
 use Rattle.wire_fields.specs.Overrun.{over_in}
 use Rattle.wire_fields.specs.Imsi.{imsi_limit}
+use Rattle.wire_fields.specs.declared.Flaw.{Flaw}
 use Rattle.wire_fields.specs.declared.Tunnel.{Tunnel}
-use Rattle.wire_fields.specs.declared.Tunnel.TheVariants as T
 use Rattle.wire_fields.specs.Refusal.{short_cause, unknown_apn_cause, address_type_cause}
 use Rattle.wire_fields.specs.Kinds.{imsi_kind, rat_kind, tunnel_kind, apn_kind, paa_kind, bearer_kind, ebi_kind, qos_kind}
 use Rattle.wire_fields.specs.Readers.{imsi_in, rat_in, tunnel_in, paa_in, ebi_in, octet_in, recovery_in}
 use Rattle.unit_plan.specs.declared.Plan.{Plan}
 use Rattle.unit_plan.specs.Limits.{used}
 use Rattle.unit_plan.specs.Names.{named_in}
-use Rattle.wire_requests.specs.declared.Sender.{Sender}
-use Rattle.wire_requests.specs.declared.Wanted.{Wanted}
-use Rattle.wire_requests.specs.declared.Bearer.{Bearer}
 use Rattle.wire_requests.specs.declared.Create as C
 use Rattle.wire_requests.specs.declared.Request.TheVariants.{Create}
-use Rattle.wire_requests.specs.declared.Decoded.{Decoded}
-use Rattle.wire_requests.specs.declared.Decoded.TheVariants.{Sound}
-use Rattle.wire_requests.specs.Chain.{refused_by, place, octet, imsi, tunnel, point}
+use Rattle.wire_requests.specs.Chain.{Decoded, refused_by, place, field, point}
 
 -- the one PAA type that is served: IPv4
 abbrev pub ipv4 : ℕ
@@ -31,64 +26,32 @@ ipv4 = 1
 unfoldable pub create_of : Plan → List ℕ → Decoded
 create_of plan s =
     refused_by short_cause (over_in s) (
-    imsi imsi_kind 0 (imsi_in s) λ imsi.
-    octet rat_kind 0 (rat_in s) λ rat.
-    tunnel tunnel_kind 0 (tunnel_in s 0 6) λ control controladdr.
+    field imsi_kind 0 (imsi_in s) λ imsi.
+    field rat_kind 0 (rat_in s) λ rat.
+    field tunnel_kind 0 (tunnel_in s 0 6) λ control.
     place apn_kind 0 (find s apn_kind 0) λ apn size.
-    octet paa_kind 0 (paa_in s) λ paa.
+    field paa_kind 0 (paa_in s) λ paa.
     place bearer_kind 0 (find s bearer_kind 0) λ start all.
-    octet ebi_kind 0 (ebi_in (part s start all)) λ ebi.
-    tunnel tunnel_kind 2 (tunnel_in (part s start all) 2 4) λ user useraddr.
-    octet qos_kind 0 (octet_in (part s start all) qos_kind 22) λ qos.
+    field ebi_kind 0 (ebi_in (part s start all)) λ ebi.
+    field tunnel_kind 2 (tunnel_in (part s start all) 2 4) λ user.
+    field qos_kind 0 (octet_in (part s start all) qos_kind 22) λ qos.
     point unknown_apn_cause (named_in (used plan) (part s apn size)) λ point.
     refused_by address_type_cause (not (eqb paa ipv4)) (
-    Sound (Create (record {
+    Ok (Create (record {
       imsi = imsi;
       ebi = ebi;
-      control = control;
-      controladdr = controladdr;
-      user = user;
-      useraddr = useraddr;
+      control = control.teid;
+      controladdr = control.address;
+      user = user.teid;
+      useraddr = user.address;
       point = point;
       recovery = recovery_in s;
     }))))
 
--- ---- the same in stages, as it is read: of the message, of the Bearer Context, and what is settled after the list
-unfoldable pub settled_of : Sender → Wanted → Bearer → Decoded
-settled_of who what bearer =
-    point unknown_apn_cause what.named λ point.
-    refused_by address_type_cause (not (eqb what.paa ipv4)) (
-    Sound (Create (record {
-      imsi = who.imsi;
-      ebi = bearer.ebi;
-      control = who.control;
-      controladdr = who.controladdr;
-      user = bearer.user;
-      useraddr = bearer.useraddr;
-      point = point;
-      recovery = what.recovery;
-    })))
-
-unfoldable pub bearer_of : List ℕ → Sender → Wanted → Decoded
-bearer_of b who what =
-    octet ebi_kind 0 (ebi_in b) λ ebi.
-    tunnel tunnel_kind 2 (tunnel_in b 2 4) λ user useraddr.
-    octet qos_kind 0 (octet_in b qos_kind 22) λ qos.
-    settled_of who what (record { ebi = ebi; user = user; useraddr = useraddr })
-
-unfoldable pub wanted_of : Plan → List ℕ → Sender → Decoded
-wanted_of plan s who =
-    place apn_kind 0 (find s apn_kind 0) λ apn size.
-    octet paa_kind 0 (paa_in s) λ paa.
-    place bearer_kind 0 (find s bearer_kind 0) λ start all.
-    bearer_of (part s start all) who (record { named = named_in (used plan) (part s apn size); paa = paa; recovery = recovery_in s })
-
 -- the TEID that a cause reply to a Create goes to: that of a Sender F-TEID that passes its own checks, else 0; 0 after an overrun
-unfoldable pub teid_in : Tunnel → ℕ
-teid_in (T.Value teid address) = teid
-teid_in T.Missing = 0
-teid_in T.Short = 0
-teid_in T.Wrong = 0
+unfoldable pub teid_in : Result Tunnel Flaw → ℕ
+teid_in (Ok t) = t.teid
+teid_in (Err e) = 0
 
 unfoldable pub reply_to : List ℕ → ℕ
 reply_to s = pick {A = ℕ} (over_in s) 0 (teid_in (tunnel_in s 0 6))

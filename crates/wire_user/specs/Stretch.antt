@@ -1,7 +1,7 @@
 -- The walk over the extension headers in stretches of a few headers each, so that how deep the calls go is not the sender's choice.
 -- Assumes nothing.
 use Prim.Native.Nat.{ℕ, zero, suc, ◌+◌, ◌-◌, ◌<◌, ◌≤◌}
-use Rattle.std.specs.Prelude.{true, false, ◌||◌, List, ◌≡◌, refl, length, drop, get_or, eqb, leb, ltb}
+use Rattle.std.specs.Prelude.{true, false, ◌||◌, List, ◌≡◌, refl, length, drop, get_or, eqb, leb, ltb, Result, Ok, Err}
 use Rattle.std.proofs.Common.{sym, ◌∙◌, ap, zero-add, drop-drop}
 use Rattle.std.proofs.Math.Nat.{sub-zero}
 use native.Mathlib.Omega.{arith}
@@ -9,6 +9,9 @@ use Rattle.std.proofs.Math.ListN.{length-drop}
 use borrow.Author.Tests.{eq-eqb, ne_eqb, le-leb, lt-leb, eqb-true, eqb-false, leb-true, leb-false}
 use Rattle.base_octets.specs.Number.{taken, part_cut, must_understand}
 use Rattle.base_octets.specs.Choice.{pick, split}
+use Rattle.base_octets.specs.declared.refused.Refused.{Refused}
+use Rattle.base_octets.specs.Refused.{refused_number}
+use Rattle.wire_user.specs.declared.Pause.{Pause}
 use Rattle.wire_user.specs.Extensions.{Walk, beyond, first_must, extent, unfit, next_type, extensions_of, ext_end, ext_must, ext_unfit, ext_next, fit_extent}
 
 -- where a stretch stops: the number, the type in front of which it pauses (0 where the walk has ended), the octets left
@@ -22,6 +25,11 @@ stretch number next left = record { number = number; next = next; left = left }
 
 abbrev pub ended_walk : ℕ → ℕ → Stretch
 ended_walk number left = stretch number 0 left
+
+-- what a stretch answers: where it pauses, or why the walk has ended with nothing left
+abbrev pub stretch_said : Result Pause Refused → Stretch
+stretch_said (Ok p) = stretch taken p.next p.left
+stretch_said (Err why) = ended_walk (refused_number why) 0
 
 abbrev pub judged_walk : List ℕ → ℕ → Stretch → Stretch
 judged_walk l type s =
@@ -164,3 +172,9 @@ module _ (d : List ℕ) (number next left : ℕ) where
         let q : resumed (drop (length d - left) d) s ≡ extensions_of (drop (length d - left) d) next
         = rw is (stretch_whole n (drop (length d - left) d) next) in
         p ∙ rw q (rw (ne_eqb next 0 some))
+
+-- a stretch that ends with a refusal is the walk's refusal
+pub run_refused : (d : List ℕ) (number next left : ℕ) → (next ≡ 0 → ⊥) → left ≤ length d → (n why : ℕ)
+    → ended_walk why 0 ≡ stretch_of n (drop (length d - left) d) next → {w : Walk} → resumed d (stretch number next left) ≡ w → w.number ≡ why
+run_refused d number next left some within n why is {w} i =
+    rw (← i, ← run_on d number next left some within n (ended_walk why 0) is, run-done d why 0 0 refl)

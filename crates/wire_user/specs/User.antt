@@ -24,19 +24,23 @@ user_of d =
 -- ---- laws
 -- the ways to the answer: what a reader that goes that way hands back
 module _ (d : List ℕ) where
-  pub user_refused : (refusal_of d ≡ taken → ⊥) → ((user_of d).number ≡ refusal_of d) × ((user_of d).size ≡ length d)
+  pub user_refused : (refusal_of d ≡ taken → ⊥) → user_of d ≡ refused (refusal_of d) d
   unfolding user_of
-  user_refused h = rw (ne_eqb (refusal_of d) taken h) (refl, refl)
+  user_refused h = rw (ne_eqb (refusal_of d) taken h)
 
   pub user_plain : (n : ℕ) → n ≡ size_of (user_octet d 0) → refusal_of d ≡ taken → extended (user_octet d 0) ≡ false
       → ((user_of d).number ≡ taken) × ((user_of d).size ≡ n)
   unfolding user_of first_type
   user_plain n s h e = rw (eq-eqb (refusal_of d) taken h, e, ext_end (drop (size_of (user_octet d 0)) d) 0 refl, add-zero, s) (refl, refl)
 
-  pub user_extended : (n : ℕ) → n ≡ size_of (user_octet d 0) → refusal_of d ≡ taken → extended (user_octet d 0) ≡ true
-      → ((user_of d).number ≡ (extensions_of (drop n d) (user_octet d 11)).number) × ((user_of d).size ≡ n + (extensions_of (drop n d) (user_octet d 11)).size)
-  unfolding user_of first_type
-  user_extended n s h e = rw (eq-eqb (refusal_of d) taken h, e, s) (refl, refl)
+  module _ (n : ℕ) (s : n ≡ size_of (user_octet d 0)) (h : refusal_of d ≡ taken) (e : extended (user_octet d 0) ≡ true) where
+    pub user_past : user_of d ≡ beyond n (extensions_of (drop n d) (user_octet d 11))
+    unfolding user_of first_type
+    user_past = rw (eq-eqb (refusal_of d) taken h, e, s)
+
+    pub user_extended : ((user_of d).number ≡ (extensions_of (drop n d) (user_octet d 11)).number)
+        × ((user_of d).size ≡ n + (extensions_of (drop n d) (user_octet d 11)).size)
+    user_extended = rw user_past (refl, refl)
 
 -- a datagram that is taken has a header that is
 pub user_passed : (d : List ℕ) → (user_of d).number ≡ taken → refusal_of d ≡ taken

@@ -1,15 +1,16 @@
 // Reading user datagrams (GTPv1-U), without the table: what a datagram is by its header, and its payload as a part of it.
 #![tactic(auto)]
 
-ghost use Rattle.std.specs.Prelude.{◌≡◌, ◌*◌, length};
+ghost use Rattle.std.specs.Prelude.{◌≡◌, ◌*◌};
+ghost use Rattle.base_octets.specs.Refused.{answer_number};
 ghost use Rattle.base_octets.specs.Number.{taken};
 ghost use Rattle.wire_user.specs.Header.{ours, extended, sequenced, optional, type_taken, type_of, user_teid_of, user_sequence_of, refusal_of, user_header_of};
 ghost use Rattle.wire_user.specs.Extensions.{extent, extensions_of};
-ghost use Rattle.wire_user.specs.Stretch.{stretch, stretch_of};
+ghost use Rattle.wire_user.specs.Stretch.{stretch_said, stretch_of};
 ghost use Rattle.wire_user.specs.User.{user_of};
 ghost use Rattle.wire_user.specs.Part.{Reads};
 
-use base_octets::Number;
+use base_octets::Refused;
 use unit_tunnel::UserTeid;
 
 // What a user datagram is, as its first 12 octets say: that it is not refused is another question.
@@ -39,6 +40,7 @@ impl Header {
     pub const STRETCH: usize = 15;
 
     // What the datagram says; no refusal is judged here.
+    #[tactic(auto, unfolding(crate::specs::Header::user_header_of))]
     pub fn of(d: &[u8]) -> Self
         ensures { result ≡ user_header_of d.now }
     {
@@ -54,6 +56,7 @@ impl Header {
 }
 
 // The first octet: version 1 and PT 1; the flags E and S; whether any of E, S and PN is set.
+#[tactic(auto, unfolding(crate::specs::Header::ours))]
 fn ours(first: u8) -> bool
     ensures { result ≡ ours first }
 {
@@ -72,55 +75,54 @@ fn sequenced(first: u8) -> bool
     first / 2 % 2 == 1
 }
 
+#[tactic(auto, unfolding(crate::specs::Header::optional))]
 fn optional(first: u8) -> bool
     ensures { result ≡ optional first }
 {
     (first / 4 % 2 == 1) | (first / 2 % 2 == 1) | (first % 2 == 1)
 }
 
+#[tactic(auto, unfolding(crate::specs::Header::type_taken))]
 fn type_taken(kind: u8) -> bool
     ensures { result ≡ type_taken kind }
 {
     (kind == Header::ECHO) | (kind == Header::PACKET)
 }
 
-// The number of the first refusal that the header meets, or 0.
-fn refusal(d: &[u8]) -> u8
-    ensures { result ≡ refusal_of d.now }
+// The first refusal that the header meets.
+#[tactic(auto, unfolding(crate::specs::Header::refusal_of))]
+fn refusal(d: &[u8]) -> Result<(), Refused>
+    ensures { answer_number result ≡ refusal_of d.now }
 {
     if d.len() < Header::FIXED {
-        return Number::UNDER_EIGHT;
+        return Err(Refused::UnderEight);
     }
     let first = d[0];
     if !ours(first) {
-        return Number::NOT_USER;
+        return Err(Refused::NotUser);
     }
-    let length = base_octets::be16(d[2], d[3]);
-    if length as usize != d.len() - Header::FIXED {
-        return Number::LENGTH_UNFIT;
+    let length = usize::from(base_octets::be16(d[2], d[3]));
+    if length != d.len() - Header::FIXED {
+        return Err(Refused::LengthUnfit);
     }
     if !type_taken(d[1]) {
-        return Number::TYPE_NOT_TAKEN;
+        return Err(Refused::TypeNotTaken);
     }
-    if !optional(first) {
-        return Number::TAKEN;
+    if optional(first) & (d.len() < Header::WHOLE) {
+        return Err(Refused::PartCut);
     }
-    if d.len() < Header::WHOLE {
-        return Number::PART_CUT;
-    }
-    Number::TAKEN
+    Ok(())
 }
 
 // The message type, the tunnel number and the sequence number (0 if S is unset); each is 0 where the datagram is too short for it.
 fn type_of(d: &[u8]) -> u8
     ensures { result ≡ type_of d.now }
 {
-    if d.len() < 2 {
-        return 0;
-    }
-    d[1]
+    d.get(1).copied().unwrap_or(0)
 }
 
+// Kept: `user_teid_of` and `user_sequence_of` of specs/Header are said of any octets, 0 where these are cut, and `place_in` stands on it.
+#[tactic(auto, unfolding(crate::specs::Header::user_teid_of))]
 pub fn user_teid_of(d: &[u8]) -> UserTeid
     ensures { result.0 ≡ user_teid_of d.now }
 {
@@ -130,6 +132,7 @@ pub fn user_teid_of(d: &[u8]) -> UserTeid
     UserTeid(base_octets::be32(d[4], d[5], d[6], d[7]))
 }
 
+#[tactic(auto, unfolding(crate::specs::Header::user_sequence_of))]
 fn user_sequence_of(d: &[u8]) -> u16
     ensures { result ≡ user_sequence_of d.now }
 {
@@ -146,88 +149,80 @@ fn user_sequence_of(d: &[u8]) -> u16
 fn extent(rest: &[u8]) -> usize
     ensures { result ≡ extent rest.now }
 {
-    if rest.len() == 0 {
-        return 0;
+    match rest.first() {
+        Some(units) => usize::from(*units) * Header::UNIT,
+        None => 0,
     }
-    base_octets::wide(rest[0]) * Header::UNIT
 }
 
-// Nothing is left: the empty end of d, and the number why.
-pub fn refuse<'a>(d: &'a [u8], why: u8, number: &mut u8) -> &'a [u8]
-    ensures { Reads number.new result d.entry why (length d.now) }
-{
-    *number = why;
-    &d[d.len()..]
+// Where a walk over extension headers pauses: the type of the header in front, 0 where the walk has ended, and how many octets are left.
+#[derive(Clone, Copy)]
+struct Pause {
+    next: u8,
+    left: usize,
 }
 
 // A stretch of the walk over the extension headers in rest: past the one in front, of the type next, and at most so many more.
-// It answers how many octets are left; next becomes the type in front of which it pauses, 0 where the walk has ended.
-fn walk(rest: &[u8], more: usize, next: &mut u8, number: &mut u8) -> usize
-    ensures { stretch number.new next.new result ≡ stretch_of more rest.now next.old }
+fn walk(rest: &[u8], next: u8, more: usize) -> Result<Pause, Refused>
+    ensures { stretch_said result ≡ stretch_of more rest.now next }
 {
-    let kind = *next;
-    if kind == 0 {
-        *number = Number::TAKEN;
-        return rest.len();
+    if next == 0 {
+        return Ok(Pause {
+            next,
+            left: rest.len(),
+        });
     }
-    if Header::FIRST_MUST <= kind {
-        *next = 0;
-        *number = Number::MUST_UNDERSTAND;
-        return 0;
+    if Header::FIRST_MUST <= next {
+        return Err(Refused::MustUnderstand);
     }
     let n = extent(rest);
     if (n == 0) | (rest.len() < n) {
-        *next = 0;
-        *number = Number::PART_CUT;
-        return 0;
+        return Err(Refused::PartCut);
     }
-    *next = rest[n - 1];
+    let following = rest[n - 1];
     if more == 0 {
-        *number = Number::TAKEN;
-        return rest.len() - n;
+        return Ok(Pause {
+            next: following,
+            left: rest.len() - n,
+        });
     }
-    walk(&rest[n..], more - 1, next, number)
+    walk(&rest[n..], following, more - 1)
 }
 
 // What is left past the extension headers in d, of which the first has the type first.
-fn past_extensions<'a>(d: &'a [u8], first: u8, number: &mut u8) -> &'a [u8]
-    ensures { Reads number.new result d.entry (extensions_of d.now first).number
-        (extensions_of d.now first).size }
+fn past_extensions<'a>(d: &'a [u8], first: u8) -> Result<&'a [u8], Refused>
+    ensures { Reads result d.entry (extensions_of d.now first) }
 {
-    let mut next = first;
-    let mut left = d.len();
-    *number = Number::TAKEN;
-    while next != 0 {
-        left = walk(&d[d.len() - left..], Header::STRETCH, &mut next, number);
+    let mut at = Pause {
+        next: first,
+        left: d.len(),
+    };
+    while at.next != 0 {
+        at = walk(&d[d.len() - at.left..], at.next, Header::STRETCH)?;
     }
-    &d[d.len() - left..]
+    Ok(&d[d.len() - at.left..])
 }
 
 // What lies past a header that meets no refusal, and past its extension headers.
-fn past_header<'a>(d: &'a [u8], number: &mut u8) -> &'a [u8]
+fn past_header<'a>(d: &'a [u8]) -> Result<&'a [u8], Refused>
     requires { refusal_of d.now ≡ taken }
-    ensures { Reads number.new result d.entry (user_of d.now).number (user_of d.now).size }
+    ensures { Reads result d.entry (user_of d.now) }
 {
     let first = d[0];
     if !optional(first) {
-        *number = Number::TAKEN;
-        return &d[Header::FIXED..];
+        return Ok(&d[Header::FIXED..]);
     }
     if !extended(first) {
-        *number = Number::TAKEN;
-        return &d[Header::WHOLE..];
+        return Ok(&d[Header::WHOLE..]);
     }
     let next = d[11];
-    past_extensions(&d[Header::WHOLE..], next, number)
+    past_extensions(&d[Header::WHOLE..], next)
 }
 
-// The payload, as the part of the datagram that it is, and document 01's number.
-pub fn payload<'a>(d: &'a [u8], number: &mut u8) -> &'a [u8]
-    ensures { Reads number.new result d.entry (user_of d.now).number (user_of d.now).size }
+// The payload, as the part of the datagram that it is, or why there is none.
+pub fn payload<'a>(d: &'a [u8]) -> Result<&'a [u8], Refused>
+    ensures { Reads result d.entry (user_of d.now) }
 {
-    let why = refusal(d);
-    if why != Number::TAKEN {
-        return refuse(d, why, number);
-    }
-    past_header(d, number)
+    refusal(d)?;
+    past_header(d)
 }

@@ -1,28 +1,44 @@
-use mathlib.Core.Path.{sym, ◌∙◌}
-use borrow.Author.Tests.{eq-eqb, ne_eqb}
-use Rattle.base_numerals.specs.Decimal.{number_in, read_stop, read_on, read_big, read_end}
+use Rattle.std.proofs.Common.{sym, ◌∙◌, arith}
+use Rattle.base_numerals.specs.Decimal.{is_digit, number_in, read_stop, read_on, read_over, read_end}
 use Rattle.base_numerals.proofs.number_in.Goals as goal
 
-pub returns-then-text-eq0 : goal.returns-then-text-eq0
+pub returns-then-is_empty : goal.returns-then-is_empty
 unfolding number_in
-returns-then-text-eq0 c = rw (eq-eqb _ _ c.if-text-eq0.true)
+returns-then-is_empty c = rw (← c.if-is_empty.ensures)
 
-pub loop-i-init : goal.loop-i-init
+pub loop-c-init : goal.loop-c-init
 unfolding number_in
-loop-i-init c = rw (ne_eqb _ _ c.if-text-eq0.false)
+loop-c-init c = (omega arith, rw (← c.if-is_empty.ensures))
 
-pub returns-then-not-ok : goal.returns-then-not-ok
-returns-then-not-ok c = let k = c.loop-i in let a = c.args in
-    sym (k.invariant ∙ read_stop a.text.now k.i k.n _ c.loop-i-test.true (sym c.is_digit-ok.ensures ∙ c.if-not-ok.true))
+pub returns-then-not-is_ascii_digit : goal.returns-then-not-is_ascii_digit
+unfolding is_digit
+returns-then-not-is_ascii_digit c =
+    let k = c.loop-c in
+    sym (k.invariant.1 ∙ read_stop c.args.text.now k.c-index k.n 0 c.loop-c-test.true (sym c.if-not-is_ascii_digit.ensures.value))
 
-pub loop-i-preserved : goal.loop-i-preserved
-loop-i-preserved c = let k = c.loop-i in let a = c.args in
-    rw c.with_digit-n.ensures (k.invariant ∙ read_on a.text.now k.i k.n _ c.loop-i-test.true (sym c.is_digit-ok.ensures ∙ c.if-not-ok.false))
+pub returns-in_err-checked_mul : goal.returns-in_err-checked_mul
+unfolding is_digit
+returns-in_err-checked_mul c =
+    let k = c.loop-c in
+    let e = c.in_err-checked_mul.ensures in
+    c.from_residual.ensures ∙ sym (k.invariant.1 ∙ read_over c.args.text.now k.c-index k.n 0 c.loop-c-test.true (sym c.if-not-is_ascii_digit.ensures.value) (omega arith))
 
-pub returns-then-n-gt255 : goal.returns-then-n-gt255
-returns-then-n-gt255 c = let k = c.loop-i in let a = c.args in
-    sym (k.invariant ∙ read_big a.text.now k.i k.n c.loop-i-test.false c.if-n-gt255.true)
+pub returns-in_err-n : goal.returns-in_err-n
+unfolding is_digit
+returns-in_err-n c =
+    let k = c.loop-c in
+    let d = c.in_ok-checked_mul.ensures in
+    let e = c.in_err-n.ensures in
+    c.from_residual-in_err-n.ensures ∙ sym (k.invariant.1 ∙ read_over c.args.text.now k.c-index k.n 0 c.loop-c-test.true (sym c.if-not-is_ascii_digit.ensures.value) (omega arith))
+
+pub loop-c-preserved : goal.loop-c-preserved
+unfolding is_digit
+loop-c-preserved c =
+    let k = c.loop-c in (
+      let b = c.in_ok-n.ensures in omega arith,
+      rw (c.in_ok-n.ensures.1, c.in_ok-checked_mul.ensures.1)
+          (k.invariant.1 ∙ read_on c.args.text.now k.c-index k.n 0 c.loop-c-test.true (sym c.if-not-is_ascii_digit.ensures.value)),
+    )
 
 pub returns : goal.returns
-returns c = let k = c.loop-i in let a = c.args in
-    sym (k.invariant ∙ read_end a.text.now k.i k.n c.loop-i-test.false c.if-n-gt255.false)
+returns c = let k = c.loop-c in sym (k.invariant.1 ∙ read_end c.args.text.now k.c-index k.n c.loop-c-test.false (omega arith))

@@ -1,17 +1,14 @@
-use mathlib.Core.Path.{sym, ◌∙◌}
-use borrow.Author.Tests.{eq-eqb, ne_eqb}
-use Rattle.base_numerals.specs.Hex.{word_in, octets_eight}
+use Rattle.std.proofs.Common.{refl, ◌∙◌}
+use borrow.Author.Tests.{ne_eqb}
+use Rattle.base_numerals.specs.Hex.{word_in, word_none, word_read}
 use Rattle.base_numerals.proofs.word_in.Goals as goal
 
 pub returns-then-text-ne8 : goal.returns-then-text-ne8
 unfolding word_in
 returns-then-text-ne8 c = rw (ne_eqb _ _ c.if-text-ne8.true)
 
-pub returns-then-not-ok : goal.returns-then-not-ok
-unfolding word_in
-returns-then-not-ok c = rw (eq-eqb _ _ c.if-text-ne8.false, sym c.all_hex-ok.ensures ∙ c.if-not-ok.true)
+pub returns-in_err-read_octets : goal.returns-in_err-read_octets
+returns-in_err-read_octets c = c.from_residual.ensures ∙ word_none _ _ _ c.if-text-ne8.false refl c.in_err-read_octets.ensures
 
 pub returns : goal.returns
-unfolding word_in
-returns c = let a = c.args in
-    rw (eq-eqb _ _ c.if-text-ne8.false, sym c.all_hex-ok.ensures ∙ c.if-not-ok.false, octets_eight a.text.now 0 c.if-text-ne8.false, ← c.octet_from-a.ensures, ← c.octet_from-b.ensures, ← c.octet_from-c.ensures, ← c.octet_from-d.ensures, c.be32.ensures)
+returns c = rw c.from_be_bytes.ensures (word_read _ _ _ c.if-text-ne8.false refl _ c.in_ok-read_octets.ensures)

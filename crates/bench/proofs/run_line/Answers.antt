@@ -1,7 +1,40 @@
-use Rattle.bench.specs.Room.{run-placed}
+use Rattle.std.proofs.Common.{◌∙◌, arith}
+use Rattle.unit_tunnel.specs.Numbering.{places}
+use Rattle.call_own.specs.Outcome.{least_reply}
+use Rattle.bench_unit.specs.State.{ran_of}
+use Rattle.bench_unit.specs.Whole.{place_room}
+use Rattle.bench_run.specs.Whole.{line_room}
+use Rattle.bench.specs.Room.{most_made, room_emitted, run-placed, run-room}
 use Rattle.bench.proofs.run_line.Goals as goal
 
-pub returns-clause-prints : goal.returns-clause-prints
-returns-clause-prints g c =
-    (run-placed c.args.b c.args.recs.now c.args.store.now c.args.many c.args.line.now c.args.out.now _ _ c.args.b _ _ _ _ _ _ c.requires
-    c.start_anew-a.ensures c.take_line-c.ensures c.requires.0).1
+pub invariant_of-desk : goal.invariant_of-desk
+invariant_of-desk g c = let r = c.args.desk.now.run in let h = c.args.desk.now.room in record {
+  room = room_emitted _ _ _ c.emit.ensures.made c.emit.ensures.out
+      (run-room r.bench r.recs.now r.store.now r.out.now h.0 h.1 c.args.desk.now.many c.args.line.now (ran_of c.start_anew.new.run) (ran_of c.take_line.new.run)
+      c.start_anew.ensures c.take_line.ensures.taken);
+}
+
+pub invariant_of-desk-else-desk-gt-MOST_MADE : goal.invariant_of-desk-else-desk-gt-MOST_MADE
+unfolding most_made line_room place_room least_reply places
+invariant_of-desk-else-desk-gt-MOST_MADE g c = let r = c.args.desk.now.run in let h = c.args.desk.now.room in record {
+  room = (
+    omega arith,
+    run-room r.bench r.recs.now r.store.now r.out.now h.0 h.1 c.args.desk.now.many c.args.line.now (ran_of c.start_anew.new.run) (ran_of c.take_line.new.run)
+        c.start_anew.ensures c.take_line.ensures.taken,
+  );
+}
+
+pub returns-in_err-emit : goal.returns-in_err-emit
+returns-in_err-emit g c = let r = c.args.desk.now.run in let h = c.args.desk.now.room in
+    c.emit.ensures.out ∙ run-placed r.bench r.recs.now r.store.now r.out.now h.0 h.1 c.args.desk.now.many c.args.line.now (ran_of c.start_anew.new.run) (ran_of c.take_line.new.run)
+    c.start_anew.ensures c.take_line.ensures.taken
+
+pub returns-in_ok-emit : goal.returns-in_ok-emit
+returns-in_ok-emit g c = let r = c.args.desk.now.run in let h = c.args.desk.now.room in
+    c.emit.ensures.out ∙ run-placed r.bench r.recs.now r.store.now r.out.now h.0 h.1 c.args.desk.now.many c.args.line.now (ran_of c.start_anew.new.run) (ran_of c.take_line.new.run)
+    c.start_anew.ensures c.take_line.ensures.taken
+
+pub returns-else-desk-gt-MOST_MADE : goal.returns-else-desk-gt-MOST_MADE
+returns-else-desk-gt-MOST_MADE g c = let r = c.args.desk.now.run in let h = c.args.desk.now.room in
+    run-placed r.bench r.recs.now r.store.now r.out.now h.0 h.1 c.args.desk.now.many c.args.line.now (ran_of c.start_anew.new.run) (ran_of c.take_line.new.run)
+    c.start_anew.ensures c.take_line.ensures.taken

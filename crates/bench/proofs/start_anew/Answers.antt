@@ -1,11 +1,11 @@
-use Rattle.bench.specs.Room.{anew_on, anew_off}
+use Rattle.bench.specs.Room.{start_anew, anew_of}
+use Rattle.bench_unit.specs.State.{with_made}
 use Rattle.bench.proofs.start_anew.Goals as goal
 
-pub returns-then-on : goal.returns-then-on
-returns-then-on c =
-    anew_on c.args.b c.args.recs.now c.args.store.now c.args.many c.args.line.now c.args.out.now _ c.goes_on-on.ensures c.if-on.true
+pub returns-then-goes_on : goal.returns-then-goes_on
+unfolding start_anew
+returns-then-goes_on c = rw (← c.goes_on.ensures, c.if-goes_on.true)
 
 pub returns : goal.returns
-returns c =
-    anew_off c.args.b c.args.recs.now c.args.store.now c.args.many c.args.line.now c.args.out.now _ _ _ _ _ _ c.goes_on-on.ensures c.if-on.false
-    c.end_of_input-e.ensures c.anew.ensures
+unfolding start_anew anew_of with_made
+returns c = rw (← c.goes_on.ensures, c.if-goes_on.false, ← c.end_of_input.ensures.ended, c.start-run.ensures)

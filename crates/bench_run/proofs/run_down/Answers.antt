@@ -1,11 +1,14 @@
-use Rattle.std.proofs.Common.{take}
+use Rattle.std.proofs.Common.{eq-eqb, ne_eqb}
 use Rattle.bench_text.specs.Lines.{datagram_most}
-use Rattle.bench_run.specs.Run.{gpdu_most, down_run_lem}
+use Rattle.bench_run.specs.Run.{third_text, third_shown, down_text, down_shown, gpdu_most, lent_output, down_run}
 use Rattle.bench_run.proofs.run_down.Goals as goal
 
-pub returns : goal.returns
-unfolding gpdu_most datagram_most
-returns c =
-    down_run_lem c.args.b c.show_down.result c.args.recs.now c.args.store.now c.args.out.now c.show_down.new.out c.node_of-node.result
-    c.grugavorn_down-w.result (take c.args.size c.args.octets.now) c.front-packet.result.now c.grugavorn_down-w.new.out
-    c.node_of-node.ensures c.front-packet.ensures c.grugavorn_down-w.ensures c.show_down.ensures
+pub returns-then-w-eq0-clause-run : goal.returns-then-w-eq0-clause-run
+unfolding third_shown third_text down_run down_shown down_text lent_output gpdu_most datagram_most
+returns-then-w-eq0-clause-run c =
+    rw (← c.grugavorn_down-w.ensures, eq-eqb _ _ c.if-w-eq0.true, ← c.front-part.ensures, ← c.octets32.ensures) c.show_third.ensures.shown
+
+pub returns-clause-run : goal.returns-clause-run
+unfolding third_shown third_text down_run down_shown down_text lent_output gpdu_most datagram_most
+returns-clause-run c =
+    rw (← c.grugavorn_down-w.ensures, ne_eqb _ _ c.if-w-eq0.false, ← c.front-part.ensures) c.show_third-2.ensures.shown

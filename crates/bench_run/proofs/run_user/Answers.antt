@@ -1,11 +1,20 @@
-use Rattle.std.proofs.Common.{take}
+use Rattle.std.proofs.Common.{length, eq-eqb, ne_eqb}
 use Rattle.call_own.specs.Outcome.{least_reply}
-use Rattle.bench_run.specs.Run.{user_run_lem}
+use Rattle.bench_run.specs.Run.{third_text, third_shown, user_text, handed_run}
 use Rattle.bench_run.proofs.run_user.Goals as goal
+use Rattle.bench_run.proofs.run_user.Goals.{else-h-eq0-via-then-h-eq0+else-h-eq0-2, else-h-eq0-via-else-h-eq0}
 
-pub returns : goal.returns
-unfolding least_reply
-returns c =
-    user_run_lem c.args.b c.show_handed.result c.args.recs.now c.args.store.now c.args.out.now c.show_handed.new.out c.node_of-node.result
-    c.grugavorn_user-h.result (take c.args.size c.args.octets.now) c.front-d.result.now c.grugavorn_user-h.new.reply
-    c.node_of-node.ensures c.front-d.ensures c.grugavorn_user-h.ensures c.show_handed.ensures
+pub returns-then-h-eq0-2-clause-run : goal.returns-then-h-eq0-2-clause-run
+unfolding third_shown third_text user_text least_reply
+returns-then-h-eq0-2-clause-run c = let r = c.args.run.now in
+    let e = handed_run c.grugavorn_user-h.result (length c.args.d.now) c.grugavorn_user-h.new.reply c.args.d.now r.bench r.recs.now r.store.now r.out.now c.grugavorn_user-h.ensures in
+    rw (← e, eq-eqb _ _ c.if-h-eq0.true, eq-eqb _ _ c.if-h-eq0-2.true, ← c.front-part.ensures, ← c.behind.ensures) c.show_third.ensures.shown
+
+pub returns-clause-run : goal.returns-clause-run
+unfolding third_shown third_text user_text least_reply
+returns-clause-run c = let r = c.args.run.now in
+    let e = handed_run c.grugavorn_user-h.result (length c.args.d.now) c.grugavorn_user-h.new.reply c.args.d.now r.bench r.recs.now r.store.now r.out.now c.grugavorn_user-h.ensures in
+    elim c.else-h-eq0.branch [
+      | else-h-eq0-via-then-h-eq0+else-h-eq0-2 w ↦ rw (← e, eq-eqb _ _ w.if-h-eq0.true, ne_eqb _ _ w.if-h-eq0-2.false, ← c.front-part.ensures) c.show_third-2.ensures.shown
+      | else-h-eq0-via-else-h-eq0 w ↦ rw (← e, ne_eqb _ _ w.if-h-eq0.false, ← c.front-part.ensures) c.show_third-2.ensures.shown
+    ]

@@ -1,29 +1,32 @@
-use Rattle.std.proofs.Common.{arith}
+use Rattle.std.proofs.Common.{arith, refl, ◌<◌, ◌+◌}
 use Rattle.unit_tunnel.specs.Numbering.{places}
-use Rattle.bench_unit.specs.State.{ran}
-use Rattle.bench_run.specs.Run.{all_sent, sent_none, sent_on, sent_stop, sent_end}
+use Rattle.bench_unit.specs.State.{ran_of, on, lent_on}
+use Rattle.bench_run.specs.Run.{all_sent, sent_none, sent_stop, sent_on, sent_end}
 use Rattle.bench_run.proofs.send_all.Goals as goal
 
-pub loop-i-init : goal.loop-i-init
-unfolding places
-loop-i-init c = (omega arith, sent_none c.args.b c.args.recs.now c.args.store.now c.args.out.now)
+pub loop-init : goal.loop-init
+loop-init c = let r = c.args.run.now in record { sent = sent_none r.bench r.recs.now r.store.now r.out.now; lent = (refl, refl, refl) }
 
-pub returns-then-last : goal.returns-then-last
+pub returns-then-not-send_one-clause-sent : goal.returns-then-not-send_one-clause-sent
 unfolding places
-returns-then-last c =
-    sent_stop (all_sent c.args.b c.args.recs.now c.args.store.now c.args.out.now) c.loop-i.i c.loop-i.y c.bench_of-y.result c.loop-i.recs c.send_one-s.new.recs c.args.store.now
-    c.loop-i.out c.send_one-s.new.out c.send_one-s.result c.is_last-last.result c.loop-i-test.true c.loop-i.invariant.1 c.send_one-s.ensures c.bench_of-y.ensures c.is_last-last.ensures c.if-last.true
+returns-then-not-send_one-clause-sent c =
+    let h : c.loop.counter < places + 1 = omega arith in
+    sent_stop (on all_sent c.args.run.now) (ran_of c.loop.run) (ran_of c.send_one.new.run) c.loop.counter c.send_one.result h c.loop.invariant.sent
+    c.send_one.ensures.due c.send_one.ensures.sent c.if-not-send_one.true
 
-pub loop-i-preserved : goal.loop-i-preserved
-unfolding places
-loop-i-preserved c = (
-  omega arith,
-  sent_on (all_sent c.args.b c.args.recs.now c.args.store.now c.args.out.now) c.loop-i.i c.loop-i.y c.bench_of-y.result c.loop-i.recs c.send_one-s.new.recs c.args.store.now
-      c.loop-i.out c.send_one-s.new.out c.send_one-s.result c.is_last-last.result c.loop-i-test.true c.loop-i.invariant.1 c.send_one-s.ensures c.bench_of-y.ensures c.is_last-last.ensures c.if-last.false,
-)
+pub returns-then-not-send_one-clause-lent : goal.returns-then-not-send_one-clause-lent
+returns-then-not-send_one-clause-lent c = lent_on c.args.run.now c.loop.run c.send_one.new.run c.loop.invariant.lent c.send_one.ensures.lent
 
-pub returns : goal.returns
+pub loop-preserved : goal.loop-preserved
 unfolding places
-returns c =
-    sent_end (all_sent c.args.b c.args.recs.now c.args.store.now c.args.out.now) (ran c.loop-i.y c.loop-i.recs c.args.store.now c.loop-i.out) c.loop-i.i c.loop-i.invariant.1
-    (let k = c.loop-i.invariant.0 in omega arith)
+loop-preserved c = record {
+  sent = let h : c.loop.counter < places + 1 = omega arith in
+      sent_on (on all_sent c.args.run.now) (ran_of c.loop.run) (ran_of c.send_one.new.run) c.loop.counter c.send_one.result h c.loop.invariant.sent
+      c.send_one.ensures.due c.send_one.ensures.sent c.if-not-send_one.false;
+  lent = lent_on c.args.run.now c.loop.run c.send_one.new.run c.loop.invariant.lent c.send_one.ensures.lent;
+}
+
+pub returns-clause-sent : goal.returns-clause-sent
+unfolding places
+returns-clause-sent c =
+    sent_end (on all_sent c.args.run.now) (ran_of c.loop.run) c.loop.counter c.loop.invariant.sent (omega (arith, c.loop.auto.counter-end))

@@ -1,21 +1,19 @@
-use mathlib.Core.Path.{sym, ◌∙◌}
-use borrow.Author.Tests.{not-true, not-false}
+use Rattle.std.proofs.Common.{sym, ◌∙◌}
 use Rattle.call_down.specs.OneRecord.{down_by}
-use mathlib.Core.Path.{sym, ◌∙◌}
 use Rattle.call_down.proofs.down_by.Goals as goal
 
 pub returns-then-not-kept : goal.returns-then-not-kept
 unfolding down_by
-returns-then-not-kept c = rw (not-true c.args.kept c.if-not-kept.true-raw, c.bare.ensures)
+returns-then-not-kept c = rw (c.if-not-kept.true, c.bare.ensures)
 
-pub returns-then-not-whole : goal.returns-then-not-whole
+pub returns-then-not-whole_packet : goal.returns-then-not-whole_packet
 unfolding down_by
-returns-then-not-whole c = rw (not-false c.args.kept c.if-not-kept.false-raw, sym c.whole_packet-whole.ensures ∙ not-true c.whole_packet-whole.result c.if-not-whole.true-raw, c.bare-then-not-whole.ensures)
+returns-then-not-whole_packet c = rw (c.if-not-kept.false, sym c.whole_packet.ensures ∙ c.if-not-whole_packet.true, c.bare-then-not-whole_packet.ensures)
 
 pub returns-then-free : goal.returns-then-free
 unfolding down_by
-returns-then-free c = rw (not-false c.args.kept c.if-not-kept.false-raw, sym c.whole_packet-whole.ensures ∙ not-false c.whole_packet-whole.result c.if-not-whole.false-raw, sym c.is_free-free.ensures ∙ c.if-free.true, c.bare-then-free.ensures)
+returns-then-free c = rw (c.if-not-kept.false, sym c.whole_packet.ensures ∙ c.if-not-whole_packet.false, sym c.is_free-free.ensures ∙ c.if-free.true, c.bare-then-free.ensures)
 
 pub returns : goal.returns
 unfolding down_by
-returns c = rw (not-false c.args.kept c.if-not-kept.false-raw, sym c.whole_packet-whole.ensures ∙ not-false c.whole_packet-whole.result c.if-not-whole.false-raw, sym c.is_free-free.ensures ∙ c.if-free.false) c.down_on.ensures
+returns c = rw (c.if-not-kept.false, sym c.whole_packet.ensures ∙ c.if-not-whole_packet.false, sym c.is_free-free.ensures ∙ c.if-free.false) c.down_on.ensures

@@ -3,4 +3,4 @@ use Rattle.call_down.proofs.place_for.Goals as goal
 
 pub returns : goal.returns
 unfolding place_for
-returns c = rw (← c.destination_of-to.ensures) c.place_of.ensures
+returns c = rw (← c.destination_of.ensures) c.place_of.ensures

@@ -5,4 +5,4 @@ use Rattle.call_line.proofs.put_address.Goals as goal
 
 pub returns : goal.returns
 unfolding address_text
-returns c = rw (← c.octets32-o.ensures) (c.put_hex.ensures ∙ laid_on _ _ _ _ _ _ c.put-p.ensures)
+returns c = rw (← c.octets32.ensures) (c.put_hex.ensures ∙ laid_on _ _ _ _ _ _ c.put-p.ensures)

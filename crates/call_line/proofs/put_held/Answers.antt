@@ -9,4 +9,4 @@ returns c = let b = c.put_imsi-b.ensures ∙ laid_on _ _ _ _ _ _ c.put_number-a.
     let d = c.put_number-c.ensures ∙ laid_on _ _ _ _ _ _ b in
     let e = c.put_peer-d.ensures ∙ laid_on _ _ _ _ _ _ d in
     let f = c.put_peer-e.ensures ∙ laid_on _ _ _ _ _ _ e in
-    c.put_number.ensures ∙ laid_on _ _ _ _ _ _ f
+    rw (← c.from.ensures, ← c.from-2.ensures) (c.put_number.ensures ∙ laid_on _ _ _ _ _ _ f)

@@ -8,4 +8,4 @@ unfolding line_text
 returns c = let b = c.put_number-b.ensures ∙ laid_on _ _ _ _ _ _ c.put_decimal-a.ensures in
     let d = c.put-c.ensures ∙ laid_on _ _ _ _ _ _ b in
     let e = c.put-d.ensures ∙ laid_on _ _ _ _ _ _ d in
-    rw (← c.state_letter-letter.ensures) (c.put_rest.ensures ∙ laid_on _ _ _ _ _ _ e)
+    rw (← c.state_letter.ensures) (c.put_rest.ensures ∙ laid_on _ _ _ _ _ _ e)

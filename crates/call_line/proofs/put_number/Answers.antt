@@ -5,4 +5,4 @@ use Rattle.call_line.proofs.put_number.Goals as goal
 
 pub returns : goal.returns
 unfolding number_text
-returns c = c.put_decimal.ensures ∙ laid_on _ _ _ _ _ _ c.put-p.ensures
+returns c = rw (← c.from.ensures) (c.put_decimal.ensures ∙ laid_on _ _ _ _ _ _ c.put-p.ensures)

@@ -2,10 +2,10 @@ use mathlib.Core.Path.{sym, ◌∙◌}
 use Rattle.call_line.specs.Line.{rest_text, dashes}
 use Rattle.call_line.proofs.put_rest.Goals as goal
 
-pub returns-then-free : goal.returns-then-free
+pub returns-then-is_free : goal.returns-then-is_free
 unfolding rest_text dashes
-returns-then-free c = rw (sym c.is_free-free.ensures ∙ c.if-free.true) c.put_text.ensures
+returns-then-is_free c = rw (sym c.is_free.ensures ∙ c.if-is_free.true) c.put_text.ensures
 
 pub returns : goal.returns
 unfolding rest_text
-returns c = rw (sym c.is_free-free.ensures ∙ c.if-free.false) c.put_held.ensures
+returns c = rw (sym c.is_free.ensures ∙ c.if-is_free.false) c.put_held.ensures

@@ -1,8 +1,9 @@
+use Rattle.std.proofs.Common.{◌∙◌}
 use Rattle.call_store.specs.Steps.{keeps_whole, keeps_broken}
 use Rattle.lent_check.proofs.keeps.Goals as goal
 
-pub returns-then-sound : goal.returns-then-sound
-returns-then-sound c = keeps_whole c.args.node c.args.recs.now c.args.store.now c.store_ok-sound.result c.keeps_rules.result c.store_ok-sound.ensures c.if-sound.true c.keeps_rules.ensures
+pub returns-then-store_ok : goal.returns-then-store_ok
+returns-then-store_ok c = keeps_whole c.args.node c.args.recs.now c.args.store.now c.store_ok.result c.keeps_rules.result c.store_ok.ensures c.if-store_ok.true c.keeps_rules.ensures
 
-pub returns : goal.returns
-returns c = keeps_broken c.args.node c.args.recs.now c.args.store.now c.store_ok-sound.result c.store_ok-sound.ensures c.if-sound.false
+pub returns-else-store_ok : goal.returns-else-store_ok
+returns-else-store_ok c = c.if-store_ok.false ∙ keeps_broken c.args.node c.args.recs.now c.args.store.now c.store_ok.result c.store_ok.ensures c.if-store_ok.false

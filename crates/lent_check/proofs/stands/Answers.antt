@@ -4,4 +4,4 @@ use Rattle.lent_check.specs.Kept.{checked_how}
 use Rattle.lent_check.proofs.stands.Goals as goal
 
 pub returns : goal.returns
-returns c = c.how_of.ensures ∙ ap (λ (z : Checked). z.how) c.checked-v.ensures ∙ checked_how c.args.node 0 c.args.recs.now
+returns c = ap (λ (z : Checked). z.how) c.checked.ensures ∙ checked_how c.args.node 0 c.args.recs.now

@@ -4,4 +4,4 @@ use Rattle.lent_control.specs.Lent.{control_lent}
 use Rattle.lent_control.proofs.grugavorn_control.Goals as goal
 
 pub returns : goal.returns
-returns c = control_lent c.args.node c.args.recs.now c.put_concerned.new.recs c.args.store.now c.settled_taken-size.new.store c.args.d.now c.args.reply.now c.taken_on-o.new.reply c.settled_taken-size.new.reply c.asked_of-asked.result c.wish_of-wish.result c.ask_of-ask.result c.concerned_lent-p.result c.taken_on-o.result c.settled_taken-size.result c.taken_answer.result c.asked_of-asked.ensures c.ask_of-ask.ensures c.wish_of-wish.ensures c.concerned_lent-p.ensures c.taken_on-o.ensures c.taken_on-o.auto.reply c.put_concerned.ensures c.settled_taken-size.ensures c.taken_answer.ensures
+returns c = control_lent c.args.node c.args.recs.now c.put_concerned.new.recs c.args.store.now c.settled-size.new.store c.args.d.now c.args.reply.now c.taken_on-o.new.reply c.settled-size.new.reply c.asked_of-asked.result c.wish_of-wish.result c.ask_of-ask.result c.concerned_lent-p.result c.taken_on-o.result c.settled-size.result c.taken_answer.result c.asked_of-asked.ensures c.ask_of-ask.ensures c.wish_of-wish.ensures c.concerned_lent-p.ensures c.taken_on-o.ensures c.taken_on-o.auto.reply c.put_concerned.ensures c.settled-size.ensures c.taken_answer.ensures

@@ -8,4 +8,4 @@ use Rattle.wire_user.specs.Part.{IsRest}
 use Rattle.lent_user.proofs.take_user.Goals as goal
 
 pub returns : goal.returns
-returns c = subst (λ (x : Took). (took c.done.new.number c.done.new.place c.done.new.size c.done.new.reply (x.start) ≡ x) × IsRest c.done.result c.args.d (x.start)) (user_lent c.args.node c.args.recs.now c.args.store.now c.args.d.now c.args.reply.now c.keeps-kept.result c.place_in-at.result c.read-s.result c.keeps-kept.ensures c.place_in-at.ensures c.read-s.ensures) c.done.ensures
+returns c = subst (λ (x : Took). (took c.done.result.number c.done.result.place c.done.result.size c.done.new.reply (x.start) ≡ x) × IsRest c.done.result.payload c.args.d (x.start)) (user_lent c.args.node c.args.recs.now c.args.store.now c.args.d.now c.args.reply.now c.keeps-kept.result c.place_in-at.result c.read-s.result c.keeps-kept.ensures c.place_in-at.ensures c.read-s.ensures) c.done.ensures

@@ -8,5 +8,5 @@ use Rattle.promise_hosts.proofs.close_agrees.Goals as goal
 pub returns : goal.returns
 returns c =
     agrees (λ (l : List Session). λ (x : List ℕ). close_stored c.args.node l c.args.store.now c.args.place) c.args.recs.now c.args.other.now
-    c.grugavorn_close-a.new.recs c.grugavorn_close-b.new.recs [] [] [] [] c.grugavorn_close-a.result c.grugavorn_close-b.result c.both.result
-    c.grugavorn_close-a.ensures c.grugavorn_close-b.ensures c.both.ensures
+    c.grugavorn_close-a.new.recs c.grugavorn_close-b.new.recs [] [] [] [] c.grugavorn_close-a.result c.grugavorn_close-b.result
+    c.grugavorn_close-a.ensures c.grugavorn_close-b.ensures

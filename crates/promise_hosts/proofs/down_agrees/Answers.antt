@@ -7,5 +7,5 @@ use Rattle.promise_hosts.proofs.down_agrees.Goals as goal
 pub returns : goal.returns
 returns c =
     agrees_written (λ (x : List ℕ). down_stored c.args.node c.args.recs.now c.args.store.now c.args.packet.now x) c.args.out.now c.args.buffer.now
-    c.grugavorn_down-a.new.out c.grugavorn_down-b.new.out c.grugavorn_down-a.result c.grugavorn_down-b.result c.both_written.result
-    c.grugavorn_down-a.ensures c.grugavorn_down-b.ensures c.both_written.ensures
+    c.grugavorn_down-a.new.out c.grugavorn_down-b.new.out c.grugavorn_down-a.result c.grugavorn_down-b.result
+    c.grugavorn_down-a.ensures c.grugavorn_down-b.ensures

@@ -9,5 +9,5 @@ pub returns : goal.returns
 returns c =
     agrees_stored (λ (l : List Session). λ (w : List (List ℕ)). λ (x : List ℕ). fresh_stored c.args.plan l w) c.args.recs.now c.args.other.now
     c.grugavorn_fresh-a.new.recs c.grugavorn_fresh-b.new.recs c.args.store.now c.args.kept.now c.grugavorn_fresh-a.new.store
-    c.grugavorn_fresh-b.new.store [] [] [] [] c.grugavorn_fresh-a.result c.grugavorn_fresh-b.result c.both.result c.grugavorn_fresh-a.ensures
-    c.grugavorn_fresh-b.ensures c.both.ensures
+    c.grugavorn_fresh-b.new.store [] [] [] [] c.grugavorn_fresh-a.result c.grugavorn_fresh-b.result c.grugavorn_fresh-a.ensures
+    c.grugavorn_fresh-b.ensures

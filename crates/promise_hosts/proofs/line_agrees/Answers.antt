@@ -9,4 +9,4 @@ pub returns : goal.returns
 returns c =
     agrees (λ (l : List Session). λ (x : List ℕ). line_stored c.args.node l c.args.store.now c.args.place x) c.args.recs.now c.args.recs.now
     c.args.recs.now c.args.recs.now c.args.reply.now c.args.buffer.now c.grugavorn_line-a.new.reply c.grugavorn_line-b.new.reply
-    c.grugavorn_line-a.result c.grugavorn_line-b.result c.both.result c.grugavorn_line-a.ensures c.grugavorn_line-b.ensures c.both.ensures
+    c.grugavorn_line-a.result c.grugavorn_line-b.result c.grugavorn_line-a.ensures c.grugavorn_line-b.ensures

@@ -9,4 +9,4 @@ pub returns : goal.returns
 returns c =
     agrees_handed (λ (x : List ℕ). parcel_of (length c.args.d.now) (user_stored c.args.node c.args.recs.now c.args.store.now c.args.d.now x))
     c.args.reply.now c.args.buffer.now c.grugavorn_user-a.new.reply c.grugavorn_user-b.new.reply c.grugavorn_user-a.result
-    c.grugavorn_user-b.result c.both_handed.result c.grugavorn_user-a.ensures c.grugavorn_user-b.ensures c.both_handed.ensures
+    c.grugavorn_user-b.result c.grugavorn_user-a.ensures c.grugavorn_user-b.ensures

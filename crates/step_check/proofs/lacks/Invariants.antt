@@ -1,4 +1,4 @@
-use Rattle.std.proofs.Common.{◌≡◌, ◌-◌, map, length, drop}
+use Rattle.std.proofs.Common.{◌≡◌, map, drop}
 use Rattle.base_distinct.specs.Lacks.{lacks}
 use Rattle.step_check.specs.Digest.{key_in}
 use Rattle.step_check.specs.Over.{later}
@@ -6,6 +6,3 @@ use Rattle.step_check.proofs.lacks.Given as goal
 
 abbrev pub invariant-loop-i : goal.invariant-loop-i
 invariant-loop-i l = lacks l.x (drop l.from (map key_in l.ds)) ≡ lacks l.x (drop (later l.from l.i) (map key_in l.ds))
-
-abbrev pub decreases-loop-i : goal.decreases-loop-i
-decreases-loop-i l = length l.ds - l.i

@@ -4,11 +4,10 @@ use Rattle.step_check.specs.Over.{enters_none, marks_none, flags_none, tallied_n
 use Rattle.step_check.proofs.note.Goals as goal
 
 pub returns-then-key-eq0 : goal.returns-then-key-eq0
-returns-then-key-eq0 c = let z : key_in c.args.d ≡ 0 = sym c.key_in-key.ensures ∙ c.if-key-eq0.true in let d = c.args.d in (sym (enters_none d z _ _), (sym (marks_none d z _), (sym (flags_none d z _), sym (tallied_none d z _))))
-
-pub enters-requires : goal.enters-requires
-enters-requires c = (c.requires.0, rw (← c.key_in-key.ensures) (ne_eqb _ _ c.if-key-eq0.false))
+returns-then-key-eq0 c = let d = c.args.d in let z : key_in d ≡ 0 = sym c.key_in-key.ensures ∙ c.if-key-eq0.true in
+    (sym (enters_none d z _ _), (sym (marks_none d z _), (sym (flags_none d z _), sym (tallied_none d z _))))
 
 pub returns : goal.returns
 unfolding flags_in tallied_in
-returns c = let z : eqb (key_in c.args.d) 0 ≡ false = rw (← c.key_in-key.ensures) (ne_eqb _ _ c.if-key-eq0.false) in (c.enters.ensures.0, (c.enters.ensures.1, (rw z, rw (z, ← c.wrapping_add_u64.ensures.value))))
+returns c = let z : eqb (key_in c.args.d) 0 ≡ false = rw (← c.key_in-key.ensures) (ne_eqb _ _ c.if-key-eq0.false) in
+    (c.enters.ensures.0, (c.enters.ensures.1, (rw z, rw (z, ← c.wrapping_add_u64.ensures.value))))

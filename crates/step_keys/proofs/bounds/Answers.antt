@@ -3,4 +3,4 @@ use Rattle.step_keys.proofs.bounds.Goals as goal
 
 pub returns : goal.returns
 unfolding bounds_of
-returns c = rw c.parties-parties.ensures
+returns c = rw c.parties.ensures

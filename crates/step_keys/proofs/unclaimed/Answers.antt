@@ -4,4 +4,4 @@ use Rattle.step_keys.proofs.unclaimed.Goals as goal
 
 pub returns : goal.returns
 unfolding unclaimed same_key
-returns c = rw c.absent-apart.ensures
+returns c = rw (c.absent-apart.ensures, c.from-key.ensures)

@@ -1,12 +1,12 @@
-use borrow.Author.Tests.{eq-eqb, ne_eqb}
+use Rattle.std.proofs.Common.{sym, ◌∙◌}
 use Rattle.call_own.specs.Calls.{timed}
 use Rattle.step_own.specs.Step.{tick_answer}
 use Rattle.step_own.proofs.tick_answer.Goals as goal
 
-pub returns-then-how-eq0 : goal.returns-then-how-eq0
+pub returns-then-not-stands_by : goal.returns-then-not-stands_by
 unfolding tick_answer timed
-returns-then-how-eq0 c = rw (eq-eqb _ _ c.if-how-eq0.true, c.bare.ensures)
+returns-then-not-stands_by c = rw (sym c.stands_by.ensures ∙ c.if-not-stands_by.true, c.bare.ensures)
 
 pub returns : goal.returns
 unfolding tick_answer timed
-returns c = rw (ne_eqb _ _ c.if-how-eq0.false, c.spanning.ensures, c.bare-ticked.ensures, c.first_places-changed.ensures, c.echo_ticked-next.ensures)
+returns c = rw (sym c.stands_by.ensures ∙ c.if-not-stands_by.false, c.spanning.ensures, c.bare-2.ensures, c.first_places.ensures, c.echo_ticked-node.ensures)

@@ -1,14 +1,20 @@
-use mathlib.Core.Bool.{true, false, not, ◌&&◌, ◌||◌}
-use mathlib.Core.Path.{◌≡◌}
-use lib.Dec.{eqb}
+use Rattle.std.proofs.Common.{sym, ◌∙◌}
 use Rattle.step_own.specs.Step.{tick_count}
 use Rattle.unit_tunnel.specs.Numbering.{places}
 use Rattle.step_own.proofs.tick_count.Goals as goal
 
-pub returns-then-how-over : goal.returns-then-how-over
+pub returns-in-Broken : goal.returns-in-Broken
 unfolding tick_count
-returns-then-how-over c = let a = c.args in let t : (eqb a.how 0 || eqb a.how 1 && not c.spent-over.result) ≡ true = c.if-how-over.true in rw (rw c.spent-over.ensures at t)
+returns-in-Broken c = rw c.in-Broken.is
 
-pub returns : goal.returns
+pub returns-then-over : goal.returns-then-over
 unfolding tick_count places
-returns c = let a = c.args in let t : (eqb a.how 0 || eqb a.how 1 && not c.spent-over.result) ≡ false = c.if-how-over.false in rw (rw c.spent-over.ensures at t)
+returns-then-over c = rw (c.in-Quiet.is, sym c.spent-over.ensures ∙ c.if-over.true)
+
+pub returns-else-over : goal.returns-else-over
+unfolding tick_count places
+returns-else-over c = rw (c.in-Quiet.is, sym c.spent-over.ensures ∙ c.if-over.false)
+
+pub returns-in-Awaiting : goal.returns-in-Awaiting
+unfolding tick_count places
+returns-in-Awaiting c = rw c.in-Awaiting.is

@@ -1,6 +1,10 @@
+use mathlib.Core.Path.{◌≡◌}
+use Rattle.wire_header.specs.Gate.{gate_of}
 use Rattle.trial_readers.specs.Decoding.{head_numbers, fields_octet}
 use Rattle.trial_readers.proofs.requests_head.Goals as goal
+use Rattle.trial_readers.proofs.requests_head.Goals.{in-Ok, in-Err}
 
 pub returns : goal.returns
 unfolding head_numbers
-returns c = rw (c.of-h.ensures, c.gate-number.ensures, fields_octet _)
+returns c = let n : c.match-gate.number ≡ gate_of c.args.d.now = elim c.match-gate.branch [ in-Ok w ↦ cc w.in-Ok.ensures.number | in-Err w ↦ cc w.in-Err.ensures.number ] in
+    rw (c.of-h.ensures, c.from.ensures, n, fields_octet _)

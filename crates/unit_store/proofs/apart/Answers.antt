@@ -40,8 +40,8 @@ offset_bounds-rows-i-in-loop-left c = let k = c.loop-left in let a = c.args in
     let n : k.i < length a.rows.now = more_rows a.rows.now k.i (omega arith) in
     omega (arith, c.requires.0)
 
-pub bounds-rows-i-else-m-eq1 : goal.bounds-rows-i-else-m-eq1
-bounds-rows-i-else-m-eq1 c = let k = c.loop-left in let a = c.args in
+pub bounds-rows-i-in-loop-left : goal.bounds-rows-i-in-loop-left
+bounds-rows-i-in-loop-left c = let k = c.loop-left in let a = c.args in
     let n : k.i < length a.rows.now = more_rows a.rows.now k.i (omega arith) in
     n
 
@@ -49,7 +49,7 @@ pub overflow_sub-left : goal.overflow_sub-left
 unfolding life_in
 overflow_sub-left c = let k = c.loop-left in let a = c.args in
     let n : k.i < length a.rows.now = more_rows a.rows.now k.i (omega arith) in
-    let s = sum_step life_in a.rows.now k.i [] n in let e = c.count_of-left.ensures.0 in omega arith
+    let s = sum_step life_in a.rows.now k.i [] n in let e = c.from-left.ensures ∙ c.life_in.ensures in omega arith
 
 pub overflow_add-i : goal.overflow_add-i
 overflow_add-i c = let k = c.loop-left in let a = c.args in
@@ -68,7 +68,7 @@ loop-left-preserved c = let k = c.loop-left in let a = c.args in
     let g = mark_good (get_or a.rows.now k.i []) (λ z. c.if-m-eq1.false (c.mark_in-m.ensures ∙ z)) in
     let t : take (k.i + 1) (set k.marks k.i c.mark_in-m.result) ≡ map mark_in (take (k.i + 1) a.rows.now)
     = rw c.mark_in-m.ensures (fill_step mark_in a.rows.now k.marks k.i [] n (omega (arith, c.requires.0)) k.invariant.1.1.1.0) in
-    let s = sum_step life_in a.rows.now k.i [] n in let e = c.count_of-left.ensures.0 in
+    let s = sum_step life_in a.rows.now k.i [] n in let e = c.from-left.ensures ∙ c.life_in.ensures in
     (omega (arith, c.requires.0), (simp length-set k.invariant.1.0, (k.invariant.1.1.0 ∙ every_on a.rows.now k.i kept_ok [] n g, (t, omega arith))))
 
 pub returns : goal.returns

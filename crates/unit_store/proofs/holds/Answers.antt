@@ -1,6 +1,6 @@
-use Rattle.unit_store.specs.Row.{holds, is_unused, life_in}
+use Rattle.unit_store.specs.Row.{holds}
 use Rattle.unit_store.proofs.holds.Goals as goal
 
 pub returns : goal.returns
-unfolding holds is_unused life_in
-returns c = rw c.three_in-own.ensures
+unfolding holds
+returns c = rw (c.is_unused.ensures, c.three_in.ensures)

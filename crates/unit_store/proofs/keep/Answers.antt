@@ -1,17 +1,17 @@
-use Rattle.std.proofs.Common.{arith}
-use Rattle.unit_store.specs.Store.{pushed_none}
-use Rattle.unit_store.specs.Shift.{room_in, shift_start, shift_step, shift_end}
+use Rattle.std.proofs.Common.{◌≡◌, ◌-◌, ◌<◌, min, length, sym, ◌∙◌, arith, eqb-true}
+use Rattle.std.proofs.lemmas.Bool.{eqb-false}
+use Rattle.base_octets.specs.Search.{first_of, first_or_last}
+use Rattle.unit_store.specs.Row.{is_unused}
+use Rattle.unit_store.specs.Store.{pushed_none, pushed_first}
 use Rattle.unit_store.proofs.keep.Goals as goal
 
-pub returns-then-n-eq0 : goal.returns-then-n-eq0
-returns-then-n-eq0 c = let a = c.args in pushed_none a.row a.rows.now c.if-n-eq0.true
-
-pub loop-i-init : goal.loop-i-init
-unfolding room_in
-loop-i-init c = let a = c.args in shift_start a.rows.now c.least-i.result (omega arith) (rw c.first_unused-j.ensures at c.least-i.ensures)
-
-pub loop-i-preserved : goal.loop-i-preserved
-loop-i-preserved c = let k = c.loop-i in let a = c.args in shift_step a.rows.now k.rows k.i (omega arith) k.invariant
+pub returns-then-is_empty : goal.returns-then-is_empty
+returns-then-is_empty c = pushed_none c.args.row c.args.rows.now (eqb-true _ _ (sym c.is_empty.ensures ∙ c.if-is_empty.true))
 
 pub returns : goal.returns
-returns c = let k = c.loop-i in let a = c.args in shift_end a.rows.now k.rows k.i a.row (omega arith) k.invariant
+returns c =
+    let z = eqb-false (length c.args.rows.now) 0 (sym c.is_empty.ensures ∙ c.if-is_empty.false) in
+    let h : 0 < length c.args.rows.now = omega arith in
+    let i : c.unwrap_or-last.result ≡ min (first_of is_unused c.args.rows.now) (length c.args.rows.now - 1)
+    = rw (c.unwrap_or-last.ensures, c.first_unused.ensures) (first_or_last is_unused c.args.rows.now) in
+    pushed_first c.args.row c.args.rows.now _ c.unwrap_or-last.result h i c.rotate_right.ensures.after

@@ -6,8 +6,8 @@ pub returns : goal.returns
 unfolding size_in
 returns c = let a = c.args in
     let l : length a.r.now ≡ 139 = search rules in
-    let n : c.least-n.result ≡ min (size_in a.r.now) 128 = rw (c.least-n.ensures, c.wide.ensures) in
+    let n : c.min-n.result ≡ min (size_in a.r.now) 128 = rw (c.min-n.ensures, c.from.ensures) in
     record {
-      length = laid_long a.r.now c.least-n.result l n;
-      octets = rw (laid-part a.r.now c.least-n.result l n) at c.copy_front.ensures;
+      length = laid_long a.r.now c.min-n.result l n;
+      octets = rw (laid-part a.r.now c.min-n.result l n) at c.copy_front.ensures;
     }

@@ -8,7 +8,11 @@ returns-then-rows-ne-ROWS c = rw (ne_eqb _ _ c.if-rows-ne-ROWS.true)
 
 pub returns-then-sum-eq0 : goal.returns-then-sum-eq0
 unfolding store_ok
-returns-then-sum-eq0 c = let a = c.args in rw (eq-eqb _ _ c.if-rows-ne-ROWS.false) (sym (vacant_ok a.rows.now (sym c.lives-sum.ensures ∙ c.if-sum-eq0.true)))
+returns-then-sum-eq0 c = let a = c.args in
+    rw (eq-eqb _ _ c.if-rows-ne-ROWS.false) (sym (vacant_ok a.rows.now (sym c.lives-sum.ensures ∙ c.if-sum-eq0.true)))
+
+pub apart-requires : goal.apart-requires
+apart-requires c = (c.if-rows-ne-ROWS.false, c.lives-sum.ensures)
 
 pub returns : goal.returns
 unfolding store_ok

@@ -1,16 +1,6 @@
 use Rattle.unit_table.specs.Become.{changed_by}
 use Rattle.unit_table.proofs.changed_by.Goals as goal
 
--- src/lib.rt:106:25
--- src/lib.rt:106:25
--- src/lib.rt:107:22
--- src/lib.rt:107:31
--- src/lib.rt:108:26
--- src/lib.rt:108:26
--- src/lib.rt:102:1
--- src/lib.rt:102:1
--- src/lib.rt:102:1
-
 pub returns-in-Free : goal.returns-in-Free
 unfolding changed_by
 returns-in-Free c = rw (c.freed.ensures, c.in-Free.is)

@@ -5,4 +5,4 @@ use Rattle.unit_tunnel.proofs.number_at.Goals as goal
 
 pub returns : goal.returns
 unfolding number_at base teids
-returns c = omega arith
+returns c = rw (c.from.ensures, c.from-2.ensures, c.from-3.ensures) (omega arith)

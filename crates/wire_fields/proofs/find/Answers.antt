@@ -1,34 +1,20 @@
-use Rattle.wire_fields.specs.Search.{find_start, first_none, first_here, first-later}
-use Rattle.wire_fields.specs.Walk.{size_at, fields_cut, fields_past}
-use native.Mathlib.Omega.{arith}
-use mathlib.Core.Path.{◌≡◌, sym, ◌∙◌}
+use Rattle.std.proofs.Common.{rules, None, Some, ◌≡◌, refl, sym, ◌∙◌, true, false}
+use Rattle.std.proofs.lemmas.Iterator.{first_from_find}
+use Rattle.std.proofs.lemmas.Iterator.Consumers.{YieldsList-from_first}
+use Rattle.wire_fields.specs.declared.Fields.{Fields}
+use Rattle.wire_fields.specs.Walk.{fields_at}
+use Rattle.wire_fields.specs.Search.{named, find_start}
+use Rattle.wire_fields.proofs.Ahead.{none_is, some_is}
 use Rattle.wire_fields.proofs.find.Goals as goal
 
-pub loop-p-init : goal.loop-p-init
-loop-p-init c = find_start _ _ _
-
-pub returns-then-s-p-lt-BEFORE_VALUE : goal.returns-then-s-p-lt-BEFORE_VALUE
-returns-then-s-p-lt-BEFORE_VALUE c = let s = c.args.s.now in let k = c.loop-p in
-    sym (k.invariant ∙ first_none s k.p _ _ (fields_cut s k.p (omega arith)))
-
-pub returns-then-s-start : goal.returns-then-s-start
-unfolding size_at
-returns-then-s-start c = let s = c.args.s.now in let k = c.loop-p in
-    let e : c.size_of-size.result ≡ size_at s k.p = c.size_of-size.ensures in
-    sym (k.invariant ∙ first_none s k.p _ _ (fields_past s k.p (omega arith) (omega arith)))
-
-pub returns-then-named : goal.returns-then-named
-unfolding size_at
-returns-then-named c = let s = c.args.s.now in let k = c.loop-p in
-    let e : c.size_of-size.result ≡ size_at s k.p = c.size_of-size.ensures in
-    sym (k.invariant ∙ first_here s k.p _ _ (omega arith) (omega arith) (sym c.named.ensures ∙ c.if-named.true) ∙ rw e)
-
-pub loop-p-preserved : goal.loop-p-preserved
-unfolding size_at
-loop-p-preserved c = let s = c.args.s.now in let k = c.loop-p in
-    let e : c.size_of-size.result ≡ size_at s k.p = c.size_of-size.ensures in
-    k.invariant ∙ first-later s k.p _ _ (omega arith) (omega arith) (sym c.named.ensures ∙ c.if-named.false) ∙ rw e
+pub returns-in_err-field : goal.returns-in_err-field
+returns-in_err-field c =
+    let h = first_from_find c.find.new.self _ None (λ f. named f c.args.kind c.args.instance ≡ true) (λ f. named f c.args.kind c.args.instance ≡ false) c.in_err-field.ensures.ran
+    (YieldsList-from_first (λ f. f) (λ (f : Fields). fields_at f.s.now f.at) _ refl) (λ x q k. search rules) (λ x q k. search rules) in
+    c.from_residual.ensures ∙ sym (find_start _ _ _ ∙ none_is _ _ _ h)
 
 pub returns : goal.returns
-returns c = let s = c.args.s.now in let k = c.loop-p in
-    sym (k.invariant ∙ first_none s k.p _ _ (fields_cut s k.p (omega arith)))
+returns c =
+    let h = first_from_find c.find.new.self _ (Some c.in_ok-field.field) (λ f. named f c.args.kind c.args.instance ≡ true) (λ f. named f c.args.kind c.args.instance ≡ false) c.in_ok-field.ensures.ran
+    (YieldsList-from_first (λ f. f) (λ (f : Fields). fields_at f.s.now f.at) _ refl) (λ x q k. search rules) (λ x q k. search rules) in
+    sym (find_start _ _ _ ∙ some_is _ _ _ c.in_ok-field.field h.1 h.0 h.2 h.3 h.4)

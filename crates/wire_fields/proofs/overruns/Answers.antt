@@ -1,26 +1,20 @@
-use Rattle.wire_fields.specs.Walk.{size_at, over_start, over_end, over_cut, over_past, over_next}
-use native.Mathlib.Omega.{arith}
-use mathlib.Core.Path.{◌≡◌, sym, ◌∙◌}
+use Rattle.std.proofs.Common.{rules, ◌≤◌, ◌+◌, sym, ◌∙◌, None, Some, length}
+use Rattle.wire_fields.specs.Walk.{fields_at}
+use Rattle.wire_fields.proofs.Ahead.{last_left_of, last_within, last_over, none_over, some_left}
 use Rattle.wire_fields.proofs.overruns.Goals as goal
 
-pub loop-p-init : goal.loop-p-init
-loop-p-init c = over_start _
+pub overflow_add-result : goal.overflow_add-result
+overflow_add-result c =
+    let e = last_left_of (λ f. fields_at f.s.now f.at) _ (Some c.in-Some.f) c.in-Some.ensures.ran in
+    let h : c.in-Some.f.found.start + c.in-Some.f.found.size ≤ length c.args.s.now = last_within _ _ e in
+    search (rules, h)
 
-pub returns-then-s-p-lt-BEFORE_VALUE : goal.returns-then-s-p-lt-BEFORE_VALUE
-returns-then-s-p-lt-BEFORE_VALUE c = let s = c.args.s.now in let k = c.loop-p in
-    sym (k.invariant ∙ over_cut s k.p (omega arith) (omega arith))
+pub returns-in-Some : goal.returns-in-Some
+returns-in-Some c =
+    let e = last_left_of (λ f. fields_at f.s.now f.at) _ (Some c.in-Some.f) c.in-Some.ensures.ran in
+    sym (last_over _ _ e)
 
-pub returns-then-s-start : goal.returns-then-s-start
-unfolding size_at
-returns-then-s-start c = let s = c.args.s.now in let k = c.loop-p in
-    let e : c.size_of-size.result ≡ size_at s k.p = c.size_of-size.ensures in
-    sym (k.invariant ∙ over_past s k.p (omega arith) (omega arith))
-
-pub loop-p-preserved : goal.loop-p-preserved
-unfolding size_at
-loop-p-preserved c = let s = c.args.s.now in let k = c.loop-p in
-    let e : c.size_of-size.result ≡ size_at s k.p = c.size_of-size.ensures in
-    k.invariant ∙ over_next s k.p (omega arith) (omega arith) ∙ rw e
-
-pub returns : goal.returns
-returns c = sym (c.loop-p.invariant ∙ over_end _ _ c.loop-p-test.false)
+pub returns-in-None : goal.returns-in-None
+returns-in-None c =
+    let e = last_left_of (λ f. fields_at f.s.now f.at) _ None c.in-None.ensures.ran in
+    rw c.is_empty.ensures (some_left (length c.args.s.now)) ∙ sym (none_over c.args.s.now e)

@@ -5,4 +5,4 @@ use Rattle.wire_header.proofs.flag_of.Goals as goal
 
 pub returns : goal.returns
 unfolding flag_of bare_types tunnel_types not_taken
-returns c = value_at flag_of 256 c.args.kind 0 (search rules)
+returns c = rw c.from.ensures (value_at flag_of 256 c.args.kind 0 (search rules))

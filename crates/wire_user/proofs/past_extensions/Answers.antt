@@ -1,27 +1,40 @@
 use mathlib.Core.Path.{refl, sym, ◌∙◌}
 use native.Mathlib.Omega.{arith}
+use Rattle.std.proofs.lemmas.Result.{err_from_is_err_and}
 use Rattle.base_octets.specs.Places.{tail_part}
+use Rattle.base_octets.specs.Number.{taken}
 use Rattle.wire_user.specs.Stretch.{resumed_start, run-done, run_less, run_within, run_on}
+use Rattle.wire_user.specs.Stretch.{run_refused}
 use Rattle.wire_user.proofs.past_extensions.Goals as goal
 
-pub loop-next-init : goal.loop-next-init
-loop-next-init c = (omega arith, resumed_start c.args.d.now c.args.first)
+pub loop-at-init : goal.loop-at-init
+loop-at-init c = (omega arith, resumed_start c.args.d.now c.args.first)
 
-pub loop-next-smaller : goal.loop-next-smaller
-loop-next-smaller c = let d = c.args.d.now in
-    let w = c.loop-next in
-    let e = simp tail_part at c.walk-left.ensures in
-    run_less d w.number w.next w.left c.loop-next-test.true w.invariant.0 15 _ e
+pub loop-at-smaller : goal.loop-at-smaller
+loop-at-smaller c = let d = c.args.d.now in
+    let w = c.loop-at in
+    let e = simp tail_part at c.walk.ensures in
+    let k = rw c.in_ok-at.was at e in
+    run_less d taken w.at.next w.at.left c.loop-at-test.true w.invariant.0 15 _ k
 
-pub loop-next-preserved : goal.loop-next-preserved
-loop-next-preserved c = let d = c.args.d.now in
-    let w = c.loop-next in
-    let e = simp tail_part at c.walk-left.ensures in
-    let k = run_within d w.number w.next w.left c.loop-next-test.true w.invariant.0 15 _ e in
-    (omega arith, run_on d w.number w.next w.left c.loop-next-test.true w.invariant.0 15 _ e ∙ w.invariant.1)
+pub loop-at-preserved : goal.loop-at-preserved
+loop-at-preserved c = let d = c.args.d.now in
+    let w = c.loop-at in
+    let e = simp tail_part at c.walk.ensures in
+    let k = rw c.in_ok-at.was at e in
+    let l = run_within d taken w.at.next w.at.left c.loop-at-test.true w.invariant.0 15 _ k in
+    (omega arith, run_on d taken w.at.next w.at.left c.loop-at-test.true w.invariant.0 15 _ k ∙ w.invariant.1)
+
+pub returns-in_err-at : goal.returns-in_err-at
+returns-in_err-at c = let d = c.args.d.now in
+    let w = c.loop-at in
+    let p = err_from_is_err_and c.from_residual.result c.from_residual.ensures.1 in
+    let e = simp tail_part at c.walk.ensures in
+    let k = rw c.in_err-at.was at e in
+    rw (p.1, p.2) (run_refused d taken w.at.next w.at.left c.loop-at-test.true w.invariant.0 15 _ k w.invariant.1)
 
 pub returns : goal.returns
 returns c = let a = c.args.d in
-    let w = c.loop-next in
-    let e = sym (run-done a.now w.number w.next w.left c.loop-next-test.false) ∙ w.invariant.1 in
+    let w = c.loop-at in
+    let e = sym (run-done a.now taken w.at.next w.at.left c.loop-at-test.false) ∙ w.invariant.1 in
     rw (← e) (refl, record { memory = refl; place = omega arith; octets = tail_part a.now _ })

@@ -7,7 +7,7 @@ use native.Mathlib.Omega.{arith}
 use lib.ListN.{length}
 use Rattle.base_octets.specs.Places.{tail_part}
 use Rattle.wire_user.specs.Header.{fixed_size, whole_size, user_octet, optional, refusal_of, size_of, header_passed, optional_plain, size_optional, size_plain}
-use Rattle.wire_user.specs.User.{user_plain, user_extended}
+use Rattle.wire_user.specs.User.{user_plain, user_past}
 use Rattle.wire_user.specs.Part.{rest_walked}
 use Rattle.wire_user.proofs.past_header.Goals as goal
 
@@ -57,6 +57,5 @@ slice_bounds-past_extensions-start c = let p = whole c.args.d.now c.requires (sy
 pub returns : goal.returns
 returns c = let a = c.args.d in
     let e = sym c.extended.ensures ∙ c.if-not-extended.false in
-    let u = user_extended a.now whole_size (size c.args.d.now (sym c.optional.ensures ∙ c.if-not-optional.false)) c.requires e in
-    rw (u.0, u.1)
-    (rest_walked _ _ _ a whole_size _ (record { memory = refl; place = omega arith; octets = tail_part a.now whole_size }) c.past_extensions.ensures)
+    rw (user_past a.now whole_size (size a.now (sym c.optional.ensures ∙ c.if-not-optional.false)) c.requires e)
+    (rest_walked _ _ a whole_size _ (record { memory = refl; place = omega arith; octets = tail_part a.now whole_size }) c.past_extensions.ensures)

@@ -1,6 +1,6 @@
-use Rattle.bench_unit.specs.State.{bench_start, first_phase}
+use Rattle.bench_unit.specs.State.{bench_start}
 use Rattle.bench_unit.proofs.Bench.start.Goals as goal
 
 pub returns : goal.returns
-unfolding bench_start first_phase
-returns c = rw (c.fresh-node.ensures, c.none-plan.ensures)
+unfolding bench_start
+returns c = rw (c.fresh.ensures, c.none.ensures)

@@ -4,8 +4,8 @@ use Rattle.unit_session.proofs.OwnRequest.sent_once.Goals as goal
 
 pub returns-then-self-eq0 : goal.returns-then-self-eq0
 unfolding sent_once
-returns-then-self-eq0 c = rw (c.wrapping_add_u8-sends.ensures.value, eq-eqb _ _ c.if-self-eq0.true)
+returns-then-self-eq0 c = rw (eq-eqb _ _ c.if-self-eq0.true)
 
 pub returns : goal.returns
 unfolding sent_once
-returns c = rw (c.wrapping_add_u8-sends.ensures.value, ne_eqb _ _ c.if-self-eq0.false)
+returns c = rw (ne_eqb _ _ c.if-self-eq0.false)

@@ -3,4 +3,4 @@ use Rattle.unit_session.proofs.Session.blank_at.Goals as goal
 
 pub returns : goal.returns
 unfolding blank_at
-returns c = rw c.idle-own.ensures
+returns c = rw c.idle.ensures

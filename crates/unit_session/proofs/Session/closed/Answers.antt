@@ -6,6 +6,6 @@ pub returns-then-self-eq-LIVE : goal.returns-then-self-eq-LIVE
 unfolding closed turned
 returns-then-self-eq-LIVE c = rw (eq-eqb _ _ c.if-self-eq-LIVE.true)
 
-pub returns : goal.returns
+pub returns-else-self-eq-LIVE : goal.returns-else-self-eq-LIVE
 unfolding closed turned
-returns c = rw (ne_eqb _ _ c.if-self-eq-LIVE.false)
+returns-else-self-eq-LIVE c = rw (ne_eqb _ _ c.if-self-eq-LIVE.false)

@@ -3,4 +3,4 @@ use Rattle.unit_session.proofs.Session.opened.Goals as goal
 
 pub returns : goal.returns
 unfolding opened
-returns c = rw (c.idle-own.ensures, c.next_use-usage.ensures)
+returns c = rw (c.idle.ensures, c.next_use.ensures)

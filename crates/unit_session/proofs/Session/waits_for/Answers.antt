@@ -1,9 +1,6 @@
 use Rattle.unit_session.specs.Session.{waits_for}
 use Rattle.unit_session.proofs.Session.waits_for.Goals as goal
 
--- src/lib.rt:184:9
--- src/lib.rt:180:5
-
 pub returns : goal.returns
 unfolding waits_for
 returns c = c.awaits.ensures

@@ -1,22 +1,15 @@
-use Rattle.std.proofs.Common.{arith, eq-eqb, ne_eqb, le-leb}
-use borrow.Author.Tests.{lt-leb}
-use Rattle.unit_table.specs.Recovery.{judged, most_ahead, turned_is}
+use Rattle.std.proofs.Common.{arith, sym}
+use Rattle.unit_table.specs.Recovery.{most_ahead, turned, judged_same, judged_restarted, judged_late}
 use Rattle.unit_table.proofs.Judged.of.Goals as goal
 
-pub returns-then-ahead-eq0 : goal.returns-then-ahead-eq0
-unfolding judged
-returns-then-ahead-eq0 c = let a = c.args in
-    let d = c.wrapping_sub_u8-ahead in
-    rw (← turned_is d.result a.received a.stored (omega arith) (omega arith) d.ensures.value, eq-eqb _ _ c.if-ahead-eq0.true)
+pub returns-in-0 : goal.returns-in-0
+unfolding turned
+returns-in-0 c = sym (judged_same _ (omega arith))
 
-pub returns-then-ahead-le-MOST_AHEAD : goal.returns-then-ahead-le-MOST_AHEAD
-unfolding judged most_ahead
-returns-then-ahead-le-MOST_AHEAD c = let a = c.args in
-    let d = c.wrapping_sub_u8-ahead in
-    rw (← turned_is d.result a.received a.stored (omega arith) (omega arith) d.ensures.value, ne_eqb _ _ c.if-ahead-eq0.false, le-leb d.result 127 c.if-ahead-le-MOST_AHEAD.true)
+pub returns-in_default : goal.returns-in_default
+unfolding turned most_ahead
+returns-in_default c = sym (judged_restarted _ (omega arith) (omega arith))
 
-pub returns : goal.returns
-unfolding judged most_ahead
-returns c = let a = c.args in
-    let d = c.wrapping_sub_u8-ahead in
-    rw (← turned_is d.result a.received a.stored (omega arith) (omega arith) d.ensures.value, ne_eqb _ _ c.if-ahead-eq0.false, lt-leb d.result 127 c.if-ahead-le-MOST_AHEAD.false)
+pub returns-in_default-2 : goal.returns-in_default-2
+unfolding turned most_ahead
+returns-in_default-2 c = sym (judged_late _ (omega arith))

@@ -2,10 +2,10 @@ use Rattle.std.proofs.Common.{sym, ◌∙◌}
 use Rattle.unit_table.specs.Own.{echo_ticked}
 use Rattle.unit_table.proofs.Node.echo_ticked.Goals as goal
 
-pub returns-then-over : goal.returns-then-over
+pub returns-then-spent : goal.returns-then-spent
 unfolding echo_ticked
-returns-then-over c = rw (c.rested.ensures, sym c.spent-over.ensures ∙ c.if-over.true)
+returns-then-spent c = rw (c.rested.ensures, sym c.spent.ensures ∙ c.if-spent.true)
 
 pub returns : goal.returns
 unfolding echo_ticked
-returns c = rw (c.counted_down.ensures, sym c.spent-over.ensures ∙ c.if-over.false)
+returns c = rw (c.counted_down.ensures, sym c.spent.ensures ∙ c.if-spent.false)

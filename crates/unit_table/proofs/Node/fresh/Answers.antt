@@ -3,4 +3,4 @@ use Rattle.unit_table.proofs.Node.fresh.Goals as goal
 
 pub returns : goal.returns
 unfolding fresh_node
-returns c = rw (c.rested-echo.ensures, c.idle-none.ensures)
+returns c = rw (c.rested.ensures, c.idle.ensures)
