@@ -1,6 +1,7 @@
 // Numbers and octets as text: decimal and hex both ways, and text laid into a lent buffer from a place on. Capitals only in hex.
 // No call asks anything of its caller: text that does not fit is cut at the buffer's end.
-// Kept: buffer and place are no struct: each caller has the place as its own value (the bench's `made`, the size that C is told), and would make one to take it apart.
+// Kept: buffer and place are no struct: each caller has the place as its own value (the bench's `made`, the size that C is told).
+// Kept: decimal and hex are laid here and not by `write!`: the clauses say each octet, and that what does not fit is cut at the buffer's end.
 #![tactic(auto)]
 
 ghost use Rattle.std.specs.Prelude.{[], ◌∷◌, ◌≡◌, ◌/◌};
@@ -130,6 +131,7 @@ pub fn read_octets(text: &[u8], out: &mut [u8]) -> Option<usize>
     if !odd.is_empty() || out.len() < pairs.len() || !text.iter().all(|c| is_hex(*c)) {
         return None;
     }
+    // Kept: over `out.iter_mut().zip(pairs)` the goal `returns` stayed open, with no name in it for the buffer behind the loop.
     for (i, pair) in pairs.iter().enumerate() {
         out[i] = octet_from(pair[0], pair[1]);
     }

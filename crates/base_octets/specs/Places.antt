@@ -1,8 +1,8 @@
 -- Places of a list: what a part of it holds, a loop that writes every place, an array that a loop fills,
 -- and a table that lists a function's values. Any element type.
 -- Assumes nothing.
-use Prim.Native.Nat.{ℕ, zero, suc, ◌+◌, ◌-◌, ◌<◌, ◌≤◌}
-use mathlib.Core.List.{List, [], ◌∷◌, map, map-append}
+use Prim.Native.Nat.{ℕ, zero, suc, ◌+◌, ◌-◌, ◌<◌, ◌≤◌, min}
+use mathlib.Core.List.{List, [], ◌∷◌, ◌++◌, map, map-append}
 use Rattle.std.specs.Prelude.{◌≡◌, length, take, drop, get_or, set, replicate}
 use Rattle.std.proofs.Math.Path.{refl, ap}
 use Rattle.std.proofs.Common.{sym, ◌∙◌, add-zero, zero-add, add-suc, suc-add, add-one, arith, length-drop, drop-cons, take-suc, take-suc-set, take_all}
@@ -78,6 +78,18 @@ module _ {A : Type 0} (f : A → A) where
   map_all zero (x ∷ l) h = absurd (omega arith)
   map_all (suc i) [] h = refl
   map_all (suc i) (x ∷ l) h = ap (λ (m : List A). f x ∷ m) (map_all i l (omega arith))
+
+  part_first : (n : ℕ) (l : List A) → map f (take (min n (length l)) l) ++ drop (min n (length l)) l ≡ map_first f n l
+  unfolding map_first
+  part_first zero l = let e : min 0 (length l) ≡ 0 = omega arith in rw e
+  part_first (suc n) [] = let e : min (suc n) 0 ≡ 0 = omega arith in rw e
+  part_first (suc n) (x ∷ l) =
+      let e : min (suc n) (suc (length l)) ≡ suc (min n (length l)) = omega arith in
+      rw e (ap (λ (m : List A). f x ∷ m) (part_first n l))
+
+  -- the end of a loop over the first n, or over all where there are fewer: what it leaves of them, with the rest behind
+  pub first_part : (n m i : ℕ) (l : List A) → m ≡ min n (length l) → length (take m l) ≤ i → map_first f i (take m l) ++ drop m l ≡ map_first f n l
+  first_part n m i l e h = rw (map_all i (take m l) h, e) (part_first n l)
 
 -- every element the same
 pub map_same : {A B : Type 0} (b : B) (l : List A) → map (λ x. b) l ≡ replicate (length l) b

@@ -1,11 +1,10 @@
-// What every layer stands on: the numbers that come back, big-endian numbers, the comparison of two runs of octets, and the one copy
-// of a message into a lent buffer. The laws on lists and numbers that every layer cites are in specs/.
+// What every layer stands on: the numbers that come back, big-endian numbers, and the one copy of a message into a lent buffer. The laws on
+// lists and numbers that every layer cites are in specs/.
 #![tactic(auto)]
 
 ghost use Rattle.std.specs.Prelude.{[], ◌∷◌, ◌≡◌};
 ghost use Rattle.base_octets.specs.BigEndian.{number_of, octets_of};
 ghost use Rattle.base_octets.specs.Overlay.{overlay};
-ghost use Rattle.base_octets.specs.Same.{same_octets};
 
 mod refused;
 
@@ -106,14 +105,6 @@ pub fn octets32(n: u32) -> [u8; 4]
     ensures { result ≡ octets_of 4 n }
 {
     n.to_be_bytes()
-}
-
-// Whether two runs of octets are the same.
-#[tactic(auto, using(crate::specs::Same::same_slices))]
-pub fn same_octets(a: &[u8], b: &[u8]) -> bool
-    ensures { result ≡ same_octets a.now b.now }
-{
-    a == b
 }
 
 // The message laid over the front of the buffer; the octets past it stay.

@@ -61,6 +61,7 @@ fn goes_on(b: Bench, many: bool, line: &[u8]) -> bool
 }
 
 // What was printed so far goes over to the fresh run.
+#[tactic(auto, unfolding(crate::specs::Room::start_anew, crate::specs::Room::anew_of, bench_unit::specs::State::with_made))]
 fn start_anew(run: &mut Run<'_>, many: bool, line: &[u8])
     ensures { ran_of run.new ≡ on (start_anew many line.now) run.old }
 {

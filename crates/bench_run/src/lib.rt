@@ -7,6 +7,7 @@ ghost use Rattle.bench_unit.specs.State.{on, printing, ran_of, SameLent};
 ghost use Rattle.bench_run.specs.Run.{has_due, one_sent, all_sent, control_run, third_shown, user_run, down_run, answer_sent, tick_run, close_run};
 ghost use Rattle.bench_run.specs.Taken.{run_line, leave_plan, plan_line, line_taken};
 
+use base_octets::Number;
 use bench_text::Line;
 use bench_unit::{Phase, Run, front};
 use call_own::Answer;
@@ -21,7 +22,7 @@ fn send_one(run: &mut Run<'_>) -> bool
 {
     let mut reply = [0; Answer::LEAST_REPLY];
     let a = lent_own::grugavorn_send(run.bench.node, run.recs, &mut *run.store, &mut reply);
-    if a.number != 0 {
+    if a.number != Number::TAKEN {
         return false;
     }
     run.bench.made = bench_text::put_due(run.out, run.bench.made, front(&reply, a.size));
@@ -88,7 +89,7 @@ fn run_user(run: &mut Run<'_>, d: &[u8])
         &mut reply,
     );
     let part = front(&reply, h.size);
-    if h.number == 0 && h.size == 0 {
+    if h.number == Number::TAKEN && h.size == 0 {
         return show_third(run, h.number, part, Some(behind(d, h.start)));
     }
     show_third(run, h.number, part, None);
@@ -111,7 +112,7 @@ fn run_down(run: &mut Run<'_>, packet: &[u8])
         &mut buffer,
     );
     let part = front(&buffer, w.size);
-    if w.number == 0 {
+    if w.number == Number::TAKEN {
         return show_third(run, w.number, part, Some(&base_octets::octets32(w.peer)));
     }
     show_third(run, w.number, part, None);

@@ -10,6 +10,7 @@ ghost use Rattle.bench_unit.specs.State.{is_over, on, ran_of, printing, SameLent
 ghost use Rattle.bench_unit.specs.Ended.{place_printed, places_printed, end_plan, end_of_input};
 ghost use Rattle.bench_unit.specs.Plans.{point_from, one_more, plan_taken, start_line};
 
+use base_octets::Number;
 use bench_text::Line;
 use call_own::Answer;
 use unit_plan::{AccessPoint, Plan};
@@ -46,6 +47,7 @@ pub struct Bench {
 }
 
 impl Bench {
+    #[tactic(auto, unfolding(crate::specs::State::bench_start))]
     pub fn start() -> Self
         ensures { result ≡ bench_start }
     {
@@ -58,6 +60,7 @@ impl Bench {
     }
 
     // A line more; the count stays where it can go no further.
+    #[tactic(auto, unfolding(crate::specs::State::with_line, crate::specs::State::counted))]
     pub fn with_line(mut self) -> Self
         ensures { result ≡ with_line self }
     {
@@ -73,6 +76,7 @@ pub fn front<T>(s: &[T], n: usize) -> &[T]
     &s[..n.min(s.len())]
 }
 
+#[tactic(auto, unfolding(crate::specs::Plans::point_from, unit_plan::specs::Limits::longest_name))]
 fn point_from(guarantee: u8, ceiling: u8, octets: &[u8]) -> AccessPoint
     ensures { result ≡ point_from guarantee ceiling octets.now }
 {
@@ -183,7 +187,7 @@ impl Run<'_> {
         ensures lent { SameLent self.old self.new }
     {
         let a = lent_fresh::grugavorn_fresh(self.bench.node.plan, self.recs, self.store);
-        if a.number != 0 {
+        if a.number != Number::TAKEN {
             self.bench.phase = Phase::Over;
             return self.show_answered(a, &[]);
         }

@@ -26,6 +26,7 @@ pub enum Concern {
 #[derive(Clone, Copy)]
 pub enum Asked {
     // a number alone
+    // Kept: a `u8`, since the number of a reply is any octet, and C sees it.
     Silent(u8),
     // another version, which is answered
     Version,

@@ -21,10 +21,7 @@ use wire_requests::{Context, Create};
 pub fn restarts_by(node: Node, recovery: Option<u8>) -> bool
     ensures { result ≡ restarts_by recovery node }
 {
-    match recovery {
-        Some(value) => matches!(node.judged(value), Judged::Restarted),
-        None => false,
-    }
+    recovery.is_some_and(|value| matches!(node.judged(value), Judged::Restarted))
 }
 
 // A Recovery value is stored, but a late one is thrown away.

@@ -88,6 +88,7 @@ pub fn put_line(out: &mut [u8], place: usize, s: Session) -> usize
 }
 
 // The control address of a session's peer; 0 of a free place.
+// Kept: 0 and no Option: C has it as it is, from `grugavorn_peer`.
 pub fn peer_of(s: Session) -> u32
     ensures { result ≡ peer_of s }
 {
@@ -98,6 +99,7 @@ pub fn peer_of(s: Session) -> u32
 }
 
 // The address of a place's session, by the plan; 0 past the last place.
+// Kept: 0 and no Option: C has it as it is, from `grugavorn_address`.
 pub fn address_at(node: Node, place: usize) -> u32
     ensures { result ≡ address_at node place }
 {

@@ -1,7 +1,7 @@
 -- What the calls with the store come to, in the words of the calls without it: where the store keeps its rules they are document 01's calls; a
 -- rule that is broken, of the table or of the store, is 2; a request that the store knows is answered from it.
 -- Assumes nothing.
-use Rattle.std.specs.Prelude.{ℕ, ◌<◌, ◌≤◌, Bool, false, ◌||◌, not, List, [], ◌≡◌, length, ltb, leb, Result, Ok, Err}
+use Rattle.std.specs.Prelude.{ℕ, ◌<◌, ◌≤◌, Bool, false, ◌||◌, not, List, [], ◌≡◌, length, ltb, leb, Ok, Err}
 use Rattle.std.proofs.Math.Bool.{true}
 use Rattle.std.proofs.Math.Path.{refl}
 use Rattle.std.proofs.Common.{sym, ◌∙◌, arith, length-take}
@@ -43,7 +43,6 @@ use Rattle.call_asked.specs.Answers.{is_modify, is_delete, modify_answers}
 use Rattle.call_asked.proofs.DeleteAnswers.{delete_answers}
 use Rattle.call_control.specs.Control.{control_taken}
 use Rattle.call_store.specs.Stored.{stored, keeps, broken_number, close_stored, send_stored, line_stored, user_stored, down_stored, empty_store, fresh_stored, tick_stored, asks_store, is_kept, kept_for, store_after, taken_stored, control_stored, three_asked, kept_place}
-use Rattle.wire_fields.specs.declared.Refusal.{Refusal}
 use Rattle.wire_requests.specs.Chain.{Decoded}
 
 -- ---- the rules, of the table and of the store

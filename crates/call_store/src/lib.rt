@@ -25,8 +25,7 @@ pub struct Query {
 
 // What a datagram asks of the store: whether the store keeps its rules, what the datagram is known by where it is one that asks it, and the
 // place of the kept reply, past the last where there is none.
-// Kept: `at` is a place that is held against the count of rows, which `number_in` and `lay` require below it: an Option would be tested
-// and then held against the count all the same.
+// Kept: `at` is held against the count of rows, below which `number_in` and `lay` require it: an Option would be tested besides.
 #[derive(Clone, Copy)]
 pub struct Ask {
     pub sound: bool,
@@ -85,6 +84,7 @@ pub fn wish_of(store: &[[u8; Kept::OCTETS]], ask: Ask, asked: Asked) -> Asked
 }
 
 // What the store is asked for, where it answers or keeps the answer: nothing is refused before it is asked.
+#[tactic(auto, unfolding(crate::specs::Steps::told, call_own::specs::Outcome::least_reply))]
 fn told(room: usize, kept: bool, ask: Ask) -> Option<Query>
     ensures { result ≡ told room kept ask }
 {
@@ -124,6 +124,7 @@ pub fn settled(
 }
 
 // The count of records that fresh goes by: none where there is another count of rows.
+// Kept: this, `cleared_rows`, `aged_count` and `whole` are a test and two figures each, which a shared function would be handed.
 pub fn count_with(count: usize, rows: usize) -> usize
     ensures { result ≡ count_with count rows }
 {

@@ -29,6 +29,7 @@ pub struct Handed {
 }
 
 // The place that the tunnel number names, whatever the datagram is; past the last where it names none or is cut.
+// Kept: a place and no Option, as `place_named` of unit_table.
 #[tactic(auto, unfolding(crate::specs::OneRecord::place_in))]
 pub fn place_in(d: &[u8]) -> usize
     ensures { result ≡ place_in d.now }
@@ -38,6 +39,7 @@ pub fn place_in(d: &[u8]) -> usize
 }
 
 // What a user datagram comes to, with the payload as the part of the datagram that it is: its empty end where nothing is handed up.
+// Kept: number and place stand beside the payload in every case: the clause of `done` fixes them by `took` also where nothing is handed up.
 #[derive(Clone, Copy)]
 pub struct Delivery<'a> {
     pub number: u8,

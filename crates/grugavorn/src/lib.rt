@@ -1,5 +1,6 @@
 // The library for firmware: the calls on lent records, exported to C under the names of include/grugavorn.h. Each is that of its crate, which
 // promises the same.
+// Kept: the exports stand beside those functions under C's names and have no code of their own.
 #![tactic(auto)]
 
 ghost use Rattle.std.specs.Prelude.{[], ◌≡◌, length};

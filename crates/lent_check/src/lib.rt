@@ -20,6 +20,7 @@ use unit_table::Node;
 use unit_tunnel::Unit;
 
 // One number of each record, where there are as many as places and it is wanted; zeros otherwise.
+// Kept: over `t.iter_mut().zip(recs)` the goal `returns` stayed open: while `t` is lent the invariant has no word for what it holds.
 fn read<F: Fn(&Session) -> u64>(recs: &[Session], wanted: bool, f: F) -> [u64; Unit::PLACES]
     requires { F.IsAlwaysCallable f }
     ensures { (g : Session → ℕ) → ((s : Session) (n : ℕ) → FnReturnsAt F.Fn f s n → n ≡ g s) → result ≡ read_of g wanted recs.now }

@@ -25,10 +25,7 @@ pub fn whole(count: usize) -> usize
 pub fn read(recs: &[Session], i: usize) -> Session
     ensures { result ≡ get_or recs.now i (blank_at 0) }
 {
-    match recs.get(i) {
-        Some(s) => *s,
-        None => Session::blank_at(0),
-    }
+    recs.get(i).copied().unwrap_or(Session::blank_at(0))
 }
 
 // One record replaced; where there is no such place, nothing.
@@ -41,8 +38,7 @@ pub fn put(recs: &mut [Session], i: usize, s: Session)
 }
 
 // The first n records changed, or all where there are fewer; the rest stay.
-// Kept: a tick and a restart choose the change once for all records, and hand it on as a value: a closure would hold the same value, and
-// the contract would speak of two.
+// Kept: a tick and a restart choose the change once and hand it on as a value: a closure would hold it, and the contract speak of both.
 pub fn change_each(recs: &mut [Session], c: Change, n: usize)
     ensures { recs.new ≡ map_first (changed_by c) n recs.old }
 {

@@ -1,7 +1,7 @@
 -- User datagrams with lent records, in numbers: what the one record that was read says is what the whole lent list says.
 -- Assumes nothing.
 use Rattle.std.specs.Prelude.{ℕ, ◌-◌, ◌≤◌, Bool, false, List, ◌≡◌, length, get_or, ltb}
-use Rattle.std.proofs.Common.{◌∙◌, arith}
+use Rattle.std.proofs.Common.{◌∙◌, arith, subst, refl}
 use Rattle.std.specs.Borrow.{Bor}
 use Rattle.base_octets.specs.Choice.{split}
 use Rattle.unit_session.specs.declared.Session.{Session}
@@ -14,7 +14,7 @@ use Rattle.call_own.specs.Outcome.{least_reply}
 use Rattle.call_user.specs.User.{Took, took}
 use Rattle.call_store.specs.Stored.{keeps, broken_number, user_stored}
 use Rattle.call_store.specs.Steps.{keeps_by, keeps-not}
-use Rattle.call_user.specs.OneRecord.{place_in, done, done_is}
+use Rattle.call_user.specs.OneRecord.{place_in, done, done_is, done_within}
 use Rattle.call_user.specs.Parcel.{parcel, parcel_of}
 
 -- what was read and answered is what is said of the lent list
@@ -26,6 +26,12 @@ user_lent node l w d reply kept at s e-k e-a e-s =
     (λ ok. let k : kept ≡ keeps_rules node l = e-k ∙ keeps_by node l w ok in rw (ok, e-s, e-a, k) (done_is node l d reply))
     (λ ok. let k : kept ≡ false = e-k ∙ keeps-not node l w ok in
     split (ltb (length reply) least_reply) (λ b. rw (ok, k, b)) (λ b. rw (ok, k, b)))
+
+-- what is handed up begins within the datagram, or at its end
+pub stored_within : (node : Node) (l : List Session) (w : List (List ℕ)) (d reply : List ℕ) → (user_stored node l w d reply).start ≤ length d
+stored_within node l w d reply =
+    let s = get_or l (place_in d) (blank_at 0) in
+    subst (λ (x : Took). x.start ≤ length d) (user_lent node l w d reply (keeps node l w) (place_in d) s refl refl refl) (done_within (keeps node l w) node s d reply)
 
 -- the part's length gives its place
 pub parcel_is : (r d : Bor (List ℕ)) (reply : List ℕ) (x : Took) (number place size : ℕ) → x.start ≤ length d.now

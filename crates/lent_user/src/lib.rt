@@ -5,7 +5,6 @@
 ghost use Rattle.std.specs.Prelude.{◌≡◌, length};
 ghost use Rattle.wire_user.specs.Part.{IsRest};
 ghost use Rattle.call_user.specs.User.{took};
-ghost use Rattle.call_user.specs.OneRecord.{done};
 ghost use Rattle.call_store.specs.Stored.{user_stored};
 ghost use Rattle.call_user.specs.Parcel.{parcel, parcel_of};
 
@@ -13,22 +12,6 @@ use call_user::{Delivery, Handed};
 use unit_session::Session;
 use unit_store::Kept;
 use unit_table::Node;
-
-// Take user datagram, answered in numbers, where it is known whether the records keep the rules, with the record at the place that the
-// datagram concerns.
-pub fn user_at(kept: bool, node: Node, s: Session, d: &[u8], reply: &mut [u8]) -> Handed
-    ensures { parcel result reply.new ≡ parcel_of (length d.now) (done kept node s d.now reply.old) }
-{
-    let taken = call_user::done(kept, node, s, d, reply);
-    let octets = taken.payload.len();
-    Handed {
-        number: taken.number,
-        place: taken.place,
-        size: taken.size,
-        start: d.len() - octets,
-        octets,
-    }
-}
 
 // Take user datagram.
 pub fn take_user<'a>(
@@ -58,8 +41,13 @@ pub fn grugavorn_user(
 ) -> Handed
     ensures { parcel result reply.new ≡ parcel_of (length d.now) (user_stored node recs.now store.now d.now reply.old) }
 {
-    let kept = lent_check::keeps(node, recs, store);
-    let at = call_user::place_in(d);
-    let s = lent_records::read(recs, at);
-    user_at(kept, node, s, d, reply)
+    let taken = take_user(node, recs, store, d, reply);
+    let octets = taken.payload.len();
+    Handed {
+        number: taken.number,
+        place: taken.place,
+        size: taken.size,
+        start: d.len() - octets,
+        octets,
+    }
 }

@@ -1,5 +1,6 @@
 // The exported calls, as a host sees them: by their contracts and types alone. Each call made twice on equal arguments comes to the same, in the
 // answer, the lent records, the store and the reply buffer; and each meets what the demands say of a call in a run (`Called`, in promise_demands).
+// Kept: one function an exported call, each with what it is lent twice: the calls differ in what that is, and C names them.
 #![tactic(auto)]
 
 ghost use Rattle.std.specs.Prelude.{[], ◌≡◌};

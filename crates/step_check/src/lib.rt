@@ -47,8 +47,7 @@ pub enum Standing {
     Awaiting,
 }
 
-// Kept: key, flags and access point are one number: so a G-PDU with 64 live sessions costs 4,200 instructions, 0.94 of the plain
-// implementation in C, where the aim is 1.0 (docs/SPEED.md).
+// Kept: key, flags and access point in one number are what one pass compares; a struct of them takes more of fixed memory, or three arrays.
 impl Summary {
     // the bits of a digest: the key has the low ones, the access point the top two
     pub const KEYS: u64 = 288230376151711744;
@@ -78,6 +77,7 @@ impl Summary {
 }
 
 // The digest of a free record, by whether it is as a free one has to be.
+#[tactic(auto, unfolding(crate::specs::Digest::free_digest, crate::specs::Digest::spoilt))]
 pub fn free_digest(ok: bool) -> u64
     ensures { result ≡ free_digest ok }
 {
@@ -99,16 +99,16 @@ pub fn taken_digest(b: Bounds, s: Session) -> u64
     }
     let own = s.own;
     let key = step_keys::key(s);
-    let quiet = std::num::wrapping_add_u64(key, (s.point % 4) as u64 * Summary::POINT);
-    let under_way = (own.number / OwnRequest::NUMBERS) as u64 * Summary::PAST_RANGE
-        | own.sends as u64 * 256
-        | own.timer as u64;
+    let quiet = key.wrapping_add(u64::from(s.point % 4) * Summary::POINT);
+    let under_way = u64::from(own.number / OwnRequest::NUMBERS) * Summary::PAST_RANGE
+        | u64::from(own.sends) * 256
+        | u64::from(own.timer);
     if under_way == 0 {
         if s.state == Session::LIVE {
             return quiet;
         }
         if s.state == Session::CLOSING {
-            return std::num::wrapping_add_u64(quiet, Summary::DUE);
+            return quiet.wrapping_add(Summary::DUE);
         }
         return Summary::SPOILT;
     }
@@ -117,9 +117,9 @@ pub fn taken_digest(b: Bounds, s: Session) -> u64
         return Summary::SPOILT;
     }
     if own.timer == 0 {
-        return std::num::wrapping_add_u64(quiet, Summary::DUE + Summary::AWAITS);
+        return quiet.wrapping_add(Summary::DUE + Summary::AWAITS);
     }
-    std::num::wrapping_add_u64(quiet, Summary::AWAITS)
+    quiet.wrapping_add(Summary::AWAITS)
 }
 
 // The key in a digest; 0 is none.
@@ -150,6 +150,7 @@ fn lacks(ds: &[u64], x: u64, from: usize) -> bool
 }
 
 // The mark of a key.
+#[tactic(auto, unfolding(crate::specs::Digest::mark_of))]
 fn mark(x: u64) -> usize
     ensures { result ≡ mark_of x }
 {
@@ -191,11 +192,12 @@ fn note(
     }
     *flags = d | *flags;
     let a = (d / Summary::POINT) as usize;
-    tallies[a] = std::num::wrapping_add_u64(tallies[a], 1);
+    tallies[a] = tallies[a].wrapping_add(1);
     enters(ds, d, from, marks)
 }
 
 // Four tallies as one number.
+#[tactic(auto, unfolding(crate::specs::Over::packed_in))]
 fn packed_in(tallies: [u64; 4]) -> u64
     ensures { result ≡ packed_in tallies }
 {
@@ -224,8 +226,7 @@ fn passed(ds: &[u64; Unit::PLACES], n: usize) -> usize
 }
 
 // A place from which on all are free. The steps are uneven, so that the loop stays a loop in the machine's code.
-// Kept: `rposition` takes 171 instructions where no place is taken, this 129 (with 32 taken 91 and 83, with 64 taken 14 and 39); with none
-// taken a G-PDU with a full store is above its aim, 1.2 of the plain implementation, as it is (docs/SPEED.md).
+// Kept: 129, 83, 39 instructions with 0, 32, 64 taken, `rposition` 171, 91, 14: a call on an empty unit is 42 of 2,713 less (1.5 in 100), a full 25 more.
 fn used(ds: &[u64; Unit::PLACES]) -> usize
     ensures { (result ≤ length ds.now) × (free_above ds.now result ≡ true) }
 {
@@ -355,6 +356,7 @@ pub struct Checked {
 }
 
 // The table where no place awaits a number, or where it is broken anyway.
+#[tactic(auto, unfolding(crate::specs::Summary::checked_as))]
 pub fn checked_quiet(kept: bool, findings: Findings) -> Checked
     ensures { result ≡ checked_as (pick {A = Standing} kept Quiet Broken) findings }
 {
@@ -391,9 +393,5 @@ pub fn checked_awaiting(
 pub fn stands_by(how: Standing) -> bool
     ensures { result ≡ stands_by how }
 {
-    match how {
-        Standing::Broken => false,
-        Standing::Quiet => true,
-        Standing::Awaiting => true,
-    }
+    how != Standing::Broken
 }

@@ -6,6 +6,7 @@ ghost use Rattle.std.specs.Prelude.{◌≡◌};
 ghost use Rattle.call_control.specs.Control.{restarts_in};
 ghost use Rattle.step_control.specs.Step.{restarts_now, key_of, old_of, basis_by, basis_of, repeats_at, room_for, verdict_of, verdict_in, opens_at, concerned_of, taken_with, unmoved_on, full_on, entered_on, open_on, named_on, asked_on, taken_on, node_after, freed_count, changed_places};
 
+use base_octets::Number;
 use call_asked::{Asked, Concern};
 use call_own::{Answer, Span};
 use step_check::{Checked, Findings};
@@ -87,6 +88,7 @@ fn restarts_now(room: usize, a: Asked, node: Node) -> bool
 }
 
 // The key of IMSI and EBI that is asked for; 0, which no session has, where none is.
+// Kept: 0 and no Option, since `findings_of` and `checked_of` go by it.
 #[tactic(auto, unfolding(crate::specs::Step::key_of))]
 pub fn key_of(a: Asked) -> u64
     ensures { result ≡ key_of a }
@@ -189,6 +191,7 @@ pub fn verdict_in(g: Basis, node: Node, a: Asked, s: Session) -> Verdict
 }
 
 // The place that is opened; past the last where none is.
+// Kept: a place and no Option, here and in Basis: at one past the last `lent_records` reads and puts nothing, as `verdict_of` goes by.
 #[tactic(auto, unfolding(crate::specs::Step::opens_at, unit_tunnel::specs::Numbering::places))]
 pub fn opens_at(v: Verdict) -> usize
     ensures { result ≡ opens_at v }
@@ -256,7 +259,7 @@ fn entered_on(c: Create, seq: u32, node: Node, p: Concerned, reply: &mut [u8]) -
         old: p.oldrecord.freed(),
         new,
         span: Span::two_places(p.old, p.new),
-        ..unmoved_on(0, size, false, c.recovery, p)
+        ..unmoved_on(Number::TAKEN, size, false, c.recovery, p)
     }
 }
 
@@ -268,7 +271,7 @@ fn open_on(c: Create, seq: u32, node: Node, p: Concerned, reply: &mut [u8]) -> T
     match p.verdict {
         Verdict::Still => {
             let size = call_control::write_accepted(node.plan, seq, p.old, p.oldrecord, reply);
-            unmoved_on(0, size, false, c.recovery, p)
+            unmoved_on(Number::TAKEN, size, false, c.recovery, p)
         }
         Verdict::Opens(_) => entered_on(c, seq, node, p, reply),
         Verdict::Full => full_on(c, seq, p, reply),
@@ -302,7 +305,7 @@ fn asked_on(node: Node, a: Asked, p: Concerned, reply: &mut [u8]) -> Taken
         Asked::Silent(number) => unmoved_on(number, 0, false, None, p),
         Asked::Version => {
             let size = wire_messages::version_not_supported(reply);
-            unmoved_on(5, size, false, None, p)
+            unmoved_on(Number::OTHER_VERSION, size, false, None, p)
         }
         Asked::Echo { recovery, sequence } => {
             let size = wire_messages::echo_of(
@@ -311,9 +314,9 @@ fn asked_on(node: Node, a: Asked, p: Concerned, reply: &mut [u8]) -> Taken
                 sequence,
                 node.plan.recovery,
             );
-            unmoved_on(0, size, false, recovery, p)
+            unmoved_on(Number::TAKEN, size, false, recovery, p)
         }
-        Asked::EchoReply { recovery } => unmoved_on(0, 0, true, recovery, p),
+        Asked::EchoReply { recovery } => unmoved_on(Number::TAKEN, 0, true, recovery, p),
         Asked::Create { create, sequence } => open_on(create, sequence, node, p, reply),
         Asked::Refused { why, to, sequence } => {
             let size = call_control::write_cause(
@@ -339,10 +342,10 @@ pub fn taken_on(node: Node, a: Asked, p: Concerned, reply: &mut [u8]) -> Taken
     ensures { taken_with result reply.new ≡ taken_on node a p reply.old }
 {
     if reply.len() < Answer::LEAST_REPLY {
-        return unmoved_on(1, 0, false, None, p);
+        return unmoved_on(Number::REPLY_SHORT, 0, false, None, p);
     }
     if !p.kept {
-        return unmoved_on(2, 0, false, None, p);
+        return unmoved_on(Number::RULES_BROKEN, 0, false, None, p);
     }
     asked_on(node, a, p, reply)
 }

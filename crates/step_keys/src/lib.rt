@@ -29,10 +29,13 @@ impl Parts {
     pub const FOURTH_UNIT: u64 = 281474976710656;
 }
 
+// The key of a record.
+// Kept: 0 is no key, and no Option: `base_distinct` holds keys apart by that law, and a digest has the key in its low bits.
+#[tactic(auto, unfolding(crate::specs::Survey::key_of))]
 pub fn key(s: Session) -> u64
     ensures { result ≡ key_of s }
 {
-    if s.state == Session::FREE {
+    if s.is_free() {
         return 0;
     }
     id_key(s.imsi, s.ebi)
@@ -45,6 +48,8 @@ pub fn id_key(imsi: u64, ebi: u8) -> u64
     imsi % Parts::IMSI_PART * 256 + u64::from(ebi)
 }
 
+// What a request awaits, as a key.
+// Kept: 0 is no key, and no Option: `base_distinct` holds the awaited numbers apart by that law.
 #[tactic(auto, unfolding(crate::specs::Survey::wait_of))]
 pub fn wait(r: OwnRequest) -> u64
     ensures { result ≡ wait_of r }
@@ -68,10 +73,11 @@ fn point_unit(point: u8) -> u64
     }
 }
 
+#[tactic(auto, unfolding(crate::specs::Survey::weight_of))]
 pub fn weight(s: Session) -> u64
     ensures { result ≡ weight_of s }
 {
-    if s.state == Session::FREE {
+    if s.is_free() {
         return 0;
     }
     point_unit(s.point)
@@ -90,6 +96,7 @@ pub fn unpacked(counts: u64) -> [u16; 4]
 }
 
 // What a record is held to of the plan.
+#[tactic(auto, unfolding(unit_table::specs::Rules::bounds_of))]
 pub fn bounds(plan: Plan) -> Bounds
     ensures { result ≡ bounds_of plan }
 {
@@ -101,6 +108,7 @@ pub fn bounds(plan: Plan) -> Bounds
 }
 
 // Whether nobody awaits a number: neither the echo nor a place.
+#[tactic(auto, unfolding(crate::specs::Unclaimed::unclaimed, base_distinct::specs::Apart::same_key))]
 fn unclaimed(k: u32, echo: u64, keys: &[u64]) -> bool
     ensures { result ≡ unclaimed k echo keys.now }
 {

@@ -1,7 +1,7 @@
 -- A way to compute a send: who is sent next, what becomes of the record, what is answered. Nothing here is to be believed: lent_own shows that
 -- these steps are `send_of`.
 -- Assumes nothing.
-use Rattle.std.specs.Prelude.{ℕ, ◌+◌, Bool, true, false, List, length, eqb, ltb}
+use Rattle.std.specs.Prelude.{ℕ, ◌+◌, Bool, List, length, eqb, ltb}
 use Rattle.base_octets.specs.Number.{taken, reply_short, rules_broken, nothing_due}
 use Rattle.base_octets.specs.Choice.{pick}
 use Rattle.base_octets.specs.Overlay.{overlay}

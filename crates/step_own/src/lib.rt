@@ -17,6 +17,7 @@ use unit_tunnel::Unit;
 use wire_messages::MessageType;
 
 // What is sent next: nothing, with the number that says why; or the echo; or the request of a place. The number is that of a first send.
+// Kept: the number of a refusal is the one that C sees (document 01): an error enum would be turned back into it.
 #[derive(Clone, Copy)]
 pub enum Sending {
     Nothing(u8),
@@ -58,6 +59,7 @@ pub fn aged_count(how: Standing) -> usize
 }
 
 // How a table with its store stands, of how the records stand and whether the store keeps its rules.
+#[tactic(auto, unfolding(crate::specs::Step::how_with))]
 pub fn how_with(sound: bool, how: Standing) -> Standing
     ensures { result ≡ how_with sound how }
 {
@@ -101,6 +103,7 @@ pub fn close_answer(kept: bool, node: Node, place: usize, s: Session) -> Answer
 }
 
 // The number that a first send takes, by what is awaited.
+#[tactic(auto, unfolding(crate::specs::Send::taken_among))]
 fn taken_among(node: Node, waits: &[u64]) -> u32
     ensures { result ≡ taken_among node waits.now }
 {
@@ -109,14 +112,11 @@ fn taken_among(node: Node, waits: &[u64]) -> u32
 }
 
 // Whether a place awaits a number, in a table that keeps the rules.
+#[tactic(auto, unfolding(crate::specs::Send::awaiting_in, step_check::specs::Summary::awaits))]
 pub fn awaiting_in(checked: Checked) -> bool
     ensures { result ≡ awaiting_in checked }
 {
-    match checked.how {
-        Standing::Broken => false,
-        Standing::Quiet => false,
-        Standing::Awaiting => true,
-    }
+    checked.how == Standing::Awaiting
 }
 
 // Who is sent next, by what was seen of the records and what they await: the echo first, then places upward.
@@ -156,6 +156,8 @@ pub fn due_with(sound: bool, room: usize, due: Sending) -> Sending
 }
 
 // The place whose record changes, or the number of places.
+// Kept: a place and no Option: at a place past the last `lent_records` reads a blank record and puts nothing.
+#[tactic(auto, unfolding(crate::specs::Send::place_of, unit_tunnel::specs::Numbering::places))]
 pub fn place_of(p: Sending) -> usize
     ensures { result ≡ place_of p }
 {
@@ -167,6 +169,7 @@ pub fn place_of(p: Sending) -> usize
 }
 
 // What becomes of the record there.
+#[tactic(auto, unfolding(crate::specs::Send::sent_by))]
 pub fn sent_by(p: Sending, node: Node, s: Session) -> Session
     ensures { result ≡ sent_by p node s }
 {
@@ -178,6 +181,7 @@ pub fn sent_by(p: Sending, node: Node, s: Session) -> Session
 }
 
 // The echo sent.
+#[tactic(auto, unfolding(crate::specs::Send::echo_answer, call_own::specs::Calls::timed))]
 fn echo_answer(mut node: Node, k: u32, reply: &mut [u8]) -> Answer
     ensures { back result reply.new ≡ echo_answer node k reply.old }
 {
@@ -196,6 +200,7 @@ fn echo_answer(mut node: Node, k: u32, reply: &mut [u8]) -> Answer
 }
 
 // The Delete Bearer of a place sent.
+#[tactic(auto, unfolding(crate::specs::Send::place_answer, call_own::specs::Calls::timed))]
 fn place_answer(mut node: Node, k: u32, place: usize, s: Session, reply: &mut [u8]) -> Answer
     ensures { back result reply.new ≡ place_answer node k place s reply.old }
 {
@@ -211,6 +216,7 @@ fn place_answer(mut node: Node, k: u32, place: usize, s: Session, reply: &mut [u
     }
 }
 
+#[tactic(auto, unfolding(crate::specs::Send::send_answer))]
 pub fn send_answer(p: Sending, node: Node, s: Session, reply: &mut [u8]) -> Answer
     ensures { back result reply.new ≡ send_answer p node s reply.old }
 {

@@ -174,6 +174,7 @@ fn point_called(name: &[u8], size: u8) -> AccessPoint
 }
 
 // A plan of three access points: data, net, and one of the longest name.
+#[tactic(auto, unfolding(crate::specs::Decoding::trial_plan, crate::specs::Decoding::long_name, crate::specs::Decoding::up_from, unit_plan::specs::Limits::longest_name))]
 pub fn trial_plan() -> Plan
     ensures { result ≡ trial_plan }
 {
@@ -197,6 +198,7 @@ pub fn trial_plan() -> Plan
     }
 }
 
+// Kept: 256 for a Recovery that is not there is C's, and tests/requests reads it.
 #[tactic(auto, unfolding(crate::specs::Decoding::recovery_number))]
 pub fn recovery_number(r: Option<u8>) -> u32
     ensures { result ≡ recovery_number r }
@@ -353,7 +355,7 @@ pub fn requests_head(d: &[u8]) -> Head
     let h = HeaderCursor::of(d);
     Head {
         number: u32::from(number),
-        kind: h.kind as u32,
+        kind: u32::from(h.kind),
         teid: h.teid,
         sequence: h.sequence,
         fields: (h.fields % 256) as u32,

@@ -1,5 +1,6 @@
 // The readers of user and control datagrams, exported to C for hosts that compare them with readings of their own. Each is that of
 // trial_readers, which promises the same.
+// Kept: the exports stand beside those functions under C's names and have no code of their own.
 #![tactic(auto)]
 
 ghost use Rattle.std.specs.Prelude.{◌≡◌, ◌-◌, length};

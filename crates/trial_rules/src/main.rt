@@ -217,21 +217,17 @@ const ROWS: u64 = 2000;
 impl Case {
     // The places from 10 on that are below `end` live on an access point.
     fn fill(&mut self, end: u64, point: u8) {
-        for place in 10..Unit::PLACES {
-            if (place as u64) < end {
-                self.recs[place] = live_on(1010000001000 + place as u64, point);
-            }
+        for place in 10..end.min(Unit::PLACES as u64) {
+            self.recs[place as usize] = live_on(1010000001000 + place, point);
         }
     }
 
     // The rows below `end` kept, each with its place as its sequence number.
     fn keep(&mut self, end: u64, life: u8) {
-        for row in 0..MOST_ROWS {
-            if (row as u64) < end {
-                let mut kept = kept_for(MessageType::MODIFY, row as u32, 0);
-                kept[8] = life;
-                self.rows[row] = kept;
-            }
+        for row in 0..end.min(MOST_ROWS as u64) {
+            let mut kept = kept_for(MessageType::MODIFY, row as u32, 0);
+            kept[8] = life;
+            self.rows[row as usize] = kept;
         }
     }
 

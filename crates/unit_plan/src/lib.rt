@@ -14,6 +14,7 @@ ghost use Rattle.unit_plan.specs.Address.{address_of, place_of};
 #[repr(C)]
 #[derive(Clone, Copy)]
 pub struct AccessPoint {
+    // Kept: a name with its size beside it, as C lends it (include/grugavorn.h).
     pub name: [u8; AccessPoint::LONGEST_NAME],
     pub size: u8,
     pub guarantee: u16,
@@ -44,6 +45,7 @@ pub struct Plan {
 impl AccessPoint {
     pub const LONGEST_NAME: usize = 63;
 
+    #[tactic(auto, unfolding(crate::specs::Limits::no_point, crate::specs::Limits::longest_name))]
     pub fn none() -> Self
         ensures { result ≡ no_point }
     {
@@ -56,6 +58,7 @@ impl AccessPoint {
     }
 
     // The limits of one access point.
+    #[tactic(auto, unfolding(crate::specs::Limits::point_ok, crate::specs::Limits::longest_name, unit_tunnel::specs::Numbering::places))]
     pub fn fits(&self) -> bool
         ensures { result ≡ point_ok self.now }
     {
@@ -74,6 +77,7 @@ impl AccessPoint {
     }
 
     // Whether a name is this access point's.
+    #[tactic(auto, using(base_octets::specs::Same::same_slices), unfolding(crate::specs::Names::goes_by, crate::specs::Names::same_name))]
     pub fn goes_by(&self, d: &[u8]) -> bool
         ensures { result ≡ goes_by d.now self.now }
     {
@@ -81,6 +85,7 @@ impl AccessPoint {
     }
 
     // Whether two access points have two names.
+    #[tactic(auto, unfolding(crate::specs::Names::unlike))]
     pub fn unlike(&self, other: &AccessPoint) -> bool
         ensures { result ≡ unlike self.now other.now }
     {
@@ -142,6 +147,7 @@ impl Plan {
     pub const ADDRESSES: u64 = 4294967296;
 
     // A plan with no access points: what a unit without an accepted plan has.
+    #[tactic(auto, unfolding(crate::specs::Limits::no_plan))]
     pub fn none() -> Self
         ensures { result ≡ no_plan }
     {
@@ -174,6 +180,7 @@ impl Plan {
     }
 
     // The limits of the plan's own figures.
+    #[tactic(auto, unfolding(crate::specs::Limits::figures_ok, crate::specs::Limits::most_points, crate::specs::Limits::most_sends, crate::specs::Limits::pool_step))]
     fn figures_ok(&self) -> bool
         ensures { result ≡ figures_ok self.now }
     {
@@ -194,6 +201,7 @@ impl Plan {
     }
 
     // Whether the plan keeps every limit; where it does not, number 16.
+    #[tactic(auto, using(base_octets::specs::Every::every_all), unfolding(crate::specs::Plan::accepted, unit_tunnel::specs::Numbering::places))]
     pub fn accepted(&self) -> bool
         ensures { result ≡ accepted self.now }
     {
@@ -205,6 +213,7 @@ impl Plan {
     }
 
     // The access point that a name is of, by its number.
+    #[tactic(auto, using(base_octets::specs::Search::first_position), unfolding(crate::specs::Names::named_in))]
     pub fn named(&self, d: &[u8]) -> Option<usize>
         ensures { result ≡ named_in (used self.now) d.now }
     {
@@ -212,6 +221,7 @@ impl Plan {
     }
 
     // The address of the session at a place.
+    #[tactic(auto, unfolding(crate::specs::Address::address_of, crate::specs::Address::addresses))]
     pub fn address(self, place: usize) -> u32
         ensures { result ≡ address_of self.pool place }
     {
@@ -221,6 +231,7 @@ impl Plan {
 
     // The place that has an address; past the last where none has it.
     // Kept: a place and no Option, since the law `addressee_is` reads the record at it, which past the last is one that nobody took.
+    #[tactic(auto, using(crate::specs::Address::place_least), unfolding(crate::specs::Address::away, crate::specs::Address::addresses, unit_tunnel::specs::Numbering::places))]
     pub fn place_of(self, a: u32) -> usize
         ensures { result ≡ place_of self.pool a }
     {

@@ -1,11 +1,11 @@
 -- Several fields tested at once: the bits of all of them together are 0 where each of them is.
 -- Assumes nothing.
-use Rattle.std.specs.Prelude.{◌≡◌, ℕ, ◌+◌, ◌*◌, ◌<◌, Bool, true, false, ◌&&◌, leb, ◌==◌, bit_or, nat_eq, nat_le, refl}
+use Rattle.std.specs.Prelude.{◌≡◌, ℕ, ◌+◌, ◌*◌, ◌<◌, ◌≤◌, Bool, true, false, ◌&&◌, leb, ◌==◌, ◌≢◌, bit_or, nat_eq, nat_le, refl}
 use Rattle.std.proofs.Common.{sym, ◌∙◌, arith}
 use Rattle.std.proofs.lemmas.Nat.{and_le_r, or_lt}
 use Rattle.std.specs.Int.Bits.{or_add_and, or_zero_l}
-use borrow.Author.Tests.{eqb-true, eqb-false, eq-eqb, ne_eqb, leb-true, le-leb}
-use Rattle.base_octets.specs.Choice.{split, and_left, and_right}
+use borrow.Author.Tests.{eqb-true, eqb-false, eq-eqb, ne_eqb, leb-true, le-leb, lt-leb}
+use Rattle.base_octets.specs.Choice.{split, and_left, and_right, and_no}
 use Rattle.unit_tunnel.specs.Numbering.{last_use}
 use Rattle.unit_session.specs.declared.Session.{Session}
 use Rattle.unit_session.specs.Session.{blank, free_ok}
@@ -126,6 +126,14 @@ module _ (s : Session) (word : s.usage < words) where
       three true b c = refl
       three false b c = refl
 
-  pub free_vacant : (nat_le (s.usage + s.control * words) last_use && rest_bits s == 0) ≡ free_ok s
+  pub free_blank : s.usage + s.control * words ≤ last_use → rest_bits s ≡ 0 → true ≡ free_ok s
   unfolding free_ok
-  free_vacant = rw vacant_is
+  free_blank l e = rw (vacant_is, le-leb (s.usage + s.control * words) last_use l, eq-eqb (rest_bits s) 0 e)
+
+  pub free_filled : (rest_bits s ≢ 0) → false ≡ free_ok s
+  unfolding free_ok
+  free_filled e = rw (vacant_is, ne_eqb (rest_bits s) 0 e, and_no (nat_le (s.usage + s.control * words) last_use))
+
+  pub free_used : last_use < s.usage + s.control * words → false ≡ free_ok s
+  unfolding free_ok
+  free_used l = rw (vacant_is, lt-leb (s.usage + s.control * words) last_use l)

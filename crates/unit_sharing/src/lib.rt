@@ -54,6 +54,7 @@ fn under_ceilings(plan: Plan, live: [u16; 4]) -> bool
 }
 
 // Whether each access point is within its ceiling, and S within the places.
+#[tactic(auto, unfolding(crate::specs::Sharing::within_ok, unit_tunnel::specs::Numbering::places))]
 pub fn within(plan: Plan, live: [u16; 4]) -> bool
     ensures { result ≡ within_ok plan (λ a. get_or live a 0) }
 {

@@ -7,7 +7,6 @@ use mir.Val.{bool_byte}
 use Rattle.base_octets.specs.Choice.{pick, split, and_left, and_right, and_no}
 use Rattle.base_octets.specs.Every.{every, every_rest, every_map}
 use Rattle.base_octets.specs.Sums.{sum_of, count_of, sum_end, sum_map_most}
-use Rattle.base_octets.specs.Places.{map_first}
 use Rattle.base_octets.specs.Search.{first_of}
 use Rattle.base_distinct.specs.Apart.{none_clash, pairwise, same_key, pairwise_count, count_pairwise}
 use Rattle.unit_store.specs.Row.{store_rows, life_in, life_after, three_in, is_unused, holds, kept_ok, life_taken, mark_in, life_taken_lem, ok_taken, holds-taken, mark_same}
@@ -175,15 +174,6 @@ vacant_ok (r ∷ l) e =
     let u : is_unused r ≡ true = unused r z in
     let h = vacant_ok l (omega arith) in
     rw (eq-eqb (life_in r) 0 z, and_left (every kept_ok l) (pairwise same_three l) h, none_apart r l u) (and_right (every kept_ok l) (pairwise same_three l) h)
-
--- as many as there are
-pub first_all : (f : List ℕ → List ℕ) (n : ℕ) (l : List (List ℕ)) → map_first f (min n (length l)) l ≡ map_first f n l
-unfolding map_first
-first_all f zero l = let z : min 0 (length l) ≡ 0 = omega arith in rw z
-first_all f (suc n) [] = let z : min (suc n) 0 ≡ 0 = omega arith in rw z
-first_all f (suc n) (x ∷ l) =
-    let z : min (suc n) (suc (length l)) ≡ suc (min n (length l)) = omega arith in
-    rw z (ap (λ (m : List (List ℕ)). f x ∷ m) (first_all f n l))
 
 -- rows read one after another into their marks
 pub apart_stop : (l : List (List ℕ)) → every kept_ok l ≡ false → (every kept_ok l && pairwise same_three l) ≡ false

@@ -3,14 +3,14 @@
 // number that was answered, the size of the reply, and room for its octets. A row of life 0 is unused, and nothing else of it is looked at.
 #![tactic(auto)]
 
-ghost use Rattle.std.specs.Prelude.{◌≡◌, ◌/◌, ◌%◌, ◌<◌, ◌≤◌, ◌&&◌, [], ◌∷◌, length, position, slice_index_or};
+ghost use Rattle.std.specs.Prelude.{◌≡◌, ◌/◌, ◌%◌, ◌<◌, ◌≤◌, ◌&&◌, [], ◌∷◌, length, position, slice_index_or, sum_by};
 ghost use Rattle.base_octets.specs.BigEndian.{number_of};
 ghost use Rattle.base_octets.specs.Every.{every};
 ghost use Rattle.base_octets.specs.Overlay.{Wrote};
 ghost use Rattle.base_octets.specs.Places.{map_first};
 ghost use Rattle.base_octets.specs.Sums.{sum_of};
 ghost use Rattle.base_distinct.specs.Apart.{pairwise};
-ghost use Rattle.unit_store.specs.Row.{store_rows, life_in, number_in, octets_in, head_of, three_of, three_in, Four, EightIn, is_unused, holds, scattered, type_unit, type_ok, number_ok, reply_ok, mark_in, kept_ok, life_after, life_taken, blank_row, blanked, row_of};
+ghost use Rattle.unit_store.specs.Row.{store_rows, life_in, number_in, octets_in, head_of, three_of, three_in, is_unused, holds, scattered, type_unit, type_ok, number_ok, reply_ok, mark_in, kept_ok, life_after, life_taken, blank_row, blanked, row_of};
 ghost use Rattle.unit_store.specs.Store.{same_three, store_ok, pushed};
 
 use base_octets::Number;
@@ -51,6 +51,7 @@ impl Kept {
 }
 
 // Type and sequence number of a request, as one number of 32 bits.
+#[tactic(auto, unfolding(crate::specs::Row::head_of))]
 pub fn head_of(kind: u8, sequence: u32) -> u32
     ensures { result ≡ head_of kind sequence }
 {
@@ -58,6 +59,7 @@ pub fn head_of(kind: u8, sequence: u32) -> u32
 }
 
 // With the header TEID, as one number of 64 bits.
+#[tactic(auto, unfolding(crate::specs::Row::three_of))]
 pub fn three_of(head: u32, teid: u32) -> u64
     ensures { result ≡ three_of head teid }
 {
@@ -65,6 +67,7 @@ pub fn three_of(head: u32, teid: u32) -> u64
 }
 
 // The three of a row: its first eight octets.
+#[tactic(auto, unfolding(crate::specs::Row::three_in))]
 fn three_in(r: &[u8; Kept::OCTETS]) -> u64
     ensures { result ≡ three_in r.now }
 {
@@ -73,15 +76,9 @@ fn three_in(r: &[u8; Kept::OCTETS]) -> u64
     three_of(head, teid)
 }
 
-// The number that four octets write, which are octets by their type.
-fn four(a: u8, b: u8, c: u8, d: u8) -> u32
-    ensures { (result ≡ number_of (a ∷ b ∷ c ∷ d ∷ [])) × Four a b c d }
-{
-    base_octets::be32(a, b, c, d)
-}
-
 // The three scattered, so that the TEID and the sequence number both move the lower half, by which keys have their slots. The sum wraps for types
 // over 254, which no reply has.
+#[tactic(auto, using(crate::specs::Row::scattered_by))]
 fn scattered(head: u32, teid: u32) -> u64
     ensures { result ≡ scattered (three_of head teid) % 18446744073709551616 }
 {
@@ -89,6 +86,7 @@ fn scattered(head: u32, teid: u32) -> u64
 }
 
 // Whether a number is one that a Modify or a Delete is answered with.
+#[tactic(auto, unfolding(crate::specs::Row::number_ok))]
 fn number_ok(n: u8) -> bool
     ensures { result ≡ number_ok n }
 {
@@ -100,6 +98,7 @@ fn number_ok(n: u8) -> bool
 }
 
 // Whether the type is that of a Modify or a Delete, as it stands in the scattered three.
+#[tactic(auto, unfolding(crate::specs::Row::type_ok))]
 fn type_ok(key: u64) -> bool
     ensures { result ≡ type_ok (key / type_unit) }
 {
@@ -109,7 +108,7 @@ fn type_ok(key: u64) -> bool
 
 // Whether a kept reply keeps the rules that are its own.
 fn reply_ok(r: &[u8; Kept::OCTETS], key: u64) -> bool
-    requires { (key ≡ scattered (three_in r.now) % 18446744073709551616) × EightIn r.now }
+    requires { key ≡ scattered (three_in r.now) % 18446744073709551616 }
     ensures { result ≡ reply_ok r.now }
 {
     (life_in(r) <= Kept::LIFE)
@@ -119,6 +118,7 @@ fn reply_ok(r: &[u8; Kept::OCTETS], key: u64) -> bool
 }
 
 // Whether a row is unused.
+#[tactic(auto, unfolding(crate::specs::Row::is_unused))]
 fn is_unused(r: &[u8; Kept::OCTETS]) -> bool
     ensures { result ≡ is_unused r.now }
 {
@@ -126,14 +126,15 @@ fn is_unused(r: &[u8; Kept::OCTETS]) -> bool
 }
 
 // A row in one number: 0 for an unused one, 1 for one that breaks a rule, else its type, sequence number and TEID, scattered.
+// Kept: a number and no enum, since `distinct` takes marks as keys of 64 bits, of which 0 is none: an enum would be turned into them again.
 fn mark_in(r: &[u8; Kept::OCTETS]) -> u64
     ensures { result ≡ mark_in r.now }
 {
     if is_unused(r) {
         return 0;
     }
-    let head = four(r[0], r[1], r[2], r[3]);
-    let teid = four(r[4], r[5], r[6], r[7]);
+    let head = base_octets::be32(r[0], r[1], r[2], r[3]);
+    let teid = base_octets::be32(r[4], r[5], r[6], r[7]);
     let key = scattered(head, teid);
     if !reply_ok(r, key) {
         return 1;
@@ -142,6 +143,7 @@ fn mark_in(r: &[u8; Kept::OCTETS]) -> u64
 }
 
 // The life that is left of a row.
+#[tactic(auto, unfolding(crate::specs::Row::life_in))]
 fn life_in(r: &[u8; Kept::OCTETS]) -> u8
     ensures { result ≡ life_in r.now }
 {
@@ -149,15 +151,12 @@ fn life_in(r: &[u8; Kept::OCTETS]) -> u8
 }
 
 // The lives that are left, added up: 0 where nothing is kept.
+#[tactic(auto, unfolding(crate::specs::Row::life_in))]
 fn lives(rows: &[[u8; Kept::OCTETS]]) -> u32
-    requires { length rows.now ≡ store_rows }
-    ensures { result ≡ sum_of life_in rows.now }
+    requires { length rows.now ≤ store_rows }
+    ensures { result ≡ sum_by life_in rows.now }
 {
-    let mut sum: u32 = 0;
-    for r in rows {
-        sum += u32::from(life_in(r));
-    }
-    sum
+    rows.iter().map(|r| u32::from(life_in(r))).sum()
 }
 
 // Whether each row keeps its rules, and no two are equal in type, sequence number and TEID. What the lives add up to says where to stop: once
@@ -197,6 +196,7 @@ pub fn store_ok(rows: &[[u8; Kept::OCTETS]]) -> bool
 }
 
 // Whether a row is the kept reply to a request.
+#[tactic(auto, unfolding(crate::specs::Row::holds))]
 fn holds(r: &[u8; Kept::OCTETS], three: u64) -> bool
     ensures { result ≡ holds three r.now }
 {
@@ -211,6 +211,7 @@ pub fn find(rows: &[[u8; Kept::OCTETS]], three: u64) -> Option<usize>
 }
 
 // The number that was answered.
+#[tactic(auto, unfolding(crate::specs::Row::number_in))]
 pub fn number_in(rows: &[[u8; Kept::OCTETS]], at: usize) -> u8
     requires { at < length rows.now }
     ensures { result ≡ number_in (slice_index_or rows.now at []) }
@@ -255,6 +256,7 @@ pub fn keep(rows: &mut [[u8; Kept::OCTETS]], row: [u8; Kept::OCTETS])
 }
 
 // The life that is left after a tick, or after a restart of the exchange, which takes all.
+#[tactic(auto, unfolding(crate::specs::Row::life_after))]
 fn life_after(all: bool, life: u8) -> u8
     ensures { result ≡ life_after all life }
 {
@@ -265,12 +267,14 @@ fn life_after(all: bool, life: u8) -> u8
 pub fn take_life(rows: &mut [[u8; Kept::OCTETS]], all: bool, n: usize)
     ensures { rows.new ≡ map_first (life_taken all) n rows.old }
 {
-    for i in 0..n.min(rows.len()) {
-        rows[i][Kept::LIFE_AT] = life_after(all, rows[i][Kept::LIFE_AT]);
+    let m = n.min(rows.len());
+    for r in &mut rows[..m] {
+        r[Kept::LIFE_AT] = life_after(all, r[Kept::LIFE_AT]);
     }
 }
 
 // A row of zeros: unused.
+#[tactic(auto, unfolding(crate::specs::Row::blank_row))]
 fn blank_row() -> [u8; Kept::OCTETS]
     ensures { result ≡ blank_row }
 {
@@ -307,7 +311,6 @@ pub fn row_of(head: u32, teid: u32, number: u8, size: u8, reply: &[u8]) -> [u8; 
 pub fn clear(rows: &mut [[u8; Kept::OCTETS]], n: usize)
     ensures { rows.new ≡ map_first blanked n rows.old }
 {
-    for i in 0..n.min(rows.len()) {
-        rows[i] = blank_row();
-    }
+    let m = n.min(rows.len());
+    rows[..m].fill(blank_row());
 }

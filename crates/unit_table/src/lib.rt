@@ -45,6 +45,7 @@ pub enum Change {
 
 impl Node {
     // The start under a plan: nothing heard, nothing sent, the first echo due after E ticks.
+    #[tactic(auto, unfolding(crate::specs::Own::fresh_node))]
     pub fn fresh(plan: Plan) -> Self
         ensures { result ≡ fresh_node plan }
     {
@@ -58,6 +59,7 @@ impl Node {
     }
 
     // What a Recovery value says: the first one is stored, as the same one is.
+    #[tactic(auto, unfolding(crate::specs::Recovery::judged_by))]
     pub fn judged(self, value: u8) -> Judged
         ensures { result ≡ judged_by self value }
     {
@@ -68,6 +70,7 @@ impl Node {
     }
 
     // The value stored.
+    #[tactic(auto, unfolding(crate::specs::Recovery::hearing))]
     pub fn hearing(mut self, value: u8) -> Self
         ensures { result ≡ hearing value self }
     {
@@ -77,6 +80,7 @@ impl Node {
     }
 
     // The echo after a tick: given up after N sends, else counted down.
+    #[tactic(auto, unfolding(crate::specs::Own::echo_ticked))]
     pub fn echo_ticked(self) -> OwnRequest
         ensures { result ≡ echo_ticked self.plan self.echo }
     {
@@ -104,6 +108,7 @@ impl Judged {
 }
 
 // The echo ended: the next one is due after E ticks.
+#[tactic(auto, unfolding(crate::specs::Own::rested))]
 pub fn rested(interval: u8, r: OwnRequest) -> OwnRequest
     ensures { result ≡ rested interval r }
 {
@@ -115,6 +120,7 @@ pub fn rested(interval: u8, r: OwnRequest) -> OwnRequest
 }
 
 // The record with the change made.
+#[tactic(auto, unfolding(crate::specs::Become::changed_by))]
 pub fn changed_by(s: Session, c: Change) -> Session
     ensures { result ≡ changed_by c s }
 {
@@ -126,6 +132,7 @@ pub fn changed_by(s: Session, c: Change) -> Session
 }
 
 // The sequence number after another.
+#[tactic(auto, unfolding(crate::specs::Number::after, unit_session::specs::OwnRequest::last_number))]
 pub fn after(k: u32) -> u32
     ensures { result ≡ after k }
 {
@@ -134,16 +141,15 @@ pub fn after(k: u32) -> u32
 
 // The place that a number names; past the last where it names none.
 // Kept: a place and no Option, since the laws `owner_control` and `owner_user` read the record at it, which past the last is one that nobody took.
+#[tactic(auto, unfolding(crate::specs::Find::place_named, crate::specs::Find::named_place, unit_tunnel::specs::Numbering::places))]
 pub fn place_named<T: Teid>(teid: T) -> usize
     ensures { result ≡ place_named T.OFFSET (T.number teid) }
 {
-    match teid.holder() {
-        Some(h) => h.place,
-        None => Unit::PLACES,
-    }
+    teid.holder().map_or(Unit::PLACES, |h| h.place)
 }
 
 // Whether a record is taken and in this use.
+#[tactic(auto)]
 fn taken_in(s: Session, usage: u32) -> bool
     ensures { result ≡ taken_in s usage }
 {
@@ -151,11 +157,9 @@ fn taken_in(s: Session, usage: u32) -> bool
 }
 
 // Whether a record is the session of a number: taken, and in the use that the number says.
+#[tactic(auto, unfolding(crate::specs::Find::has_number, crate::specs::Find::owned_by))]
 pub fn has_number<T: Teid>(s: Session, teid: T) -> bool
     ensures { result ≡ has_number T.OFFSET s (T.number teid) }
 {
-    match teid.holder() {
-        Some(h) => taken_in(s, h.usage),
-        None => false,
-    }
+    teid.holder().is_some_and(|h| taken_in(s, h.usage))
 }

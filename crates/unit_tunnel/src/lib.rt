@@ -106,6 +106,7 @@ impl Teid for UserTeid {
     }
 }
 
+#[tactic(auto, unfolding(crate::specs::Tunnel::number_at, crate::specs::Numbering::base, crate::specs::Numbering::teids))]
 fn number_at(offset: u32, usage: u32, place: usize) -> u32
     ensures { result ≡ number_at offset usage place % teids }
 {
@@ -113,6 +114,7 @@ fn number_at(offset: u32, usage: u32, place: usize) -> u32
     ((u64::from(usage) * u64::from(Holder::BASE) + u64::from(offset) + low) % Holder::TEIDS) as u32
 }
 
+#[tactic(auto, unfolding(crate::specs::Tunnel::holder_of, crate::specs::Tunnel::numbers, crate::specs::Numbering::places, crate::specs::Numbering::base))]
 fn holder_of(offset: u32, n: u32) -> Option<Holder>
     ensures { result ≡ holder_of offset n }
 {
@@ -131,6 +133,7 @@ fn holder_of(offset: u32, n: u32) -> Option<Holder>
 }
 
 // The use that a place has once it is taken again.
+#[tactic(auto, using(crate::specs::Tunnel::next_step, crate::specs::Tunnel::next_round), unfolding(crate::specs::Numbering::last_use))]
 pub fn next_use(usage: u32) -> u32
     ensures { result ≡ next_use usage }
 {

@@ -27,13 +27,13 @@ impl Found {
     // the field that holds fields
     pub const BEARER_CONTEXT: u8 = 93;
 
-    // The octets of the value.
+    // The octets of the value: none where it lies past the end.
+    #[tactic(auto, unfolding(crate::specs::Walk::part))]
     pub fn of(self, s: &[u8]) -> &[u8]
-        requires { self.start + self.size ≤ length s.now }
         ensures { result.now ≡ part s.now self.start self.size }
     {
-        let end = self.start + self.size;
-        &s[self.start..end]
+        let behind = &s[self.start.min(s.len())..];
+        &behind[..self.size.min(behind.len())]
     }
 }
 
@@ -113,7 +113,7 @@ pub fn find(s: &[u8], kind: u8, instance: u8) -> Option<Found>
 }
 
 // Whether a field runs past the end of the message, or past the end of its first Bearer Context.
-#[tactic(auto, using(crate::specs::Search::find_within), unfolding(crate::specs::Overrun::over_in, crate::specs::Overrun::over_within))]
+#[tactic(auto, unfolding(crate::specs::Overrun::over_in, crate::specs::Overrun::over_within))]
 pub fn over_in(s: &[u8]) -> bool
     ensures { result ≡ over_in s.now }
 {
@@ -234,6 +234,7 @@ pub struct Fault {
 }
 
 // A cause, and the field that it names, where it names one.
+// Kept: a cause is an octet of the wire and a number that C sees, beside those of base_octets' Number.
 #[derive(Clone, Copy)]
 pub struct Refusal {
     pub cause: u8,
@@ -241,6 +242,7 @@ pub struct Refusal {
 }
 
 // The fields that are read for one octet.
+// Kept: their types are octets of the wire, and `find` and `octet_in` take any: an enum would ask more of callers.
 #[derive(Clone, Copy)]
 pub struct Octet {}
 
@@ -276,6 +278,7 @@ impl Refusal {
 
     pub const ADDRESS_TYPE: u8 = 83;
 
+    // Kept: three constructors for the paper's three words, each with its definition.
     pub fn missing(kind: u8, instance: u8) -> Self
         ensures { result ≡ missing kind instance }
     {
@@ -378,7 +381,7 @@ pub fn ebi_in(s: &[u8]) -> Result<u8, Flaw>
     Ok(x % 16)
 }
 
-#[tactic(auto, using(crate::specs::Search::find_within), unfolding(crate::specs::Readers::imsi_in, crate::specs::Readers::imsi_at))]
+#[tactic(auto, unfolding(crate::specs::Readers::imsi_in, crate::specs::Readers::imsi_at))]
 pub fn imsi_in(s: &[u8]) -> Result<u64, Flaw>
     ensures { result ≡ imsi_in s.now }
 {
@@ -387,7 +390,7 @@ pub fn imsi_in(s: &[u8]) -> Result<u64, Flaw>
 }
 
 // The F-TEID of an instance, for an interface.
-#[tactic(auto, using(crate::specs::Search::find_within), unfolding(crate::specs::Readers::tunnel_in, crate::specs::Readers::tunnel_at))]
+#[tactic(auto, unfolding(crate::specs::Readers::tunnel_in, crate::specs::Readers::tunnel_at))]
 pub fn tunnel_in(s: &[u8], instance: u8, interface: u8) -> Result<Tunnel, Flaw>
     ensures { result ≡ tunnel_in s.now instance interface }
 {

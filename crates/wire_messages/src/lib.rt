@@ -37,6 +37,7 @@ impl MessageType {
 }
 
 // What the accepted Create reply holds.
+// Kept: TEIDs and addresses side by side, since of the address of a session there is no TEID, and one TEID has no address.
 #[derive(Clone, Copy)]
 pub struct Accepted {
     pub teid: u32,
@@ -51,6 +52,7 @@ pub struct Accepted {
 }
 
 // The message laid over the front of the buffer, and how many octets it has.
+// Kept: TEID and sequence number come to the writers below from a session and from a header: a struct would be made at each call.
 fn laid(m: &[u8], reply: &mut [u8]) -> usize
     ensures { Wrote result reply.new reply.old m.now }
 {
@@ -79,6 +81,7 @@ pub fn echo_of(reply: &mut [u8], kind: u8, seq: u32, recovery: u8) -> usize
 }
 
 // A reply with a cause alone: refused without a field named, or accepted with Cause 16.
+// Kept: the header with a TEID is written out in each message, one row of octets beside its definition, to be read against the paper.
 #[tactic(auto, unfolding(base_octets::specs::BigEndian::octets_of, crate::specs::Messages::cause_reply, crate::specs::Messages::header_to, crate::specs::Messages::cause_field))]
 pub fn cause_reply(reply: &mut [u8], kind: u8, teid: u32, seq: u32, cause: u8) -> usize
     ensures { Wrote result reply.new reply.old (cause_reply kind teid seq cause) }

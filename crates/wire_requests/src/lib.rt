@@ -12,6 +12,7 @@ use unit_plan::Plan;
 use wire_fields::{Flaw, Found, Imsi, Octet, Refusal, Tunnel};
 
 // A session that is asked for.
+// Kept: TEID and address stand side by side, as document 01 names the form: a struct of plain numbers.
 #[derive(Clone, Copy)]
 pub struct Create {
     pub imsi: u64,
@@ -74,7 +75,7 @@ impl Request {
 }
 
 // A Create, from the octets behind its header.
-#[tactic(auto, using(wire_fields::specs::Search::find_within), unfolding(crate::specs::Create::create_of))]
+#[tactic(auto, unfolding(crate::specs::Create::create_of))]
 pub fn read_create(plan: Plan, s: &[u8]) -> Result<Request, Refusal>
     ensures { result ≡ create_of plan s.now }
 {
@@ -121,6 +122,7 @@ pub fn read_create(plan: Plan, s: &[u8]) -> Result<Request, Refusal>
 }
 
 // The TEID that a cause reply to a Create goes to.
+// Kept: 0 is the TEID that a reply to nobody has, by document 01 and the definition `reply_to`.
 #[tactic(auto, unfolding(crate::specs::Create::reply_to, crate::specs::Create::teid_in))]
 pub fn reply_to(s: &[u8]) -> u32
     ensures { result ≡ reply_to s.now }
@@ -146,7 +148,7 @@ fn if_present<T>(read: Result<T, Flaw>) -> Result<Option<T>, Flaw>
 }
 
 // A Modify, from the octets behind its header.
-#[tactic(auto, using(wire_fields::specs::Search::find_within), unfolding(crate::specs::Change::modify_of))]
+#[tactic(auto, unfolding(crate::specs::Change::modify_of))]
 pub fn read_modify(s: &[u8]) -> Result<Request, Refusal>
     ensures { result ≡ modify_of s.now }
 {
@@ -221,10 +223,7 @@ pub fn moves_of(m: Modify, ebi: u8) -> Result<Moves, Refusal>
 pub fn means_of(d: Delete, ebi: u8) -> bool
     ensures { result ≡ means_of d ebi }
 {
-    match d.ebi {
-        Some(x) => x == ebi,
-        None => true,
-    }
+    d.ebi.is_none_or(|x| x == ebi)
 }
 
 // A reply that cannot be read.

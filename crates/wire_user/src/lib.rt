@@ -121,7 +121,7 @@ fn type_of(d: &[u8]) -> u8
     d.get(1).copied().unwrap_or(0)
 }
 
-// Kept: `user_teid_of` and `user_sequence_of` of specs/Header are said of any octets, 0 where these are cut, and `place_in` stands on it.
+// Kept: `place_in` stands on `user_teid_of`, 0 where octets are cut; by its definition `user_sequence_of` is 0 where S is unset too.
 #[tactic(auto, unfolding(crate::specs::Header::user_teid_of))]
 pub fn user_teid_of(d: &[u8]) -> UserTeid
     ensures { result.0 ≡ user_teid_of d.now }
@@ -149,10 +149,8 @@ fn user_sequence_of(d: &[u8]) -> u16
 fn extent(rest: &[u8]) -> usize
     ensures { result ≡ extent rest.now }
 {
-    match rest.first() {
-        Some(units) => usize::from(*units) * Header::UNIT,
-        None => 0,
-    }
+    rest.first()
+        .map_or(0, |units| usize::from(*units) * Header::UNIT)
 }
 
 // Where a walk over extension headers pauses: the type of the header in front, 0 where the walk has ended, and how many octets are left.

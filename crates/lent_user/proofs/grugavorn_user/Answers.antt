@@ -1,9 +1,12 @@
--- What the rules say of the records and of the store, and the one record that the datagram concerns, go to the call on
--- values, whose answer is handed on.
-use Rattle.std.proofs.Common.{◌∙◌, ap, length}
-use Rattle.call_user.specs.Parcel.{parcel_of}
-use Rattle.lent_user.specs.User.{user_lent}
+-- The payload's length gives its place in the datagram.
+use native.Mathlib.Omega.{arith}
+use Rattle.wire_user.specs.Part.{rest_length}
+use Rattle.lent_user.specs.User.{parcel_is, stored_within}
 use Rattle.lent_user.proofs.grugavorn_user.Goals as goal
 
+pub overflow_sub-result : goal.overflow_sub-result
+overflow_sub-result c = let l = rest_length _ _ _ c.take_user-taken.ensures.1 in omega arith
+
 pub returns : goal.returns
-returns c = c.user_at.ensures ∙ ap (parcel_of (length c.args.d.now)) (user_lent c.args.node c.args.recs.now c.args.store.now c.args.d.now c.args.reply.now c.keeps-kept.result c.place_in-at.result c.read-s.result c.keeps-kept.ensures c.place_in-at.ensures c.read-s.ensures)
+returns c = let a = c.args in
+    parcel_is _ _ _ _ _ _ _ (stored_within a.node a.recs.now a.store.now a.d.now a.reply.now) c.take_user-taken.ensures.0 c.take_user-taken.ensures.1

@@ -10,4 +10,4 @@ returns-then-key-eq0 c = let d = c.args.d in let z : key_in d ≡ 0 = sym c.key_
 pub returns : goal.returns
 unfolding flags_in tallied_in
 returns c = let z : eqb (key_in c.args.d) 0 ≡ false = rw (← c.key_in-key.ensures) (ne_eqb _ _ c.if-key-eq0.false) in
-    (c.enters.ensures.0, (c.enters.ensures.1, (rw z, rw (z, ← c.wrapping_add_u64.ensures.value))))
+    (c.enters.ensures.0, (c.enters.ensures.1, (rw z, rw z)))

@@ -1,4 +1,3 @@
-use Rattle.std.proofs.Common.{◌∙◌}
 use Rattle.unit_tunnel.specs.Numbering.{last_use}
 use Rattle.step_check.specs.Digest.{spoilt}
 use Rattle.step_check.specs.Ways.{taken_unheld, taken_live, taken_due, taken_odd, taken-unfit, taken_again, taken_waits, rests_yes, rests_no}
@@ -11,11 +10,11 @@ returns-then-not-counted-held c = taken_unheld c.args.b c.args.s c.held-held.res
 
 pub returns-then-s-eq-LIVE : goal.returns-then-s-eq-LIVE
 unfolding last_use last_number
-returns-then-s-eq-LIVE c = c.wrapping_add_u64-quiet.ensures.value ∙ rw c.key-key.ensures (taken_live c.args.b c.args.s c.held-held.result c.held-held.ensures c.if-not-counted-held.false-raw (rests_yes _ c.if-under_way-eq0.true) c.if-s-eq-LIVE.true)
+returns-then-s-eq-LIVE c = rw (c.key-key.ensures, c.from.ensures) (taken_live c.args.b c.args.s c.held-held.result c.held-held.ensures c.if-not-counted-held.false-raw (rests_yes _ (rw (c.from-2.ensures, c.from-3.ensures, c.from-4.ensures) at c.if-under_way-eq0.true)) c.if-s-eq-LIVE.true)
 
 pub returns-then-s-eq-CLOSING : goal.returns-then-s-eq-CLOSING
 unfolding last_use last_number
-returns-then-s-eq-CLOSING c = c.wrapping_add_u64.ensures.value ∙ rw (c.wrapping_add_u64-quiet.ensures.value, c.key-key.ensures) (taken_due c.args.b c.args.s c.held-held.result c.held-held.ensures c.if-not-counted-held.false-raw (rests_yes _ c.if-under_way-eq0.true) c.if-s-eq-LIVE.false c.if-s-eq-CLOSING.true)
+returns-then-s-eq-CLOSING c = rw (c.key-key.ensures, c.from.ensures) (taken_due c.args.b c.args.s c.held-held.result c.held-held.ensures c.if-not-counted-held.false-raw (rests_yes _ (rw (c.from-2.ensures, c.from-3.ensures, c.from-4.ensures) at c.if-under_way-eq0.true)) c.if-s-eq-LIVE.false c.if-s-eq-CLOSING.true)
 
 pub returns-then-under_way-eq0 : goal.returns-then-under_way-eq0
 unfolding spoilt last_use last_number
@@ -23,12 +22,12 @@ returns-then-under_way-eq0 c = taken_odd c.args.b c.args.s c.held-held.result c.
 
 pub returns-then-not-fits-s : goal.returns-then-not-fits-s
 unfolding spoilt last_use last_number
-returns-then-not-fits-s c = taken-unfit c.args.b c.args.s c.held-held.result c.held-held.ensures c.if-not-counted-held.false-raw (rests_no _ c.if-under_way-eq0.false) (rw c.fits-fits.ensures at c.if-not-fits-s.true-raw)
+returns-then-not-fits-s c = taken-unfit c.args.b c.args.s c.held-held.result c.held-held.ensures c.if-not-counted-held.false-raw (rests_no _ (rw (c.from-2.ensures, c.from-3.ensures, c.from-4.ensures) at c.if-under_way-eq0.false)) (rw c.fits-fits.ensures at c.if-not-fits-s.true-raw)
 
 pub returns-then-own-eq0 : goal.returns-then-own-eq0
 unfolding last_use last_number
-returns-then-own-eq0 c = c.wrapping_add_u64-then-own-eq0.ensures.value ∙ rw (c.wrapping_add_u64-quiet.ensures.value, c.key-key.ensures) (taken_again c.args.b c.args.s c.held-held.result c.held-held.ensures c.if-not-counted-held.false-raw (rests_no _ c.if-under_way-eq0.false) (rw c.fits-fits.ensures at c.if-not-fits-s.false-raw) c.if-own-eq0.true)
+returns-then-own-eq0 c = rw (c.key-key.ensures, c.from.ensures) (taken_again c.args.b c.args.s c.held-held.result c.held-held.ensures c.if-not-counted-held.false-raw (rests_no _ (rw (c.from-2.ensures, c.from-3.ensures, c.from-4.ensures) at c.if-under_way-eq0.false)) (rw c.fits-fits.ensures at c.if-not-fits-s.false-raw) c.if-own-eq0.true)
 
 pub returns : goal.returns
 unfolding last_use last_number
-returns c = c.wrapping_add_u64-2.ensures.value ∙ rw (c.wrapping_add_u64-quiet.ensures.value, c.key-key.ensures) (taken_waits c.args.b c.args.s c.held-held.result c.held-held.ensures c.if-not-counted-held.false-raw (rests_no _ c.if-under_way-eq0.false) (rw c.fits-fits.ensures at c.if-not-fits-s.false-raw) c.if-own-eq0.false)
+returns c = rw (c.key-key.ensures, c.from.ensures) (taken_waits c.args.b c.args.s c.held-held.result c.held-held.ensures c.if-not-counted-held.false-raw (rests_no _ (rw (c.from-2.ensures, c.from-3.ensures, c.from-4.ensures) at c.if-under_way-eq0.false)) (rw c.fits-fits.ensures at c.if-not-fits-s.false-raw) c.if-own-eq0.false)

@@ -7,4 +7,4 @@ use Rattle.trial_readers.proofs.requests_head.Goals.{in-Ok, in-Err}
 pub returns : goal.returns
 unfolding head_numbers
 returns c = let n : c.match-gate.number ≡ gate_of c.args.d.now = elim c.match-gate.branch [ in-Ok w ↦ cc w.in-Ok.ensures.number | in-Err w ↦ cc w.in-Err.ensures.number ] in
-    rw (c.of-h.ensures, c.from.ensures, n, fields_octet _)
+    rw (c.from-2.ensures, c.from.ensures, c.of-h.ensures, n, fields_octet _)

@@ -1,20 +1,13 @@
-use Rattle.std.proofs.Common.{◌≡◌, ℕ, ◌+◌, min, [], length, set, sym, refl, ap, ◌∙◌, arith, length-set}
-use Rattle.unit_store.specs.Row.{blanked}
-use Rattle.unit_store.specs.Store.{first_all}
-use Rattle.base_octets.specs.Places.{map_first, map_none, map-step}
+use Rattle.std.proofs.Common.{◌≡◌, length, take, replicate, sym, ◌∙◌, arith, rules}
+use Rattle.std.proofs.lemmas.List.{ext_get_or}
+use Rattle.base_octets.specs.Places.{map_first, map_all, map_same, first_part}
+use Rattle.unit_store.specs.Row.{blank_row, blanked}
 use Rattle.unit_store.proofs.clear.Goals as goal
 
-pub loop-i-init : goal.loop-i-init
-loop-i-init c = let a = c.args in (sym (map_none blanked a.rows.now), refl)
-
-pub loop-i-preserved : goal.loop-i-preserved
-unfolding blanked
-loop-i-preserved c = let k = c.loop-i in let a = c.args in
-    let e : set k.rows k.i c.blank_row.result ≡ map_first blanked (k.i + 1) a.rows.now
-    = rw (c.blank_row.ensures, k.invariant.0) (map-step blanked k.i a.rows.now []) in
-    (e, simp length-set (omega arith))
-
 pub returns : goal.returns
-returns c = let k = c.loop-i in let a = c.args in
-    let e : k.i ≡ min a.n (length a.rows.now) = omega (arith, c.min-i-end.ensures) in
-    k.invariant.0 ∙ ap (λ (j : ℕ). map_first blanked j a.rows.now) e ∙ first_all blanked a.n a.rows.now
+unfolding blanked
+returns c = let t = take c.min-m.result c.args.rows.now in
+    let k : replicate (length t) blank_row ≡ map_first blanked (length t) t
+    = sym (map_same blank_row t) ∙ sym (map_all blanked (length t) t (omega arith)) in
+    let b : length c.blank_row.result ≡ 139 = search rules in
+    rw (c.fill.ensures.after (λ y h. ext_get_or 0 y c.blank_row.result (h.long ∙ sym b) (λ i z. h.at i 0 0 (rw h.long at z))), c.blank_row.ensures, k) (first_part blanked c.args.n c.min-m.result (length t) c.args.rows.now c.min-m.ensures (omega arith))
