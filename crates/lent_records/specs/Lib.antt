@@ -1,3 +1,2 @@
 pub mod Mixed
 pub mod Records
-pub mod Bound

@@ -1,7 +1,6 @@
 use Rattle.std.proofs.Common.{sym, arith}
-use Rattle.base_octets.specs.Places.{map_none, map-step}
+use Rattle.base_octets.specs.Places.{map_none, map-step, first_part}
 use Rattle.unit_table.specs.Become.{changed_by}
-use Rattle.lent_records.specs.Bound.{first_part}
 use Rattle.lent_records.proofs.change_each.Goals as goal
 
 pub loop-s-init : goal.loop-s-init
