@@ -1,6 +1,6 @@
--- What a decoded Create holds.
+-- What a Create read comes to is the same in stages; and what a decoded Create holds.
 -- Assumes nothing.
-use Rattle.std.specs.Prelude.{ℕ, not, List, ◌≡◌, eqb, Ok}
+use Rattle.std.specs.Prelude.{ℕ, not, List, ◌≡◌, refl, eqb, Ok}
 use Rattle.wire_fields.specs.Walk.{part}
 use Rattle.wire_fields.specs.Search.{find}
 use Rattle.wire_fields.specs.Overrun.{over_in}
@@ -13,8 +13,17 @@ use Rattle.unit_plan.specs.Names.{named_in, named_is}
 use Rattle.wire_requests.specs.declared.Create as C
 use Rattle.wire_requests.specs.declared.Request.{Request}
 use Rattle.wire_requests.specs.declared.Request.TheVariants.{Create, Modify, Delete}
-use Rattle.wire_requests.specs.Chain.{Decoded, refuse_got, place_got, field_got, point_got}
-use Rattle.wire_requests.specs.Create.{ipv4, create_of, CreateSound}
+use Rattle.wire_requests.specs.Chain.{Decoded, refused_by, field, refuse_got, place_got, field_got, point_got}
+use Rattle.wire_requests.specs.Create.{ipv4, create_of, wanted_of, bearer_of, settled_of, CreateSound}
+
+pub create_stages : (plan : Plan) (s : List ℕ) → create_of plan s ≡
+    refused_by short_cause (over_in s) (
+    field imsi_kind 0 (imsi_in s) λ imsi.
+    field rat_kind 0 (rat_in s) λ rat.
+    field tunnel_kind 0 (tunnel_in s 0 6) λ control.
+    wanted_of plan s (record { imsi = imsi; control = control.teid; controladdr = control.address }))
+unfolding create_of wanted_of bearer_of settled_of
+create_stages plan s = refl
 
 -- a request that came of it is a Create that is sound
 module _ (plan : Plan) (s : List ℕ) (q : Request) (P : Request → Type 0) where

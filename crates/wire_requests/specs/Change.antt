@@ -64,8 +64,47 @@ ebi_means (Some x) ebi = eqb x ebi
 unfoldable pub means_of : D.Delete → ℕ → Bool
 means_of d ebi = ebi_means d.ebi ebi
 
+-- ---- Modify in stages: of the message, of the Bearer Context
+unfoldable pub within_of : List ℕ → Option Tunnel → Decoded
+within_of b control =
+    field ebi_kind 0 (ebi_in b) λ ebi.
+    Ok (Modify (record { control = control; context = Some (record { ebi = ebi; user = tunnel_in b 1 4 }) }))
+
+pub modify_stages : (s : List ℕ) → modify_of s ≡
+    refused_by short_cause (over_in s) (
+    field tunnel_kind 0 (if_present (tunnel_in s 0 6)) λ control.
+    context (find s bearer_kind 0) (Ok (Modify (record { control = control; context = None }))) λ start size.
+    within_of (part s start size) control)
+unfolding modify_of within_of
+modify_stages s = refl
+
 never : {A : Type 0} → ◌≡◌ {A = ℕ} 0 1 → A
 never z = absurd (omega arith)
+
+-- ---- an F-TEID if present, told apart from one that is refused
+pub moved_to : (kind instance : ℕ) (m : Result Tunnel Flaw) (f : Option Tunnel → Decoded) (p : Option Tunnel)
+    → if_present m ≡ Ok p → field kind instance (if_present m) f ≡ f p
+moved_to kind instance m f p e = rw e
+
+flaw_is : (m : Result Tunnel Flaw) (flaw : Flaw) → if_present m ≡ Err flaw → m ≡ Err flaw
+flaw_is (Ok t) flaw e = never (cc)
+flaw_is (Err Missing) flaw e = never (cc)
+flaw_is (Err Short) flaw e = let g : Short ≡ flaw = cc in rw g
+flaw_is (Err Wrong) flaw e = let g : Wrong ≡ flaw = cc in rw g
+
+pub moved-not : (kind instance : ℕ) (m : Result Tunnel Flaw) (f : Option Tunnel → Decoded) (flaw : Flaw)
+    → if_present m ≡ Err flaw → (m ≡ Err flaw) × (field kind instance (if_present m) f ≡ Err (refusal_of flaw kind instance))
+moved-not kind instance m f flaw e = (flaw_is m flaw e, rw e)
+
+pub end_to : (control : Option Tunnel) (m : Result Tunnel Flaw) (p : Option Tunnel)
+    → if_present m ≡ Ok p → end_moves control (if_present m) ≡ Ok (record { control = control; user = p })
+unfolding end_moves
+end_to control m p e = rw e
+
+pub end_not : (control : Option Tunnel) (m : Result Tunnel Flaw) (flaw : Flaw)
+    → if_present m ≡ Err flaw → (m ≡ Err flaw) × (end_moves control (if_present m) ≡ Err (refusal_of flaw tunnel_kind 1))
+unfolding end_moves
+end_not control m flaw e = (flaw_is m flaw e, rw e)
 
 -- ---- what a decoded Modify holds
 -- a tunnel end that moved has a TEID that is not 0

@@ -1,7 +1,7 @@
 -- Create (32), read from the octets behind its header under a plan: first the overruns, then the fields in document 01's order, then an unknown APN (78)
 -- and the type of the PAA (83), then Recovery.
 -- Assumes nothing.
-use Rattle.std.specs.Prelude.{ℕ, ◌<◌, ◌≤◌, not, List, eqb, Result, Ok, Err}
+use Rattle.std.specs.Prelude.{ℕ, ◌<◌, ◌≤◌, not, List, eqb, Option, Result, Ok, Err}
 use Rattle.base_octets.specs.Choice.{pick}
 use Rattle.wire_fields.specs.Walk.{part}
 use Rattle.wire_fields.specs.Search.{find}
@@ -47,6 +47,54 @@ create_of plan s =
       point = point;
       recovery = recovery_in s;
     }))))
+
+-- ---- the same in stages: of the message, of the Bearer Context, and what is settled after the list
+-- who asks
+pub record Sender : Type 0 where
+  pub imsi : ℕ
+  pub control : ℕ
+  pub controladdr : ℕ
+
+-- what is asked for
+pub record Wanted : Type 0 where
+  pub named : Option ℕ
+  pub paa : ℕ
+  pub recovery : Option ℕ
+
+-- what the Bearer Context tells
+pub record Bearer : Type 0 where
+  pub ebi : ℕ
+  pub user : ℕ
+  pub useraddr : ℕ
+
+unfoldable pub settled_of : Sender → Wanted → Bearer → Decoded
+settled_of who what bearer =
+    point unknown_apn_cause what.named λ point.
+    refused_by address_type_cause (not (eqb what.paa ipv4)) (
+    Ok (Create (record {
+      imsi = who.imsi;
+      ebi = bearer.ebi;
+      control = who.control;
+      controladdr = who.controladdr;
+      user = bearer.user;
+      useraddr = bearer.useraddr;
+      point = point;
+      recovery = what.recovery;
+    })))
+
+unfoldable pub bearer_of : List ℕ → Sender → Wanted → Decoded
+bearer_of b who what =
+    field ebi_kind 0 (ebi_in b) λ ebi.
+    field tunnel_kind 2 (tunnel_in b 2 4) λ user.
+    field qos_kind 0 (octet_in b qos_kind 22) λ qos.
+    settled_of who what (record { ebi = ebi; user = user.teid; useraddr = user.address })
+
+unfoldable pub wanted_of : Plan → List ℕ → Sender → Decoded
+wanted_of plan s who =
+    place apn_kind 0 (find s apn_kind 0) λ apn size.
+    field paa_kind 0 (paa_in s) λ paa.
+    place bearer_kind 0 (find s bearer_kind 0) λ start all.
+    bearer_of (part s start all) who (record { named = named_in (used plan) (part s apn size); paa = paa; recovery = recovery_in s })
 
 -- the TEID that a cause reply to a Create goes to: that of a Sender F-TEID that passes its own checks, else 0; 0 after an overrun
 unfoldable pub teid_in : Result Tunnel Flaw → ℕ
