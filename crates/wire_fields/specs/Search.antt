@@ -1,11 +1,11 @@
 -- The field that counts: of equal type and instance the first. Unknown fields are skipped, and a known type of another instance
 -- is an unknown field.
 -- Assumes nothing.
-use Rattle.std.specs.Prelude.{ℕ, zero, suc, ◌+◌, ◌%◌, ◌≤◌, Bool, true, false, ◌&&◌, List, [], ◌∷◌, ◌++◌, ◌≡◌, refl, length, take, drop, eqb, leb, Option, Some, None}
+use Rattle.std.specs.Prelude.{ℕ, zero, suc, ◌+◌, ◌%◌, ◌≤◌, Bool, true, false, ◌&&◌, List, [], ◌∷◌, ◌++◌, ◌≡◌, refl, length, take, drop, get_or, eqb, leb, Option, Some, None}
 use Rattle.std.proofs.Common.{ap, ◌∙◌, suc-add, arith, length-append, eqb-true}
 use Rattle.base_octets.specs.Choice.{pick, split, and_left, and_right, tests}
 use Rattle.base_octets.specs.BigEndian.{number_of}
-use Rattle.wire_fields.specs.Walk.{Field, found, part, fields_from, fields_of, fields_at, fields_start}
+use Rattle.wire_fields.specs.Walk.{Field, found, part, fields_from, fields_of, fields_at, size_at, fields_start, fields_next}
 use Rattle.wire_fields.specs.declared.Found.{Found}
 
 -- whether a field is of a type and an instance
@@ -23,6 +23,25 @@ find s kind inst = first_in (fields_of s) kind inst
 pub find_start : (s : List ℕ) (kind inst : ℕ) → find s kind inst ≡ first_in (fields_at s 0) kind inst
 unfolding find
 find_start s kind inst = rw (fields_start s)
+
+-- the whole field at place p
+abbrev pub whole_at : List ℕ → ℕ → Field
+whole_at s p = record { kind = get_or s p 0; instance = get_or s (p + 3) 0 % 16; found = found (p + 4) (size_at s p) }
+
+module _ (s : List ℕ) (p kind inst : ℕ) where
+  pub first_none : fields_at s p ≡ [] → first_in (fields_at s p) kind inst ≡ None
+  unfolding first_in
+  first_none e = rw e
+
+  pub first_here : p + 4 ≤ length s → p + 4 + size_at s p ≤ length s → named (whole_at s p) kind inst ≡ true
+      → first_in (fields_at s p) kind inst ≡ Some (found (p + 4) (size_at s p))
+  unfolding first_in named
+  first_here h g e = rw (fields_next s p h g, e)
+
+  pub first-later : p + 4 ≤ length s → p + 4 + size_at s p ≤ length s → named (whole_at s p) kind inst ≡ false
+      → first_in (fields_at s p) kind inst ≡ first_in (fields_at s (p + 4 + size_at s p)) kind inst
+  unfolding first_in named
+  first-later h g e = rw (fields_next s p h g, e)
 
 -- ---- what is found stands there: type, length, instance, and behind them the value, whole
 pub record Stands (l : List ℕ) (at kind inst start size : ℕ) : Type 0 where

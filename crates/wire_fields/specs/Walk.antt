@@ -3,7 +3,7 @@
 -- is still being counted when the octets end has run past the end.
 -- Assumes nothing.
 use Rattle.std.specs.Prelude.{ℕ, zero, suc, ◌+◌, ◌%◌, ◌<◌, ◌≤◌, Bool, true, false, List, [], ◌∷◌, ◌≡◌, refl, length, take, drop, get_or, leb}
-use Rattle.std.proofs.Common.{add-zero, add-suc, suc-add, arith, drop-cons, drop-drop}
+use Rattle.std.proofs.Common.{◌∙◌, add-zero, add-suc, suc-add, arith, drop_of_length-le, drop-cons, drop-drop}
 use Rattle.std.proofs.Math.ListN.{length-drop}
 use borrow.Author.Tests.{le-leb, lt-leb}
 use Rattle.base_octets.specs.Choice.{pick}
@@ -58,6 +58,12 @@ fields_skip l zero at h = rw add-zero
 fields_skip [] (suc k) at h = absurd (omega arith)
 fields_skip (x ∷ l) (suc k) at h = rw (add-suc, ← suc-add) (fields_skip l k (suc at) (omega arith))
 
+over_skip : (l : List ℕ) (k : ℕ) → k ≤ length l → over_from l k ≡ over_from (drop k l) 0
+unfolding over_from
+over_skip l zero h = refl
+over_skip [] (suc k) h = absurd (omega arith)
+over_skip (x ∷ l) (suc k) h = over_skip l k (omega arith)
+
 pub over_long : (l : List ℕ) (k : ℕ) → length l < k → over_from l k ≡ true
 unfolding over_from
 over_long l zero h = absurd (omega arith)
@@ -65,6 +71,14 @@ over_long [] (suc k) h = refl
 over_long (x ∷ l) (suc k) h = over_long l k (omega arith)
 
 -- ---- a start of a field that is cut
+over_few : (l : List ℕ) → 0 < length l → length l < 4 → over_from l 0 ≡ true
+unfolding over_from
+over_few [] h g = absurd (omega arith)
+over_few (a ∷ []) h g = refl
+over_few (a ∷ b ∷ []) h g = refl
+over_few (a ∷ b ∷ c ∷ []) h g = refl
+over_few (a ∷ b ∷ c ∷ d ∷ l) h g = absurd (omega arith)
+
 fields_few : (l : List ℕ) (at : ℕ) → length l < 4 → fields_from l 0 at ≡ []
 unfolding fields_from
 fields_few [] at g = refl
@@ -85,15 +99,38 @@ four_next s p h =
     let e3 = one_next s (p + 3) (p + 4) (omega arith) (omega arith) in
     cc
 
--- ---- the walk in the words of one that has come to place p
+-- ---- the walks in the words of one that has come to place p
 unfoldable pub fields_at : List ℕ → ℕ → List Field
 fields_at s p = fields_from (drop p s) 0 p
+
+unfoldable pub over_at : List ℕ → ℕ → Bool
+over_at s p = over_from (drop p s) 0
 
 pub fields_start : (s : List ℕ) → fields_of s ≡ fields_at s 0
 unfolding fields_of fields_at
 fields_start s = refl
 
+pub over_start : (s : List ℕ) → overruns s ≡ over_at s 0
+unfolding overruns over_at
+over_start s = refl
+
 module _ (s : List ℕ) (p : ℕ) where
+  pub over_end : length s ≤ p → over_at s p ≡ false
+  unfolding over_at over_from
+  over_end h = rw (drop_of_length-le s)
+
+  pub over_cut : p < length s → length s < p + 4 → over_at s p ≡ true
+  unfolding over_at
+  over_cut h g = over_few (drop p s) (omega (arith, length-drop p s)) (omega (arith, length-drop p s))
+
+  pub over_past : p + 4 ≤ length s → length s < p + 4 + size_at s p → over_at s p ≡ true
+  unfolding over_at over_from size_at
+  over_past h g = rw (four_next s p h) (over_long (drop (p + 4) s) (size_at s p) (omega (arith, length-drop (p + 4) s)))
+
+  pub over_next : p + 4 ≤ length s → p + 4 + size_at s p ≤ length s → over_at s p ≡ over_at s (p + 4 + size_at s p)
+  unfolding over_at over_from size_at
+  over_next h g = rw (four_next s p h) (over_skip (drop (p + 4) s) (size_at s p) (omega (arith, length-drop (p + 4) s)) ∙ rw drop-drop)
+
   pub fields_cut : length s < p + 4 → fields_at s p ≡ []
   unfolding fields_at
   fields_cut g = fields_few (drop p s) p (omega (arith, length-drop p s))
