@@ -18,6 +18,27 @@ pub slot_small : (n x : ℕ) → 0 < n → slot_of n x < n
 unfolding slot_of
 slot_small n x h = mod_below _ n h
 
+-- those of few keys, and of many, in figures
+unfoldable pub few_slot : ℕ → ℕ
+few_slot x = x % 4294967296 * 1023530803 / 16777216 % 256
+
+unfoldable pub many_slot : ℕ → ℕ
+many_slot x = x % 4294967296 * 1023530803 / 2097152 % 2048
+
+pub few_slot_is : (x : ℕ) → few_slot x ≡ slot_of 256 x
+unfolding few_slot slot_of
+few_slot_is x = refl
+
+pub many_slot_is : (x : ℕ) → many_slot x ≡ slot_of 2048 x
+unfolding many_slot slot_of
+many_slot_is x = refl
+
+pub few_slot_small : (x : ℕ) → few_slot x < 256
+few_slot_small x = rw few_slot_is (slot_small 256 x (omega arith))
+
+pub many_slot_small : (x : ℕ) → many_slot x < 2048
+many_slot_small x = rw many_slot_is (slot_small 2048 x (omega arith))
+
 -- the key with number j
 abbrev pub key_at : List ℕ → ℕ → ℕ
 key_at l j = get_or l (j - 1) 0

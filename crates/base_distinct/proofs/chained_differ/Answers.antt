@@ -2,7 +2,7 @@ use Rattle.std.proofs.Common.{◌≡◌, ◌+◌, ◌-◌, ◌*◌, ◌^◌, ◌
 use Rattle.std.proofs.lemmas.List.{length-map, map-set}
 use prog.Memory.{size}
 use denote.Param.{layout}
-use Rattle.base_distinct.specs.Chains.{slot_small}
+use Rattle.base_distinct.specs.Chains.{slot_of, slot_small}
 use Rattle.base_distinct.specs.Passed.{passed_none, passed_skip, passed_search, passed_clash, passed_linked, passed_alone}
 use Rattle.base_octets.specs.Places.{map_at}
 use Rattle.base_distinct.proofs.Links.{links_fit, all_none}
@@ -12,7 +12,7 @@ pub loop-at-init : goal.loop-at-init
 loop-at-init g c =
     let r = c.requires in
     rw (all_none g.L.Link.number g.row.SLOTS g.L.Link.END c.of-heads.result (c.of-heads.ensures ∙ c.END.ensures), all_none g.L.Link.number g.row.LINKS g.L.Link.END c.of-links.result (c.of-links.ensures ∙ c.END-2.ensures))
-    (passed_none g.L.Link.END g.row.SLOTS g.row.LINKS r.some c.args.keys.now (omega arith) r.room)
+    (passed_none (slot_of g.row.SLOTS) g.L.Link.END g.row.SLOTS g.row.LINKS (λ x. slot_small g.row.SLOTS x r.some) c.args.keys.now (omega arith) r.room)
 
 pub offset_bounds-heads-h : goal.offset_bounds-heads-h
 offset_bounds-heads-h g c =
@@ -43,7 +43,7 @@ chain_lacks-requires g c = let r = c.requires in let k = c.loop-at in let n = g.
     let i = simp length-map at k.invariant.slots in
     let h : c.slot_of-h.result < g.row.SLOTS = rw c.slot_of-h.ensures (slot_small _ _ r.some) in
     rw (c.number-then-number-END.ensures, ← map_at n k.heads c.slot_of-h.result c.index-heads-h.result 0 (omega arith))
-    (passed_search g.L.Link.END g.row.SLOTS g.row.LINKS r.some c.args.keys.now (omega arith) r.room (map n k.heads) (map n k.links) k.at k.invariant (omega arith)
+    (passed_search (slot_of g.row.SLOTS) g.L.Link.END g.row.SLOTS g.row.LINKS (λ x. slot_small g.row.SLOTS x r.some) c.args.keys.now (omega arith) r.room (map n k.heads) (map n k.links) k.at k.invariant (omega arith)
     c.if-x-ne0.true c.slot_of-h.result c.slot_of-h.ensures)
 
 pub returns-then-not-chain_lacks : goal.returns-then-not-chain_lacks
@@ -51,7 +51,7 @@ returns-then-not-chain_lacks g c = let r = c.requires in let k = c.loop-at in le
     let i = simp length-map at k.invariant.slots in
     let h : c.slot_of-h.result < g.row.SLOTS = rw c.slot_of-h.ensures (slot_small _ _ r.some) in
     let e = rw (c.number-then-number-END.ensures, ← map_at n k.heads c.slot_of-h.result c.index-heads-h.result 0 (omega arith)) at c.chain_lacks.ensures in
-    sym (passed_clash g.L.Link.END g.row.SLOTS g.row.LINKS r.some c.args.keys.now (omega arith) r.room (map n k.heads) (map n k.links) k.at k.invariant (omega arith)
+    sym (passed_clash (slot_of g.row.SLOTS) g.L.Link.END g.row.SLOTS g.row.LINKS (λ x. slot_small g.row.SLOTS x r.some) c.args.keys.now (omega arith) r.room (map n k.heads) (map n k.links) k.at k.invariant (omega arith)
     c.if-x-ne0.true c.slot_of-h.result c.slot_of-h.ensures (sym e ∙ c.if-not-chain_lacks.true))
 
 pub loop-at-preserved-then-number-END : goal.loop-at-preserved-then-number-END
@@ -62,7 +62,7 @@ loop-at-preserved-then-number-END g c = let r = c.requires in let k = c.loop-at 
     let e = rw (c.number-then-number-END.ensures, ← m) at c.chain_lacks.ensures in
     let p : k.at - 1 + 1 ≡ k.at = omega arith in
     rw (map-set n k.heads c.slot_of-h.result c.of.result, c.of.ensures, map-set n k.links (k.at - 1 + 1) (get_or k.heads c.slot_of-h.result c.index-heads-h.result), ← m, p)
-    (passed_linked g.L.Link.END g.row.SLOTS g.row.LINKS r.some c.args.keys.now (omega arith) r.room (map n k.heads) (map n k.links) k.at k.invariant (omega arith)
+    (passed_linked (slot_of g.row.SLOTS) g.L.Link.END g.row.SLOTS g.row.LINKS (λ x. slot_small g.row.SLOTS x r.some) c.args.keys.now (omega arith) r.room (map n k.heads) (map n k.links) k.at k.invariant (omega arith)
     c.if-x-ne0.true c.slot_of-h.result c.slot_of-h.ensures (sym e ∙ c.if-not-chain_lacks.false))
 
 pub loop-at-preserved-else-number-END : goal.loop-at-preserved-else-number-END
@@ -72,9 +72,9 @@ loop-at-preserved-else-number-END g c = let r = c.requires in let k = c.loop-at 
     let m = map_at n k.heads c.slot_of-h.result c.index-heads-h.result 0 (omega arith) in
     let p : k.at - 1 + 1 ≡ k.at = omega arith in
     rw (map-set n k.heads c.slot_of-h.result c.of.result, c.of.ensures, p)
-    (passed_alone g.L.Link.END g.row.SLOTS g.row.LINKS r.some c.args.keys.now (omega arith) r.room (map n k.heads) (map n k.links) k.at k.invariant (omega arith)
+    (passed_alone (slot_of g.row.SLOTS) g.L.Link.END g.row.SLOTS g.row.LINKS (λ x. slot_small g.row.SLOTS x r.some) c.args.keys.now (omega arith) r.room (map n k.heads) (map n k.links) k.at k.invariant (omega arith)
     c.if-x-ne0.true c.slot_of-h.result c.slot_of-h.ensures (m ∙ sym c.number.ensures ∙ c.if-number-END.false ∙ c.END-then-x-ne0.ensures))
 
 pub loop-at-preserved : goal.loop-at-preserved
 loop-at-preserved g c = let r = c.requires in let k = c.loop-at in let n = g.L.Link.number in
-    passed_skip g.L.Link.END g.row.SLOTS g.row.LINKS r.some c.args.keys.now (omega arith) r.room (map n k.heads) (map n k.links) k.at k.invariant (omega arith) c.if-x-ne0.false
+    passed_skip (slot_of g.row.SLOTS) g.L.Link.END g.row.SLOTS g.row.LINKS (λ x. slot_small g.row.SLOTS x r.some) c.args.keys.now (omega arith) r.room (map n k.heads) (map n k.links) k.at k.invariant (omega arith) c.if-x-ne0.false
