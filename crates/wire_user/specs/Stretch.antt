@@ -10,8 +10,11 @@ use borrow.Author.Tests.{eq-eqb, ne_eqb, le-leb, lt-leb, eqb-true, eqb-false, le
 use Rattle.base_octets.specs.Number.{taken, part_cut, must_understand}
 use Rattle.base_octets.specs.Choice.{pick, split}
 use Rattle.base_octets.specs.declared.refused.Refused.{Refused}
+use Rattle.base_octets.specs.declared.refused.Refused.TheVariants as R
 use Rattle.base_octets.specs.Refused.{refused_number}
 use Rattle.wire_user.specs.declared.Pause.{Pause}
+use Rattle.wire_user.specs.declared.Halt.{Halt}
+use Rattle.wire_user.specs.declared.Halt.TheVariants as H
 use Rattle.wire_user.specs.Extensions.{Walk, beyond, first_must, extent, unfit, next_type, extensions_of, ext_end, ext_must, ext_unfit, ext_next, fit_extent}
 
 -- where a stretch stops: the number, the type in front of which it pauses (0 where the walk has ended), the octets left
@@ -26,10 +29,16 @@ stretch number next left = record { number = number; next = next; left = left }
 abbrev pub ended_walk : ℕ → ℕ → Stretch
 ended_walk number left = stretch number 0 left
 
--- what a stretch answers: where it pauses, or why the walk has ended with nothing left
-abbrev pub stretch_said : Result Pause Refused → Stretch
-stretch_said (Ok p) = stretch taken p.next p.left
-stretch_said (Err why) = ended_walk (refused_number why) 0
+-- how a stretch ends, as an answer that may be a refusal
+abbrev pub judged_halt : Halt → Result (Unit {0}) Refused
+judged_halt H.Paused = Ok tt
+judged_halt H.MustUnderstand = Err R.MustUnderstand
+judged_halt H.PartCut = Err R.PartCut
+
+-- what a stretch answers: that it pauses at p, or why the walk has ended with nothing left
+abbrev pub stretch_said : {A : Type 0} → Result A Refused → Pause → Stretch
+stretch_said (Ok x) p = stretch taken p.next p.left
+stretch_said (Err why) p = ended_walk (refused_number why) 0
 
 abbrev pub judged_walk : List ℕ → ℕ → Stretch → Stretch
 judged_walk l type s =

@@ -6,7 +6,7 @@ ghost use Rattle.base_octets.specs.Refused.{answer_number};
 ghost use Rattle.base_octets.specs.Number.{taken};
 ghost use Rattle.wire_user.specs.Header.{ours, extended, sequenced, optional, type_taken, type_of, user_teid_of, user_sequence_of, refusal_of, user_header_of};
 ghost use Rattle.wire_user.specs.Extensions.{extent, extensions_of};
-ghost use Rattle.wire_user.specs.Stretch.{stretch_said, stretch_of};
+ghost use Rattle.wire_user.specs.Stretch.{judged_halt, stretch_said, stretch_of};
 ghost use Rattle.wire_user.specs.User.{user_of};
 ghost use Rattle.wire_user.specs.Part.{Reads};
 
@@ -153,38 +153,64 @@ fn extent(rest: &[u8]) -> usize
         .map_or(0, |units| usize::from(*units) * Header::UNIT)
 }
 
-// Where a walk over extension headers pauses: the type of the header in front, 0 where the walk has ended, and how many octets are left.
+// Where a walk over extension headers stands: the type of the header in front, 0 where the walk has ended, and how many octets are left.
 #[derive(Clone, Copy)]
 struct Pause {
     next: u8,
     left: usize,
 }
 
-// A stretch of the walk over the extension headers in rest: past the one in front, of the type next, and at most so many more.
-fn walk(rest: &[u8], next: u8, more: usize) -> Result<Pause, Refused>
-    ensures { stretch_said result ≡ stretch_of more rest.now next }
+// How a stretch of the walk ends: it pauses, or a header in it is refused.
+// Kept: one octet and no Result, so that a call of the walk is a step of a loop in the machine's code: with a Result each header takes 28
+// instructions, and 36 where the pause is in it; so it takes 15.
+#[derive(Clone, Copy)]
+enum Halt {
+    Paused,
+    MustUnderstand,
+    PartCut,
+}
+
+impl Halt {
+    #[tactic(auto, unfolding(crate::specs::Stretch::judged_halt))]
+    fn judged(self) -> Result<(), Refused>
+        ensures { result ≡ judged_halt self }
+    {
+        match self {
+            Halt::Paused => Ok(()),
+            Halt::MustUnderstand => Err(Refused::MustUnderstand),
+            Halt::PartCut => Err(Refused::PartCut),
+        }
+    }
+}
+
+// A stretch of the walk over the extension headers in rest: past the one in front, of the type next, and at most so many more; `at` is where
+// it pauses.
+fn walk(rest: &[u8], next: u8, more: usize, at: &mut Pause) -> Halt
+    ensures { stretch_said (judged_halt result) at.new ≡ stretch_of more rest.now next }
 {
     if next == 0 {
-        return Ok(Pause {
+        *at = Pause {
             next,
             left: rest.len(),
-        });
+        };
+        return Halt::Paused;
     }
     if Header::FIRST_MUST <= next {
-        return Err(Refused::MustUnderstand);
+        return Halt::MustUnderstand;
     }
     let n = extent(rest);
     if (n == 0) | (rest.len() < n) {
-        return Err(Refused::PartCut);
+        return Halt::PartCut;
     }
     let following = rest[n - 1];
     if more == 0 {
-        return Ok(Pause {
+        *at = Pause {
             next: following,
             left: rest.len() - n,
-        });
+        };
+        return Halt::Paused;
     }
-    walk(&rest[n..], following, more - 1)
+    walk(&rest[n..], following, more - 1, at)
 }
 
 // What is left past the extension headers in d, of which the first has the type first.
@@ -196,7 +222,7 @@ fn past_extensions<'a>(d: &'a [u8], first: u8) -> Result<&'a [u8], Refused>
         left: d.len(),
     };
     while at.next != 0 {
-        at = walk(&d[d.len() - at.left..], at.next, Header::STRETCH)?;
+        walk(&d[d.len() - at.left..], at.next, Header::STRETCH, &mut at).judged()?;
     }
     Ok(&d[d.len() - at.left..])
 }

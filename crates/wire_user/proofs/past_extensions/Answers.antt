@@ -14,23 +14,26 @@ pub loop-at-smaller : goal.loop-at-smaller
 loop-at-smaller c = let d = c.args.d.now in
     let w = c.loop-at in
     let e = simp tail_part at c.walk.ensures in
-    let k = rw c.in_ok-at.was at e in
+    let j = rw (← c.judged.ensures) at e in
+    let k = rw c.in_ok-judged.was at j in
     run_less d taken w.at.next w.at.left c.loop-at-test.true w.invariant.0 15 _ k
 
 pub loop-at-preserved : goal.loop-at-preserved
 loop-at-preserved c = let d = c.args.d.now in
     let w = c.loop-at in
     let e = simp tail_part at c.walk.ensures in
-    let k = rw c.in_ok-at.was at e in
+    let j = rw (← c.judged.ensures) at e in
+    let k = rw c.in_ok-judged.was at j in
     let l = run_within d taken w.at.next w.at.left c.loop-at-test.true w.invariant.0 15 _ k in
     (omega arith, run_on d taken w.at.next w.at.left c.loop-at-test.true w.invariant.0 15 _ k ∙ w.invariant.1)
 
-pub returns-in_err-at : goal.returns-in_err-at
-returns-in_err-at c = let d = c.args.d.now in
+pub returns-in_err-judged : goal.returns-in_err-judged
+returns-in_err-judged c = let d = c.args.d.now in
     let w = c.loop-at in
     let p = err_from_is_err_and c.from_residual.result c.from_residual.ensures.1 in
     let e = simp tail_part at c.walk.ensures in
-    let k = rw c.in_err-at.was at e in
+    let j = rw (← c.judged.ensures) at e in
+    let k = rw c.in_err-judged.was at j in
     rw (p.1, p.2) (run_refused d taken w.at.next w.at.left c.loop-at-test.true w.invariant.0 15 _ k w.invariant.1)
 
 pub returns : goal.returns
