@@ -91,11 +91,20 @@ stands_by Broken = false
 stands_by Quiet = true
 stands_by Awaiting = true
 
+-- how a table stands, by a number
+unfoldable pub standing_by : ℕ → Standing
+standing_by n = pick {A = Standing} (n == 0) Broken (pick {A = Standing} (n == 1) Quiet Awaiting)
+
 -- a place awaits a number
 unfoldable pub awaits : Standing → Bool
 awaits Broken = false
 awaits Quiet = false
 awaits Awaiting = true
+
+-- every number has its answer: by 0 a rule is broken, by any other all are kept
+pub stands_numbered : (n : ℕ) → stands_by (standing_by n) ≡ not (n == 0)
+unfolding stands_by standing_by
+stands_numbered n = split (n == 0) (λ z. rw z) (λ z. split (n == 1) (λ o. rw (z, o)) (λ o. rw (z, o)))
 
 pub stands_kept : (node : Node) (l : List Session) → stands_by (stands_of node l) ≡ keeps_rules node l
 unfolding stands_by stands_of

@@ -7,7 +7,7 @@ ghost use Rattle.std.specs.Prelude.{◌≡◌, ℕ, ◌-◌, ◌<◌, ◌≤◌,
 ghost use Rattle.base_octets.specs.Choice.{pick};
 ghost use Rattle.base_distinct.specs.Lacks.{lacks};
 ghost use Rattle.step_check.specs.Digest.{free_digest, taken_digest, key_in, idle_in, mark_of};
-ghost use Rattle.step_check.specs.Summary.{summary_of, kept_but, waits_apart, checked_as, stands_by, waiting_of};
+ghost use Rattle.step_check.specs.Summary.{summary_of, kept_but, waits_apart, checked_as, standing_by, stands_by, waiting_of};
 ghost use Rattle.unit_tunnel.specs.Numbering.{places};
 ghost use Rattle.step_check.specs.Findings.{due_in, findings_of, free_above};
 ghost use Rattle.step_check.specs.declared.Standing.{Standing};
@@ -45,6 +45,20 @@ pub enum Standing {
     Broken,
     Quiet,
     Awaiting,
+}
+
+impl From<u8> for Standing {
+    ghost from_gives = { λ n how. how ≡ standing_by n };
+
+    // By a number: 0 is a broken rule, 1 a table in which no place awaits a number, any other one in which a place does.
+    #[tactic(auto, unfolding(crate::specs::Summary::standing_by))]
+    fn from(n: u8) -> Standing {
+        match n {
+            0 => Standing::Broken,
+            1 => Standing::Quiet,
+            _ => Standing::Awaiting,
+        }
+    }
 }
 
 // Kept: key, flags and access point in one number are what one pass compares; a struct of them takes more of fixed memory, or three arrays.
