@@ -29,13 +29,13 @@ pub struct Handed {
 }
 
 // The place that the tunnel number names, whatever the datagram is; past the last where it names none or is cut.
-// Kept: a place and no Option, as `place_named` of unit_table.
+// Kept: a place and no Option, as `user_place` of unit_table.
 #[tactic(auto, unfolding(crate::specs::OneRecord::place_in))]
 pub fn place_in(d: &[u8]) -> usize
     ensures { result ≡ place_in d.now }
 {
     let teid = wire_user::user_teid_of(d);
-    unit_table::place_named(teid)
+    unit_table::user_place(teid)
 }
 
 // What a user datagram comes to, with the payload as the part of the datagram that it is: its empty end where nothing is handed up.
@@ -77,9 +77,9 @@ enum Comes {
 fn packet_on(s: Session, teid: UserTeid, addr: u32, reply: &mut [u8]) -> Comes
     ensures { comes_on result reply.new ≡ packet_on s teid.0 addr reply.old }
 {
-    if unit_table::has_number(s, teid) {
+    if unit_table::has_user(s, teid) {
         return Comes::Up {
-            place: unit_table::place_named(teid),
+            place: unit_table::user_place(teid),
         };
     }
     Comes::Answered {

@@ -89,10 +89,15 @@ repeats_at place c seq s = nat_lt place places && is_repeat c seq s
 unfoldable pub counts_less : ℕ → Session → ℕ
 counts_less counts s = (counts + long_words - weight_of s) % long_words
 
--- in the words of the code: a difference that wraps
-pub counts_less_lem : (counts : ℕ) (s : Session) → (counts + (long_words - weight_of s)) % long_words ≡ counts_less counts s
+-- it is what gives the counts with the record's share
+pub counts_less_lem : (r counts : ℕ) (s : Session) → r < long_words → (r + weight_of s) % long_words ≡ counts → r ≡ counts_less counts s
 unfolding counts_less
-counts_less_lem counts s = let w = weight_most s in omega arith
+counts_less_lem r counts s h e = let w = weight_most s in omega arith
+
+-- in the words of the code: a difference that wraps
+pub counts_less_is : (counts : ℕ) (s : Session) → (counts + (long_words - weight_of s)) % long_words ≡ counts_less counts s
+unfolding counts_less
+counts_less_is counts s = let w = weight_most s in omega arith
 
 unfoldable pub room_for : Plan → ℕ → Session → ℕ → Bool
 room_for plan counts s point = admits plan (λ a. slice_index (unpacked_of (counts_less counts s)) a) point

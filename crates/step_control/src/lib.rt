@@ -106,7 +106,7 @@ fn old_of(findings: Findings, a: Asked) -> usize
 {
     match a {
         Asked::Create { .. } if key_of(a) != 0 => findings.old,
-        Asked::Session { teid, .. } => unit_table::place_named(teid),
+        Asked::Session { teid, .. } => unit_table::control_place(teid),
         _ => Unit::PLACES,
     }
 }
@@ -157,7 +157,7 @@ fn repeats_at(place: usize, c: Create, seq: u32, s: Session) -> bool
 }
 
 // The sharing rule, by the counts without a record.
-#[tactic(auto, using(crate::specs::Step::counts_less_lem), unfolding(crate::specs::Step::room_for))]
+#[tactic(auto, using(crate::specs::Step::counts_less_is), unfolding(crate::specs::Step::room_for))]
 fn room_for(plan: Plan, counts: u64, s: Session, point: usize) -> bool
     ensures { result ≡ room_for plan counts s point }
 {
@@ -283,7 +283,7 @@ fn open_on(c: Create, seq: u32, node: Node, p: Concerned, reply: &mut [u8]) -> T
 fn named_on(teid: ControlTeid, x: Concern, seq: u32, p: Concerned, reply: &mut [u8]) -> Taken
     ensures { taken_with result reply.new ≡ named_on teid.0 x seq p reply.old }
 {
-    let span = if unit_table::has_number(p.oldrecord, teid) {
+    let span = if unit_table::has_control(p.oldrecord, teid) {
         Span::one_place(p.old)
     } else {
         Span::NONE

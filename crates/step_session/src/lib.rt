@@ -140,7 +140,7 @@ fn none_on(x: Concern, seq: u32, s: Session, reply: &mut [u8]) -> Amended
 pub fn of_number(teid: ControlTeid, x: Concern, seq: u32, s: Session, reply: &mut [u8]) -> Amended
     ensures { amended_with result reply.new ≡ done_with (of_number teid.0 x seq s) reply.old }
 {
-    if unit_table::has_number(s, teid) {
+    if unit_table::has_control(s, teid) {
         return concern_on(x, seq, s, reply);
     }
     none_on(x, seq, s, reply)

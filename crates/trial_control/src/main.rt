@@ -3,6 +3,8 @@
 // what the fields give, as numbers, under the trial plan and for a session of EBI 5.
 #![tactic(auto)]
 
+ghost use Rattle.std.specs.Prelude.{◌<◌};
+
 use base_octets::Number;
 use std::io;
 use trial_readers::{Carried, Decoding};
@@ -51,7 +53,9 @@ fn show(rt: &impl Print, d: &[u8]) -> io::Result<()> {
 }
 
 // The half octet that a capital hex digit writes.
-fn half(b: u8) -> u8 {
+fn half(b: u8) -> u8
+    ensures { result < 16 }
+{
     if b <= b'9' { b % 16 } else { (b % 16 + 9) % 16 }
 }
 

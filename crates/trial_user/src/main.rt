@@ -2,14 +2,16 @@
 // and PN set alone and together and cut at every octet, once with the length as it came and once with the length set right.
 #![tactic(auto)]
 
-ghost use Rattle.std.specs.Prelude.{◌≡◌, length};
+ghost use Rattle.std.specs.Prelude.{◌≡◌, ◌<◌, length};
 
 use base_octets::Number;
 use std::io;
 use wire_user::Header;
 
 // A hex digit's value; 0 for what is none.
-fn nibble(b: u8) -> u8 {
+fn nibble(b: u8) -> u8
+    ensures { result < 16 }
+{
     match b {
         b'0'..=b'9' => b - b'0',
         b'A'..=b'F' => b - b'A' + 10,

@@ -1,4 +1,5 @@
 pub mod Limits
 pub mod Names
 pub mod Plan
+pub mod Slots
 pub mod Address

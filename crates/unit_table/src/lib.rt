@@ -7,11 +7,11 @@ ghost use Rattle.unit_table.specs.Become.{changed_by};
 ghost use Rattle.unit_table.specs.Number.{after};
 ghost use Rattle.unit_table.specs.Own.{fresh_node, rested, echo_ticked};
 ghost use Rattle.unit_table.specs.Recovery.{turned, judged, judged_by, hearing};
-ghost use Rattle.unit_table.specs.Find.{taken_in, place_named, has_number};
+ghost use Rattle.unit_table.specs.Find.{taken_in, place_named, control_place, user_place, has_number, has_control, has_user};
 
 use unit_plan::Plan;
 use unit_session::{OwnRequest, Session};
-use unit_tunnel::{Teid, Unit};
+use unit_tunnel::{ControlTeid, Teid, Unit, UserTeid};
 
 // What goes with the records: the plan, the stored Recovery, the unit's own echo, and the next sequence number.
 #[repr(C)]
@@ -148,6 +148,20 @@ pub fn place_named<T: Teid>(teid: T) -> usize
     teid.holder().map_or(Unit::PLACES, |h| h.place)
 }
 
+// The place that a control number names; past the last where it names none.
+pub fn control_place(teid: ControlTeid) -> usize
+    ensures { result ≡ control_place teid.0 }
+{
+    place_named(teid)
+}
+
+// The place that a user number names; past the last where it names none.
+pub fn user_place(teid: UserTeid) -> usize
+    ensures { result ≡ user_place teid.0 }
+{
+    place_named(teid)
+}
+
 // Whether a record is taken and in this use.
 #[tactic(auto)]
 fn taken_in(s: Session, usage: u32) -> bool
@@ -162,4 +176,18 @@ pub fn has_number<T: Teid>(s: Session, teid: T) -> bool
     ensures { result ≡ has_number T.OFFSET s (T.number teid) }
 {
     teid.holder().is_some_and(|h| taken_in(s, h.usage))
+}
+
+// Whether a record is the session of a control number: taken, and in the use that the number says.
+pub fn has_control(s: Session, teid: ControlTeid) -> bool
+    ensures { result ≡ has_control s teid.0 }
+{
+    has_number(s, teid)
+}
+
+// Whether a record is the session of a user number: taken, and in the use that the number says.
+pub fn has_user(s: Session, teid: UserTeid) -> bool
+    ensures { result ≡ has_user s teid.0 }
+{
+    has_number(s, teid)
 }

@@ -1,5 +1,6 @@
 use mathlib.Core.Path.{◌≡◌, refl}
 use native.Mathlib.Omega.{arith}
+use Rattle.std.proofs.lemmas.Grind.{common_steps}
 use Rattle.base_octets.specs.Refused.{refused_some}
 use Rattle.call_own.specs.Outcome.{least_reply}
 use Rattle.wire_user.specs.User.{user_of}
@@ -34,4 +35,4 @@ pub returns-in-Answered : goal.returns-in-Answered
 unfolding least_reply
 returns-in-Answered c = let a = c.args in let n = c.nothing_up-in-Answered.ensures in
     let e = c.in-Ok.ensures in
-    rw (done_down a.kept a.node a.s a.d.now a.reply.now c.if-reply-lt-LEAST_REPLY.false c.if-not-kept.false e.0 _ c.of.ensures _ _ _ _ _ c.in-Answered.ensures refl, n.number, n.place, n.size) (refl, n.payload)
+    rw (done_down a.kept a.node a.s a.d.now a.reply.now c.if-reply-lt-LEAST_REPLY.false c.if-not-kept.false e.0 _ c.of.ensures _ _ _ _ _ c.in-Answered.ensures refl, n.number, n.place, n.size) (refl, grind (arith, common_steps))
