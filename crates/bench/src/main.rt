@@ -4,9 +4,9 @@
 // unit, after the lines at the end of the unit before it.
 #![tactic(auto)]
 
-ghost use Rattle.std.specs.Prelude.{◌≡◌, ◌≤◌, ◌<◌, length, take, drop, IfOk};
+ghost use Rattle.std.specs.Prelude.{◌≡◌, ◌≤◌, ◌<◌, ◌+◌, ◌==◌, length, take, drop, position, Some, IsOk, IfOk};
 ghost use Rattle.bench.specs.Room.{buffer_octets, HasRoom, goes_on, start_anew, run_prints, placed};
-ghost use Rattle.bench_unit.specs.State.{on, ran_of};
+ghost use Rattle.bench_unit.specs.State.{on, ran_of, SameLent};
 ghost use Rattle.bench_unit.specs.Whole.{end_prints};
 
 use bench_unit::{Bench, Phase, Run, front};
@@ -36,11 +36,13 @@ struct Desk<'a> {
     ghost room: { HasRoom run },
 }
 
-// What was printed goes out. Where it cannot be written the program ends with that error: standard error has a word on it, and the exit
-// status is 1.
+// What was printed goes out; records, store and buffer stay as they are. Where it cannot be written the program ends with that error: standard
+// error has a word on it, and the exit status is 1.
 fn emit(rt: &impl Print, run: &mut Run<'_>) -> io::Result<()>
     ensures made { run.new.bench.made ≡ 0 }
     ensures out { run.new.out.now ≡ run.old.out.now }
+    ensures unit { (run.new.recs.now ≡ run.old.recs.now) × (run.new.store.now ≡ run.old.store.now) }
+    ensures lent { SameLent run.old run.new }
 {
     let n = run.bench.made;
     run.bench.made = 0;
@@ -63,7 +65,8 @@ fn goes_on(b: Bench, many: bool, line: &[u8]) -> bool
 // What was printed so far goes over to the fresh run.
 #[tactic(auto, unfolding(crate::specs::Room::start_anew, crate::specs::Room::anew_of, bench_unit::specs::State::with_made))]
 fn start_anew(run: &mut Run<'_>, many: bool, line: &[u8])
-    ensures { ran_of run.new ≡ on (start_anew many line.now) run.old }
+    ensures anew { ran_of run.new ≡ on (start_anew many line.now) run.old }
+    ensures lent { SameLent run.old run.new }
 {
     if goes_on(run.bench, many, line) {
         return;
@@ -76,7 +79,9 @@ fn start_anew(run: &mut Run<'_>, many: bool, line: &[u8])
 
 // What the line prints stands whole behind what was printed before, also where it could not be written; then there is room for the next.
 fn run_line(rt: &impl Print, desk: &mut Desk<'_>, line: &[u8]) -> io::Result<()>
-    ensures { desk.new.run.out.now ≡ placed desk.old.run.bench.made (run_prints desk.old.run.bench desk.old.run.recs.now desk.old.run.store.now desk.old.many line.now) desk.old.run.out.now }
+    ensures prints { desk.new.run.out.now ≡ placed desk.old.run.bench.made (run_prints desk.old.run.bench desk.old.run.recs.now desk.old.run.store.now desk.old.many line.now) desk.old.run.out.now }
+    ensures lent { SameLent desk.old.run desk.new.run }
+    ensures many { desk.new.many ≡ desk.old.many }
 {
     start_anew(&mut desk.run, desk.many, line);
     bench_run::take_line(&mut desk.run, line);
@@ -86,14 +91,33 @@ fn run_line(rt: &impl Print, desk: &mut Desk<'_>, line: &[u8]) -> io::Result<()>
     Ok(())
 }
 
+// The line that comes next is taken, from the front of a text up to its first line end: what stands behind that. What the line prints is placed,
+// also where it could not be written.
+fn take_next<'a>(
+    rt: &impl Print,
+    desk: &mut Desk<'_>,
+    text: &'a [u8],
+    end: usize,
+) -> io::Result<&'a [u8]>
+    requires { position (λ c. c == 10) text.now ≡ Some end }
+    ensures prints { desk.new.run.out.now ≡ placed desk.old.run.bench.made (run_prints desk.old.run.bench desk.old.run.recs.now desk.old.run.store.now desk.old.many (take end text.now)) desk.old.run.out.now }
+    ensures behind { IfOk result (λ rest. rest.now ≡ drop (end + 1) text.now) }
+    ensures lent { SameLent desk.old.run desk.new.run }
+    ensures many { desk.new.many ≡ desk.old.many }
+{
+    run_line(rt, desk, &text[..end])?;
+    Ok(&text[end + 1..])
+}
+
 // The whole lines of a text taken, up to the end of the run: how much of it that is.
 fn take_lines(rt: &impl Print, desk: &mut Desk<'_>, text: &[u8]) -> io::Result<usize>
-    ensures { IfOk result (λ n. n ≤ length text.now) }
+    ensures within { IfOk result (λ n. n ≤ length text.now) }
+    ensures lent { SameLent desk.old.run desk.new.run }
+    ensures many { desk.new.many ≡ desk.old.many }
 {
     let mut rest = text;
     while let Some(end) = rest.iter().position(|c| *c == b'\n') {
-        run_line(rt, desk, &rest[..end])?;
-        rest = &rest[end + 1..];
+        rest = take_next(rt, desk, rest, end)?;
         if desk.run.bench.phase.is_over() {
             break;
         }
@@ -101,9 +125,25 @@ fn take_lines(rt: &impl Print, desk: &mut Desk<'_>, text: &[u8]) -> io::Result<u
     Ok(text.len() - rest.len())
 }
 
+// At the end of the input the last line may lack its line end; a buffer that is full holds a line that is too long, which is a bad one.
+// With nothing left nothing is done and there is no error; else what the line prints is placed, also where it could not be written.
+fn take_rest(rt: &impl Print, desk: &mut Desk<'_>, rest: &[u8]) -> io::Result<()>
+    ensures none { length rest.now ≡ 0 → IsOk result × (ran_of desk.new.run ≡ ran_of desk.old.run) }
+    ensures prints { 0 < length rest.now → desk.new.run.out.now ≡ placed desk.old.run.bench.made (run_prints desk.old.run.bench desk.old.run.recs.now desk.old.run.store.now desk.old.many rest.now) desk.old.run.out.now }
+    ensures lent { SameLent desk.old.run desk.new.run }
+    ensures many { desk.new.many ≡ desk.old.many }
+{
+    if rest.is_empty() {
+        return Ok(());
+    }
+    run_line(rt, desk, rest)
+}
+
 // What the end of the input prints stands whole behind what was printed before, also where it could not be written.
 fn end_run(rt: &impl Print, desk: &mut Desk<'_>) -> io::Result<()>
-    ensures { desk.new.run.out.now ≡ placed desk.old.run.bench.made (end_prints desk.old.run.bench desk.old.run.recs.now desk.old.run.store.now) desk.old.run.out.now }
+    ensures prints { desk.new.run.out.now ≡ placed desk.old.run.bench.made (end_prints desk.old.run.bench desk.old.run.recs.now desk.old.run.store.now) desk.old.run.out.now }
+    ensures lent { SameLent desk.old.run desk.new.run }
+    ensures many { desk.new.many ≡ desk.old.many }
 {
     desk.run.end_of_input();
     emit(rt, &mut desk.run)
@@ -150,18 +190,20 @@ fn is_many(rt: &impl Env) -> bool {
     !matches!(rt.arg(1, &mut front), Err(FillError::NotPresent))
 }
 
-// At the end of the input the last line may lack its line end; a buffer that is full holds a line that is too long, which is a bad one.
+// A buffer is filled and its whole lines are taken, up to the end of the run or of the input. Records, store and output buffer stay those that
+// were lent.
 fn run(
     rt: &impl Print,
     input: &mut impl Read,
     desk: &mut Desk<'_>,
     text: &mut Text,
-) -> io::Result<()> {
+) -> io::Result<()>
+    ensures lent { SameLent desk.old.run desk.new.run }
+    ensures many { desk.new.many ≡ desk.old.many }
+{
     for _ in 0..usize::MAX {
         if !text.fill(input)? {
-            if 0 < text.have {
-                run_line(rt, desk, text.octets())?;
-            }
+            take_rest(rt, desk, text.octets())?;
             return end_run(rt, desk);
         }
         let n = take_lines(rt, desk, text.octets())?;

@@ -1,7 +1,7 @@
 -- Where the bench's run stands, and what is printed for what the unit answers: number and reply in hex, or -. A bad line prints E and ends.
 -- The unit's records and its store of kept replies stand beside the run.
 -- Assumes nothing.
-use Rattle.std.specs.Prelude.{ℕ, ◌+◌, Bool, true, false, List, ◌≡◌, min, take, replicate}
+use Rattle.std.specs.Prelude.{ℕ, ◌+◌, Bool, true, false, List, ◌≡◌, length, min, take, replicate}
 use Rattle.std.proofs.Common.{ap, ◌∙◌}
 use Rattle.base_numerals.specs.Laid.{laid, written, Written}
 use Rattle.unit_plan.specs.Limits.{no_plan}
@@ -49,12 +49,14 @@ on f r = f r.bench r.recs.now r.store.now r.out.now
 abbrev pub printing : (Bench → List ℕ → Shown) → Run → Ran
 printing f r = beside r.recs.now r.store.now (f r.bench r.out.now)
 
--- the records, the store and the buffer are those that were lent
+-- the records, the store and the buffer are those that were lent, each with its length
 abbrev pub SameLent : Run → Run → Type 0
-SameLent a b = (b.recs.ghost_name ≡ a.recs.ghost_name) × (b.store.ghost_name ≡ a.store.ghost_name) × (b.out.ghost_name ≡ a.out.ghost_name)
+SameLent a b =
+    (b.recs.ghost_name ≡ a.recs.ghost_name) × (b.store.ghost_name ≡ a.store.ghost_name) × (b.out.ghost_name ≡ a.out.ghost_name)
+    × (length b.recs.now ≡ length a.recs.now) × (length b.store.now ≡ length a.store.now) × (length b.out.now ≡ length a.out.now)
 
 pub lent_on : (a b c : Run) → SameLent a b → SameLent b c → SameLent a c
-lent_on a b c p q = (q.0 ∙ p.0, q.1 ∙ p.1, q.2 ∙ p.2)
+lent_on a b c p q = (q.0 ∙ p.0, q.1 ∙ p.1, q.2 ∙ p.2, q.3 ∙ p.3, q.4 ∙ p.4, q.5 ∙ p.5)
 
 -- ---- phases
 abbrev pub is_over : Phase → Bool

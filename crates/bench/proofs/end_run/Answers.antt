@@ -9,6 +9,6 @@ invariant_of-desk g c = let r = c.args.desk.now.run in let h = c.args.desk.now.r
       (end-room r.bench r.recs.now r.store.now r.out.now h.0 h.1 (ran_of c.end_of_input.new.self) c.end_of_input.ensures.ended);
 }
 
-pub returns : goal.returns
-returns g c = let r = c.args.desk.now.run in let h = c.args.desk.now.room in
+pub returns-clause-prints : goal.returns-clause-prints
+returns-clause-prints g c = let r = c.args.desk.now.run in let h = c.args.desk.now.room in
     c.emit.ensures.out ∙ end-placed r.bench r.recs.now r.store.now r.out.now h.0 h.1 (ran_of c.end_of_input.new.self) c.end_of_input.ensures.ended

@@ -11,7 +11,7 @@ pub invariant_of-desk : goal.invariant_of-desk
 invariant_of-desk g c = let r = c.args.desk.now.run in let h = c.args.desk.now.room in record {
   room = room_emitted _ _ _ c.emit.ensures.made c.emit.ensures.out
       (run-room r.bench r.recs.now r.store.now r.out.now h.0 h.1 c.args.desk.now.many c.args.line.now (ran_of c.start_anew.new.run) (ran_of c.take_line.new.run)
-      c.start_anew.ensures c.take_line.ensures.taken);
+      c.start_anew.ensures.anew c.take_line.ensures.taken);
 }
 
 pub invariant_of-desk-else-desk-gt-MOST_MADE : goal.invariant_of-desk-else-desk-gt-MOST_MADE
@@ -20,21 +20,21 @@ invariant_of-desk-else-desk-gt-MOST_MADE g c = let r = c.args.desk.now.run in le
   room = (
     omega arith,
     run-room r.bench r.recs.now r.store.now r.out.now h.0 h.1 c.args.desk.now.many c.args.line.now (ran_of c.start_anew.new.run) (ran_of c.take_line.new.run)
-        c.start_anew.ensures c.take_line.ensures.taken,
+        c.start_anew.ensures.anew c.take_line.ensures.taken,
   );
 }
 
-pub returns-in_err-emit : goal.returns-in_err-emit
-returns-in_err-emit g c = let r = c.args.desk.now.run in let h = c.args.desk.now.room in
+pub returns-in_err-emit-clause-prints : goal.returns-in_err-emit-clause-prints
+returns-in_err-emit-clause-prints g c = let r = c.args.desk.now.run in let h = c.args.desk.now.room in
     c.emit.ensures.out ∙ run-placed r.bench r.recs.now r.store.now r.out.now h.0 h.1 c.args.desk.now.many c.args.line.now (ran_of c.start_anew.new.run) (ran_of c.take_line.new.run)
-    c.start_anew.ensures c.take_line.ensures.taken
+    c.start_anew.ensures.anew c.take_line.ensures.taken
 
-pub returns-in_ok-emit : goal.returns-in_ok-emit
-returns-in_ok-emit g c = let r = c.args.desk.now.run in let h = c.args.desk.now.room in
+pub returns-in_ok-emit-clause-prints : goal.returns-in_ok-emit-clause-prints
+returns-in_ok-emit-clause-prints g c = let r = c.args.desk.now.run in let h = c.args.desk.now.room in
     c.emit.ensures.out ∙ run-placed r.bench r.recs.now r.store.now r.out.now h.0 h.1 c.args.desk.now.many c.args.line.now (ran_of c.start_anew.new.run) (ran_of c.take_line.new.run)
-    c.start_anew.ensures c.take_line.ensures.taken
+    c.start_anew.ensures.anew c.take_line.ensures.taken
 
-pub returns-else-desk-gt-MOST_MADE : goal.returns-else-desk-gt-MOST_MADE
-returns-else-desk-gt-MOST_MADE g c = let r = c.args.desk.now.run in let h = c.args.desk.now.room in
+pub returns-else-desk-gt-MOST_MADE-clause-prints : goal.returns-else-desk-gt-MOST_MADE-clause-prints
+returns-else-desk-gt-MOST_MADE-clause-prints g c = let r = c.args.desk.now.run in let h = c.args.desk.now.room in
     run-placed r.bench r.recs.now r.store.now r.out.now h.0 h.1 c.args.desk.now.many c.args.line.now (ran_of c.start_anew.new.run) (ran_of c.take_line.new.run)
-    c.start_anew.ensures c.take_line.ensures.taken
+    c.start_anew.ensures.anew c.take_line.ensures.taken

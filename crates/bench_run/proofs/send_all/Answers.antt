@@ -5,7 +5,7 @@ use Rattle.bench_run.specs.Run.{all_sent, sent_none, sent_stop, sent_on, sent_en
 use Rattle.bench_run.proofs.send_all.Goals as goal
 
 pub loop-init : goal.loop-init
-loop-init c = let r = c.args.run.now in record { sent = sent_none r.bench r.recs.now r.store.now r.out.now; lent = (refl, refl, refl) }
+loop-init c = let r = c.args.run.now in record { sent = sent_none r.bench r.recs.now r.store.now r.out.now; lent = (refl, refl, refl, refl, refl, refl) }
 
 pub returns-then-not-send_one-clause-sent : goal.returns-then-not-send_one-clause-sent
 unfolding places

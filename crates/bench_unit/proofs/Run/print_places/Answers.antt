@@ -9,7 +9,7 @@ unfolding live_shown places_to with_made places
 loop-place-init c = let r = c.args.self.now in record {
   printed = rw (← sessions_are (take places r.recs.now), ← rw c.front.ensures at c.sessions-n.ensures)
       (ap (beside r.recs.now r.store.now) (printed_by _ (λ made. with_made made r.bench) _ _ _ _ c.put_live-self.ensures));
-  lent = (refl, refl, refl);
+  lent = (refl, refl, refl, refl, refl, omega arith);
 }
 
 pub loop-place-preserved : goal.loop-place-preserved
