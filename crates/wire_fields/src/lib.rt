@@ -66,6 +66,7 @@ impl Field {
 struct Fields<'a> {
     s: &'a [u8],
     at: usize,
+    ghost within: { at ≤ length s.now },
 }
 
 impl Iterator for Fields<'_> {
@@ -76,8 +77,7 @@ impl Iterator for Fields<'_> {
     ghost remaining = { item_count (λ f. fields_at f.s.now f.at) };
 
     fn next(&mut self) -> Option<Field> {
-        let rest = self.s.get(self.at..)?;
-        let [kind, high, low, fourth, behind @ ..] = rest else {
+        let [kind, high, low, fourth, behind @ ..] = &self.s[self.at..] else {
             return None;
         };
         let size = usize::from(base_octets::be16(*high, *low));
