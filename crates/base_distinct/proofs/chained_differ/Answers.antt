@@ -5,6 +5,7 @@ use denote.Param.{layout}
 use Rattle.base_distinct.specs.Chains.{slot_of, slot_small}
 use Rattle.base_distinct.specs.Passed.{passed_none, passed_skip, passed_search, passed_clash, passed_linked, passed_alone}
 use Rattle.base_octets.specs.Places.{map_at}
+use Rattle.std.proofs.lemmas.Bool.Decides.{nat_tests}
 use Rattle.base_distinct.proofs.Links.{links_fit, all_none}
 use Rattle.base_distinct.proofs.chained_differ.Goals as goal
 
@@ -71,9 +72,10 @@ loop-at-preserved-else-number-END g c = let r = c.requires in let k = c.loop-at 
     let h : c.slot_of-h.result < g.row.SLOTS = rw c.slot_of-h.ensures (slot_small _ _ r.some) in
     let m = map_at n k.heads c.slot_of-h.result c.index-heads-h.result 0 (omega arith) in
     let p : k.at - 1 + 1 ≡ k.at = omega arith in
+    let f : c.number.result ≡ c.END-then-x-ne0.result = grind (arith, nat_tests) in
     rw (map-set n k.heads c.slot_of-h.result c.of.result, c.of.ensures, p)
     (passed_alone (slot_of g.row.SLOTS) g.L.Link.END g.row.SLOTS g.row.LINKS (λ x. slot_small g.row.SLOTS x r.some) c.args.keys.now (omega arith) r.room (map n k.heads) (map n k.links) k.at k.invariant (omega arith)
-    c.if-x-ne0.true c.slot_of-h.result c.slot_of-h.ensures (m ∙ sym c.number.ensures ∙ c.if-number-END.false ∙ c.END-then-x-ne0.ensures))
+    c.if-x-ne0.true c.slot_of-h.result c.slot_of-h.ensures (m ∙ sym c.number.ensures ∙ f ∙ c.END-then-x-ne0.ensures))
 
 pub loop-at-preserved : goal.loop-at-preserved
 loop-at-preserved g c = let r = c.requires in let k = c.loop-at in let n = g.L.Link.number in
